@@ -1,0 +1,4 @@
+pub mod Le
+pub mod ReadBack
+pub mod Sets
+pub mod Trim

@@ -1,0 +1,57 @@
+// Parts of slices that are defined on every place and length.
+ghost use mathlib.Core.Path.{_≡_};
+ghost use lib.ListN.{getD, take, drop};
+ghost use lib.Seq.{sets};
+ghost use Rattle.octets.specs.Trim.{trimmedLength};
+
+// The octets of `s` from place `at` on; none where that is past the end.
+pub fn tail(s: &[u8], at: usize) -> &[u8]
+    ensures { λ r. ⌜ now r ≡ drop at (now (s .entry)) ⌝ }
+{
+    if at <= s.len() { &s[at..] } else { &s[..0] }
+}
+
+// The first `n` octets of `s`, or all where it has fewer.
+pub fn front(s: &[u8], n: usize) -> &[u8]
+    ensures { λ r. ⌜ now r ≡ take n (now (s .entry)) ⌝ }
+{
+    if n <= s.len() { &s[..n] } else { &s[..] }
+}
+
+// The octet of `s` at place `at`, or 0 past the end.
+pub fn byte_at(s: &[u8], at: usize) -> u8
+    ensures { λ r. ⌜ r ≡ getD (now (s .entry)) at 0 ⌝ }
+{
+    if at < s.len() { s[at] } else { 0 }
+}
+
+// Copies `src` into `dst` from place `at` on; what would lie past the end is dropped.
+pub fn put(dst: &mut [u8], at: usize, src: &[u8])
+    ensures { λ _. ⌜ now (dst .exit) ≡ sets (now (dst .entry)) at (now (src .entry)) ⌝ }
+{
+    if dst.len() <= at {
+        return;
+    }
+    let mut i = 0;
+    while i < src.len() {
+        if dst.len() - at <= i {
+            return;
+        }
+        dst[at + i] = src[i];
+        i += 1;
+    }
+}
+
+// The length of `s` without the zeros at its end.
+pub fn trimmed_len(s: &[u8]) -> usize
+    ensures { λ r. ⌜ r ≡ trimmedLength (now (s .entry)) ⌝ }
+{
+    let mut n = s.len();
+    while 0 < n {
+        if s[n - 1] != 0 {
+            return n;
+        }
+        n -= 1;
+    }
+    0
+}

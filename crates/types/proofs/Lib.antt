@@ -1,0 +1,4 @@
+pub mod Broadcast
+pub mod Codes
+pub mod ReadBack
+pub mod ServiceLaws

@@ -1,0 +1,10 @@
+pub mod Addresses
+pub mod Causes
+pub mod Codes
+pub mod Messages
+pub mod Modes
+pub mod PollFlags
+pub mod ReadBack
+pub mod RequestedServices
+pub mod Services
+pub mod States

@@ -1,0 +1,22 @@
+-- The modes of an error entry and their codes (EPSG DS 301, Table 96).
+-- Assumes nothing.
+use Prim.Native.Nat.{ℕ}
+use mathlib.Core.List.{List, [], _∷_}
+use Rattle.types.specs.Codes.{decoded}
+use Rattle.types.specs.declared.error_mode.ErrorEntryMode.{ErrorEntryMode}
+use Rattle.types.specs.declared.error_mode.ErrorEntryMode.the-variants.{Terminator, ErrorActive, ErrorCleared, EventOccurred}
+use Rattle.types.specs.declared.error_mode.ErrorEntryModeAnswer.{ErrorEntryModeAnswer}
+use Rattle.types.specs.declared.error_mode.ErrorEntryModeAnswer.the-variants.{Known, Unknown}
+
+abbrev pub modeCode : ErrorEntryMode → ℕ
+modeCode Terminator = 0
+modeCode ErrorActive = 1
+modeCode ErrorCleared = 2
+modeCode EventOccurred = 3
+
+abbrev pub modes : List ErrorEntryMode
+modes = Terminator ∷ ErrorActive ∷ ErrorCleared ∷ EventOccurred ∷ []
+
+-- the mode whose code is b, or b itself where it is the code of none
+unfoldable pub modeOf : ℕ → ErrorEntryModeAnswer
+modeOf b = decoded modeCode Known (Unknown b) modes b

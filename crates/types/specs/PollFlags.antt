@@ -1,0 +1,30 @@
+-- The priority and the number of waiting requests that a node shows (EPSG DS 301, 4.2.4.1.2.2 and Appendix 3.2).
+-- Assumes nothing.
+use Prim.Native.Nat.{ℕ, min}
+use mathlib.Core.List.{List, [], _∷_}
+use Rattle.types.specs.Codes.{decoded}
+use Rattle.types.specs.declared.poll_flags.PRFlag.{PRFlag}
+use Rattle.types.specs.declared.poll_flags.PRFlag.the-variants.{PrioNmtRequest, High3, High2, High1, PrioGenericRequest, Low3, Low2, Low1}
+use Rattle.types.specs.declared.poll_flags.PRFlagAnswer.{PRFlagAnswer}
+use Rattle.types.specs.declared.poll_flags.PRFlagAnswer.the-variants.{Known, Unknown}
+
+abbrev pub priorityCode : PRFlag → ℕ
+priorityCode PrioNmtRequest = 7
+priorityCode High3 = 6
+priorityCode High2 = 5
+priorityCode High1 = 4
+priorityCode PrioGenericRequest = 3
+priorityCode Low3 = 2
+priorityCode Low2 = 1
+priorityCode Low1 = 0
+
+abbrev pub priorities : List PRFlag
+priorities = PrioNmtRequest ∷ High3 ∷ High2 ∷ High1 ∷ PrioGenericRequest ∷ Low3 ∷ Low2 ∷ Low1 ∷ []
+
+-- the priority whose code is b, or b itself where it is the code of none
+unfoldable pub priorityOf : ℕ → PRFlagAnswer
+priorityOf b = decoded priorityCode Known (Unknown b) priorities b
+
+-- above 7 counts as 7
+abbrev pub requestsToSend : ℕ → ℕ
+requestsToSend n = min n 7

@@ -1,0 +1,41 @@
+// The modes of an error entry and their codes (EPSG DS 301, Table 96).
+ghost use mathlib.Core.Path.{_≡_};
+ghost use Rattle.types.specs.Modes.{modeCode, modeOf};
+
+pub enum ErrorEntryMode {
+    Terminator,
+    ErrorActive,
+    ErrorCleared,
+    EventOccurred,
+}
+
+// A code that was read: its mode, or the octet that is the code of none.
+pub enum ErrorEntryModeAnswer {
+    Known(ErrorEntryMode),
+    Unknown(u8),
+}
+
+impl ErrorEntryMode {
+    pub fn from_u8(b: u8) -> ErrorEntryModeAnswer
+        ensures { λ r. ⌜ r ≡ modeOf b ⌝ }
+    {
+        match b {
+            0 => ErrorEntryModeAnswer::Known(ErrorEntryMode::Terminator),
+            1 => ErrorEntryModeAnswer::Known(ErrorEntryMode::ErrorActive),
+            2 => ErrorEntryModeAnswer::Known(ErrorEntryMode::ErrorCleared),
+            3 => ErrorEntryModeAnswer::Known(ErrorEntryMode::EventOccurred),
+            _ => ErrorEntryModeAnswer::Unknown(b),
+        }
+    }
+
+    pub fn to_u8(self) -> u8
+        ensures { λ r. ⌜ r ≡ modeCode self ⌝ }
+    {
+        match self {
+            ErrorEntryMode::Terminator => 0,
+            ErrorEntryMode::ErrorActive => 1,
+            ErrorEntryMode::ErrorCleared => 2,
+            ErrorEntryMode::EventOccurred => 3,
+        }
+    }
+}

@@ -1,0 +1,72 @@
+// The priority and the number of waiting requests that a node shows (EPSG DS 301, 4.2.4.1.2.2 and Appendix 3.2).
+ghost use mathlib.Core.Path.{_≡_};
+ghost use Rattle.types.specs.PollFlags.{priorityCode, priorityOf, requestsToSend};
+
+// The priority of the oldest request, highest first.
+pub enum PRFlag {
+    PrioNmtRequest,
+    High3,
+    High2,
+    High1,
+    PrioGenericRequest,
+    Low3,
+    Low2,
+    Low1,
+}
+
+// A code that was read: its priority, or the octet that is the code of none.
+pub enum PRFlagAnswer {
+    Known(PRFlag),
+    Unknown(u8),
+}
+
+impl PRFlag {
+    pub fn from_u8(b: u8) -> PRFlagAnswer
+        ensures { λ r. ⌜ r ≡ priorityOf b ⌝ }
+    {
+        match b {
+            7 => PRFlagAnswer::Known(PRFlag::PrioNmtRequest),
+            6 => PRFlagAnswer::Known(PRFlag::High3),
+            5 => PRFlagAnswer::Known(PRFlag::High2),
+            4 => PRFlagAnswer::Known(PRFlag::High1),
+            3 => PRFlagAnswer::Known(PRFlag::PrioGenericRequest),
+            2 => PRFlagAnswer::Known(PRFlag::Low3),
+            1 => PRFlagAnswer::Known(PRFlag::Low2),
+            0 => PRFlagAnswer::Known(PRFlag::Low1),
+            _ => PRFlagAnswer::Unknown(b),
+        }
+    }
+
+    pub fn to_u8(self) -> u8
+        ensures { λ r. ⌜ r ≡ priorityCode self ⌝ }
+    {
+        match self {
+            PRFlag::PrioNmtRequest => 7,
+            PRFlag::High3 => 6,
+            PRFlag::High2 => 5,
+            PRFlag::High1 => 4,
+            PRFlag::PrioGenericRequest => 3,
+            PRFlag::Low3 => 2,
+            PRFlag::Low2 => 1,
+            PRFlag::Low1 => 0,
+        }
+    }
+}
+
+// How many requests wait to be sent. Above 7 counts as 7.
+pub struct RSFlag(pub u8);
+
+impl RSFlag {
+    pub fn new(value: u8) -> RSFlag
+        ensures { λ r. ⌜ r .0 ≡ requestsToSend value ⌝ }
+    {
+        if value < 7 { RSFlag(value) } else { RSFlag(7) }
+    }
+
+    pub fn get(self) -> u8
+        ensures { λ r. ⌜ r ≡ requestsToSend (self .0) ⌝ }
+    {
+        let value = self.0;
+        if value < 7 { value } else { 7 }
+    }
+}
