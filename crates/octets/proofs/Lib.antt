@@ -1,4 +1,5 @@
 pub mod Le
+pub mod Order
 pub mod ReadBack
 pub mod Sets
 pub mod Trim

@@ -4,7 +4,7 @@ use Prim.Native.Nat.{ℕ, zero, suc, _-_, _≤_, _<_}
 use mathlib.Core.Path.{_≡_, refl, ap, _∙_}
 use mathlib.Core.List.{List, [], _∷_, _++_}
 use native.Mathlib.Omega.{arith}
-use lib.ListN.{length, take, getD}
+use lib.ListN.{length, take, getD, replicate}
 use lib.Seq.{take-suc, length-take-le}
 use Rattle.octets.specs.Trim.{extended, trimmedLength}
 
@@ -32,3 +32,9 @@ module _ (s : List ℕ) (n : ℕ) (pos : 0 < n) (fits : n ≤ length s) where
   trimmed-other h =
       let e : length (take (n - 1) s) ≡ n - 1 = length-take-le (n - 1) s (omega arith) in
       ap trimmedLength last ∙ snoc (take (n - 1) s) (getD s (n - 1) 0) h ∙ omega arith
+
+-- zeros put at the end do not count
+pub trimmed-padded : (xs : List ℕ) (n : ℕ) → trimmedLength (xs ++ replicate n 0) ≡ trimmedLength xs
+trimmed-padded [] zero = refl
+trimmed-padded [] (suc n) = ap (extended 0) (trimmed-padded [] n)
+trimmed-padded (x ∷ xs) n = ap (extended x) (trimmed-padded xs n)

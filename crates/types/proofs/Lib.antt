@@ -1,4 +1,5 @@
 pub mod Broadcast
 pub mod Codes
+pub mod Priorities
 pub mod ReadBack
 pub mod ServiceLaws

@@ -1,6 +1,7 @@
 pub mod Addresses
 pub mod Causes
 pub mod Codes
+pub mod Header
 pub mod Messages
 pub mod Modes
 pub mod PollFlags

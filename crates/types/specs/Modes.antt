@@ -1,6 +1,6 @@
 -- The modes of an error entry and their codes (EPSG DS 301, Table 96).
 -- Assumes nothing.
-use Prim.Native.Nat.{ℕ}
+use Prim.Native.Nat.{ℕ, _%_}
 use mathlib.Core.List.{List, [], _∷_}
 use Rattle.types.specs.Codes.{decoded}
 use Rattle.types.specs.declared.error_mode.ErrorEntryMode.{ErrorEntryMode}
@@ -20,3 +20,7 @@ modes = Terminator ∷ ErrorActive ∷ ErrorCleared ∷ EventOccurred ∷ []
 -- the mode whose code is b, or b itself where it is the code of none
 unfoldable pub modeOf : ℕ → ErrorEntryModeAnswer
 modeOf b = decoded modeCode Known (Unknown b) modes b
+
+-- the mode in the two low bits of an octet
+unfoldable pub modeIn : ℕ → ErrorEntryMode
+modeIn b = decoded modeCode (λ m. m) EventOccurred modes (b % 4)

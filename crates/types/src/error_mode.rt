@@ -1,6 +1,6 @@
 // The modes of an error entry and their codes (EPSG DS 301, Table 96).
 ghost use mathlib.Core.Path.{_≡_};
-ghost use Rattle.types.specs.Modes.{modeCode, modeOf};
+ghost use Rattle.types.specs.Modes.{modeCode, modeOf, modeIn};
 
 pub enum ErrorEntryMode {
     Terminator,
@@ -25,6 +25,19 @@ impl ErrorEntryMode {
             2 => ErrorEntryModeAnswer::Known(ErrorEntryMode::ErrorCleared),
             3 => ErrorEntryModeAnswer::Known(ErrorEntryMode::EventOccurred),
             _ => ErrorEntryModeAnswer::Unknown(b),
+        }
+    }
+
+    // The mode in the two low bits of an octet.
+    pub fn from_bits(b: u8) -> ErrorEntryMode
+        ensures { λ r. ⌜ r ≡ modeIn b ⌝ }
+    {
+        let low = b % 4;
+        match low {
+            0 => ErrorEntryMode::Terminator,
+            1 => ErrorEntryMode::ErrorActive,
+            2 => ErrorEntryMode::ErrorCleared,
+            _ => ErrorEntryMode::EventOccurred,
         }
     }
 

@@ -1,6 +1,6 @@
 // The priority and the number of waiting requests that a node shows (EPSG DS 301, 4.2.4.1.2.2 and Appendix 3.2).
 ghost use mathlib.Core.Path.{_≡_};
-ghost use Rattle.types.specs.PollFlags.{priorityCode, priorityOf, requestsToSend};
+ghost use Rattle.types.specs.PollFlags.{priorityCode, priorityOf, priorityIn, requestsToSend, pollOctet};
 
 // The priority of the oldest request, highest first.
 pub enum PRFlag {
@@ -37,6 +37,23 @@ impl PRFlag {
         }
     }
 
+    // The priority in the three low bits of an octet.
+    pub fn from_bits(b: u8) -> PRFlag
+        ensures { λ r. ⌜ r ≡ priorityIn b ⌝ }
+    {
+        let low = b % 8;
+        match low {
+            7 => PRFlag::PrioNmtRequest,
+            6 => PRFlag::High3,
+            5 => PRFlag::High2,
+            4 => PRFlag::High1,
+            3 => PRFlag::PrioGenericRequest,
+            2 => PRFlag::Low3,
+            1 => PRFlag::Low2,
+            _ => PRFlag::Low1,
+        }
+    }
+
     pub fn to_u8(self) -> u8
         ensures { λ r. ⌜ r ≡ priorityCode self ⌝ }
     {
@@ -69,4 +86,11 @@ impl RSFlag {
         let value = self.0;
         if value < 7 { value } else { 7 }
     }
+}
+
+// The octet that holds both flags.
+pub fn poll_octet(pr: PRFlag, rs: RSFlag) -> u8
+    ensures { λ r. ⌜ r ≡ pollOctet pr (rs .0) ⌝ }
+{
+    8 * pr.to_u8() + rs.get()
 }

@@ -8,6 +8,9 @@ use Rattle.octets.proofs.Le.{be-joined}
 use Rattle.octets.proofs.big_endian.get_u16_be.Statement.{statement}
 use Rattle.octets.proofs.big_endian.get_u16_be.Tie as tie
 
+returns : tie.Need-returns
+returns c = search (needs, be-joined)
+
 pub get-u16-be-spec : {M : Type 1} → statement M
 get-u16-be-spec =
     tie.close
@@ -19,4 +22,4 @@ get-u16-be-spec =
     (search needs)
     (λ c. search needs)
     (λ c. search needs)
-    (λ c. search (needs, be-joined)))
+    returns)
