@@ -3,8 +3,11 @@ import pathlib
 import re
 import sys
 
-# A public function up to its body, methods and exported functions among them.
-FUNCTION = re.compile(r'^[ \t]*pub (?:extern "C" )?fn (\w+)(.*?)^[ \t]*\{', re.S | re.M)
+# A public function up to its body, which begins with the first line that ends in a brace of no clause; methods and
+# exported functions among them.
+FUNCTION = re.compile(
+    r'^[ \t]*pub (?:[a-z]+ )*(?:extern "C" )?fn (\w+)(.*?)(?<!ensures )(?<!requires )\{[ \t]*$', re.S | re.M
+)
 
 
 def faults(path):

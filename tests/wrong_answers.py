@@ -6,7 +6,8 @@ or `rt must-fail`: it reads what the prover said of each edit, target/must-fail/
 - each function named by a line `# wrong: MODULE::fn_name -- what is wrong` of a group, a file wrong_answers_*.edit,
   is refused at a fact of its own;
 - any other edit is refused at a fact;
-- each public function of each library crate is named in two groups of its crate.
+- each public function of each library crate is named in two groups of its crate, and a crate of theorems has two edits.
+- docs/CLAIMS.md has the row of each function's wrong answers, as `--table` prints them.
 It prints a line for each that is not shown. That an edit keeps the shape of the code is its author's care: where a
 proof answers the needs in their order, an answer that has moved to another need fails there like a fact.
 """
@@ -15,7 +16,7 @@ import re
 import sys
 
 GROUPS = 'wrong_answers_*.edit'
-WRONG = re.compile(r'^# wrong: (\S+) -- \S', re.M)
+WRONG = re.compile(r'^# wrong: (\S+) -- (\S.*)', re.M)
 TYPE = re.compile(r'impl(?:<[^>]*>)? (\w+)')
 FUNCTION = re.compile(r'\s*pub (?:extern "C" )?fn (\w+)')
 # An error in a proof, with the lines that belong to it; and what is said of a function that has no proof file.
@@ -49,7 +50,8 @@ def answers(edit):
     log = path.read_text(encoding='utf-8', errors='replace') if path.is_file() else ''
     if not edit.match(GROUPS):
         return [(f'{crate}/{edit.stem}', refused(log))]
-    return [(f'{crate}/{edit.stem}: {name}', refused(log, name)) for name in WRONG.findall(text)]
+    named = [name for name, _ in WRONG.findall(text)]
+    return [(f'{crate}/{edit.stem}: {name}', refused(log, name)) for name in named] or [(f'{crate}/{edit.stem}', False)]
 
 
 def functions(source):
@@ -68,19 +70,36 @@ def functions(source):
 
 def gaps(crate):
     """The public functions of a library crate that fewer than two of its groups name."""
-    groups = [set(WRONG.findall(path.read_text(encoding='utf-8'))) for path in crate.glob(f'must-fail/{GROUPS}')]
+    texts = [path.read_text(encoding='utf-8') for path in crate.glob(f'must-fail/{GROUPS}')]
+    groups = [{name for name, _ in WRONG.findall(text)} for text in texts]
     public = list(functions(crate / 'src'))
+    if not public and len(list(crate.glob('must-fail/*.edit'))) < 2:
+        return [f'{crate.name}: theorems alone, and fewer than two edits']
     if public and not groups:
         return [f'{crate.name}: no group of wrong answers, and {len(public)} public functions']
     few = [name for name in public if sum(name in group for group in groups) < 2]
     return [f'{crate.name}: {name} is not named in two groups' for name in few]
 
 
+def rows():
+    """The wrong answers of each function, as rows of a table."""
+    found = {}
+    for edit in sorted(pathlib.Path('crates').glob(f'*/must-fail/{GROUPS}')):
+        for name, what in WRONG.findall(edit.read_text(encoding='utf-8')):
+            found.setdefault((edit.parent.parent.name, name), []).append(what)
+    return [f'| {crate} | `{name}` | {"; ".join(what)} |' for (crate, name), what in found.items()]
+
+
 def main():
+    if sys.argv[1:] == ['--table']:
+        print('\n'.join(rows()))
+        return 0
     tried = [answer for edit in sorted(pathlib.Path('crates').glob('*/must-fail/*.edit')) for answer in answers(edit)]
     libraries = sorted(path.parent.parent for path in pathlib.Path('crates').glob('*/src/lib.rt'))
     lost = [f'{name}: not shown to be refused at a fact' for name, shown in tried if not shown]
     lost += [gap for crate in libraries for gap in gaps(crate)]
+    claims = pathlib.Path('docs/CLAIMS.md').read_text(encoding='utf-8')
+    lost += [f'docs/CLAIMS.md lacks: {row}' for row in rows() if row not in claims]
     for line in lost:
         print(line)
     print(f'wrong answers: {sum(shown for _, shown in tried)} refused, {len(lost)} not shown')

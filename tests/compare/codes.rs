@@ -1,16 +1,16 @@
-//! Lists, for each code table of powerlink-rs, the octets that it knows, then its addresses and IDs, in the form of our
-//! program `demo`.
+//! Lists the code tables of powerlink-rs, octet by octet, then its addresses and IDs, in the form of our program `demo`.
 use powerlink_rs::frame::error::ErrorEntryMode;
 use powerlink_rs::frame::{PRFlag, RequestedServiceId, ServiceId};
 use powerlink_rs::nmt::states::NmtState;
 use powerlink_rs::types::{self, MessageType};
+use std::fmt::Debug;
 
-/// The octets that are the code of a value, and are written as they were read.
-fn list(name: &str, code: impl Fn(u8) -> Option<u8>) {
+/// What a table makes of each octet below `end`: the code that is written for the value, and the value's name.
+fn list<T: Copy + Debug>(name: &str, end: u16, read: impl Fn(u8) -> Option<T>, code: impl Fn(T) -> u8) {
     print!("{name}");
-    for b in 0..=255u8 {
-        if code(b) == Some(b) {
-            print!(" {b:02x}");
+    for b in 0..end {
+        if let Some(value) = read(b as u8) {
+            print!(" {:02x}={value:?}", code(value));
         }
     }
     println!();
@@ -21,12 +21,12 @@ fn address(name: &str, a: [u8; 6]) {
 }
 
 fn main() {
-    list("message types:", |b| MessageType::try_from(b).ok().map(|v| v as u8));
-    list("NMT states:", |b| NmtState::try_from(b).ok().map(|v| v as u8));
-    list("services:", |b| ServiceId::try_from(b).ok().map(|v| v as u8));
-    list("requested services:", |b| RequestedServiceId::try_from(b).ok().map(|v| v as u8));
-    list("priorities:", |b| PRFlag::try_from(b).ok().map(|v| v as u8));
-    list("error entry modes:", |b| ErrorEntryMode::try_from(b).ok().map(|v| v as u8));
+    list("message types:", 256, |b| MessageType::try_from(b).ok(), |v| v as u8);
+    list("NMT states:", 256, |b| NmtState::try_from(b).ok(), |v| v as u8);
+    list("services:", 256, |b| ServiceId::try_from(b).ok(), |v| v as u8);
+    list("requested services:", 256, |b| RequestedServiceId::try_from(b).ok(), |v| v as u8);
+    list("priorities:", 8, |b| PRFlag::try_from(b).ok(), |v| v as u8);
+    list("error entry modes:", 256, |b| ErrorEntryMode::try_from(b).ok(), |v| v as u8);
 
     address("SoC address:", types::C_DLL_MULTICAST_SOC);
     address("PRes address:", types::C_DLL_MULTICAST_PRES);
@@ -38,5 +38,7 @@ fn main() {
     println!("all nodes: {}", types::C_ADR_BROADCAST_NODE_ID);
 
     // docs/DIFFERENCES.md: a priority above 7 is masked there and refused here.
-    assert_eq!(PRFlag::try_from(8).unwrap(), PRFlag::Low1);
+    for b in 8..=255u8 {
+        assert_eq!(PRFlag::try_from(b).unwrap() as u8, b & 7);
+    }
 }

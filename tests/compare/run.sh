@@ -1,9 +1,9 @@
 #!/bin/sh
 # Builds powerlink-rs unchanged and compares its answers with ours.
 set -eu
-from=${POWERLINK_RS:-../shared}
+from=${POWERLINK_RS:-../shared/docs/src}
 out=target/oracle
-"$from/oracle/build-oracle.sh" "$from/docs/src" "$out"
+tests/compare/oracle/build-oracle.sh "$from" "$out"
 
 rustc --edition 2024 -C opt-level=1 --extern powerlink_rs="$out/debug/libpowerlink_rs.rlib" \
     -L "dependency=$out/debug" tests/compare/codes.rs -o "$out/codes"

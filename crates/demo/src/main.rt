@@ -1,16 +1,14 @@
-// Lists, for each code table, the octets that the table knows, then the addresses and IDs that frames are sent to.
-use types::error_mode::ErrorEntryMode;
-use types::error_mode::ErrorEntryModeAnswer;
-use types::message_type::MessageType;
-use types::message_type::MessageTypeAnswer;
-use types::poll_flags::PRFlag;
-use types::poll_flags::PRFlagAnswer;
-use types::requested_service::RequestedServiceId;
-use types::requested_service::RequestedServiceIdAnswer;
-use types::service::ServiceId;
-use types::service::ServiceIdAnswer;
-use types::states::NmtState;
-use types::states::NmtStateAnswer;
+// Lists the code tables, octet by octet, then the addresses and IDs that frames are sent to.
+mod print;
+mod tables;
+
+use control::asnd::ASndFrame;
+use control::soa::SoAFrame;
+use control::soc::SocFrame;
+use poll::pres::PResFrame;
+use print::address;
+use print::number;
+use print::say;
 
 enum Table {
     Messages,
@@ -21,95 +19,30 @@ enum Table {
     Modes,
 }
 
-fn message_known(b: u8) -> bool {
-    match MessageType::from_u8(b) {
-        MessageTypeAnswer::Known(_) => true,
-        MessageTypeAnswer::Unknown(_) => false,
-    }
-}
-
-fn state_known(b: u8) -> bool {
-    match NmtState::from_u8(b) {
-        NmtStateAnswer::Known(_) => true,
-        NmtStateAnswer::Unknown(_) => false,
-    }
-}
-
-fn service_known(b: u8) -> bool {
-    match ServiceId::from_u8(b) {
-        ServiceIdAnswer::Known(_) => true,
-        ServiceIdAnswer::Unknown(_) => false,
-    }
-}
-
-fn requested_service_known(b: u8) -> bool {
-    match RequestedServiceId::from_u8(b) {
-        RequestedServiceIdAnswer::Known(_) => true,
-        RequestedServiceIdAnswer::Unknown(_) => false,
-    }
-}
-
-fn priority_known(b: u8) -> bool {
-    match PRFlag::from_u8(b) {
-        PRFlagAnswer::Known(_) => true,
-        PRFlagAnswer::Unknown(_) => false,
-    }
-}
-
-fn mode_known(b: u8) -> bool {
-    match ErrorEntryMode::from_u8(b) {
-        ErrorEntryModeAnswer::Known(_) => true,
-        ErrorEntryModeAnswer::Unknown(_) => false,
-    }
-}
-
-fn known(table: Table, b: u8) -> bool {
+fn entry(table: Table, b: u8) {
     match table {
-        Table::Messages => message_known(b),
-        Table::States => state_known(b),
-        Table::Services => service_known(b),
-        Table::RequestedServices => requested_service_known(b),
-        Table::Priorities => priority_known(b),
-        Table::Modes => mode_known(b),
+        Table::Messages => tables::message(b),
+        Table::States => tables::state(b),
+        Table::Services => tables::service(b),
+        Table::RequestedServices => tables::requested_service(b),
+        Table::Priorities => tables::priority(b),
+        Table::Modes => tables::mode(b),
     }
 }
 
 fn list(name: &[u8], table: Table) {
-    io::write_all(libc::STDOUT_FILENO, name);
+    say(name);
     for b in 0..256u64 {
-        if known(table, b as u8) {
-            io::write_all(libc::STDOUT_FILENO, b" ");
-            io::print_hex(libc::STDOUT_FILENO, b, 2);
-        }
+        entry(table, b as u8);
     }
-    io::write_all(libc::STDOUT_FILENO, b"\n");
-}
-
-fn octet(b: u8) {
-    io::print_hex(libc::STDOUT_FILENO, b as u64, 2);
-}
-
-fn address(name: &[u8], a: [u8; 6]) {
-    io::write_all(libc::STDOUT_FILENO, name);
-    for i in 0..6usize {
-        io::write_all(libc::STDOUT_FILENO, b" ");
-        octet(a[i]);
-    }
-    io::write_all(libc::STDOUT_FILENO, b"\n");
-}
-
-fn number(name: &[u8], n: u64) {
-    io::write_all(libc::STDOUT_FILENO, name);
-    io::write_all(libc::STDOUT_FILENO, b" ");
-    io::print_decimal(libc::STDOUT_FILENO, n);
-    io::write_all(libc::STDOUT_FILENO, b"\n");
+    say(b"\n");
 }
 
 fn constants() {
-    address(b"SoC address:", types::C_DLL_MULTICAST_SOC);
-    address(b"PRes address:", types::C_DLL_MULTICAST_PRES);
-    address(b"SoA address:", types::C_DLL_MULTICAST_SOA);
-    address(b"ASnd address:", types::C_DLL_MULTICAST_ASND);
+    address(b"SoC address:", SocFrame::MULTICAST);
+    address(b"PRes address:", PResFrame::MULTICAST);
+    address(b"SoA address:", SoAFrame::MULTICAST);
+    address(b"ASnd address:", ASndFrame::MULTICAST);
     number(b"EtherType:", types::C_DLL_ETHERTYPE_EPL as u64);
     number(b"managing node:", types::C_ADR_MN_DEF_NODE_ID as u64);
     number(b"last controlled node:", types::C_ADR_MAX_CN_NODE_ID as u64);

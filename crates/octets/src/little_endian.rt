@@ -1,4 +1,4 @@
-// Numbers of 16, 32 and 64 bits, low octet first, as POWERLINK has them (EPSG DS 301, 6.1.1).
+// Numbers of 16, 32 and 64 bits, low octet first: the order of every number in a section (01, module 5).
 ghost use mathlib.Core.Path.{_≡_};
 ghost use lib.Seq.{sets};
 ghost use Rattle.octets.specs.Numbers.{leAt, leBytes};

@@ -1,4 +1,5 @@
--- The services that an SoA frame requests, and their codes (EPSG DS 301, Appendix 3.4).
+-- The services that an SoA frame requests, and their codes (EPSG DS 301, Appendix 3.4). That only these are
+-- read is powerlink-rs's rule.
 -- Assumes nothing.
 use Prim.Native.Nat.{ℕ}
 use mathlib.Core.List.{List, [], _∷_}

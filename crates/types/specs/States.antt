@@ -1,4 +1,5 @@
--- NMT states and their codes (EPSG DS 301, Appendix 3.6). A state of both kinds of node has one name and one code.
+-- NMT states and their codes (EPSG DS 301, Appendix 3.6). A state of both kinds of node has one name and
+-- one code. That only these twelve are read is powerlink-rs's rule.
 -- Assumes nothing.
 use Prim.Native.Nat.{ℕ}
 use mathlib.Core.List.{List, [], _∷_}

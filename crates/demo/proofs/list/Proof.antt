@@ -6,10 +6,10 @@ use Rattle.demo.proofs.list.Statement.{statement}
 use Rattle.demo.proofs.list.Tie as tie
 
 abbrev Inv-loop : tie.InvT-loop
-Inv-loop name table b₀ t4 t5 b = b ≤ 256
+Inv-loop name table b₀ t4 b = b ≤ 256
 
 abbrev μ-loop : tie.MeasureT-loop
-μ-loop name table b₀ t4 t5 b = 256 - b
+μ-loop name table b₀ t4 b = 256 - b
 
 pub list-spec : {M : Type 1} → statement M
 list-spec =
@@ -17,9 +17,6 @@ list-spec =
     (tie.spec
     Inv-loop
     μ-loop
-    (search needs)
-    (search needs)
-    (search needs)
     (search needs)
     (search needs)
     (search needs)

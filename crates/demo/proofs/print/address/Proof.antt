@@ -2,8 +2,8 @@
 -- Assumes nothing.
 use Prim.Native.Nat.{_-_, _≤_}
 use borrow.Author.Needs.{needs}
-use Rattle.demo.proofs.address.Statement.{statement}
-use Rattle.demo.proofs.address.Tie as tie
+use Rattle.demo.proofs.print.address.Statement.{statement}
+use Rattle.demo.proofs.print.address.Tie as tie
 
 abbrev Inv-loop : tie.InvT-loop
 Inv-loop name a i₀ t5 t6 i = i ≤ 6

@@ -1,0 +1,7 @@
+pub mod ASndLaws
+pub mod FrameLaws
+pub mod HeaderLaws
+pub mod PReqLaws
+pub mod PResLaws
+pub mod SoALaws
+pub mod SoCLaws

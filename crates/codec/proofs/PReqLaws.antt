@@ -1,0 +1,30 @@
+-- The cases of `readPReq`, each from the tests that lead to it.
+-- Assumes nothing.
+use Prim.Native.Nat.{ℕ, _-_, _≤_, _<_}
+use mathlib.Core.Path.{_≡_}
+use mathlib.Core.List.{List}
+use lib.ListN.{length}
+use borrow.Author.Needs.{needs}
+use borrow.Author.Tests.{le-leb, lt-leb}
+use Rattle.octets.specs.Numbers.{leAt}
+use Rattle.types.specs.declared.hal.PowerlinkError.the-variants.{BufferTooShort}
+use Rattle.poll.specs.declared.preq.PReqFrame.{PReqFrame}
+use Rattle.codec.specs.PReq.{preqOf, readPReq}
+use Rattle.codec.specs.declared.FrameAnswer.the-variants.{Frame, Refused}
+use Rattle.frame.specs.declared.PowerlinkFrame.the-variants.{PReq}
+
+module _ (s : List ℕ) where
+  pub preq-short : length s < 10 → Refused BufferTooShort ≡ readPReq s
+  unfolding readPReq
+  preq-short k = rw (lt-leb 10 (length s) k)
+
+  module _ (long : 10 ≤ length s) (n : ℕ) (en : n ≡ leAt 2 8 s) where
+    pub preq-cut : length s - 10 < n → Refused BufferTooShort ≡ readPReq s
+    unfolding readPReq
+    preq-cut k = rw (le-leb 10 (length s) long, ← en, lt-leb n (length s - 10) k)
+
+    pub preq-read : (f : PReqFrame) → n ≤ length s - 10 → f ≡ preqOf s n → Frame (PReq f) ≡ readPReq s
+    unfolding readPReq
+    preq-read f k e = rw (e, le-leb 10 (length s) long, ← en, le-leb n (length s - 10) k)
+
+pub ruleset preq-laws = (needs, preq-short, preq-cut, preq-read)

@@ -1,0 +1,20 @@
+-- `codec::headers::deserialize_pl_header` meets its contract: each `return` is a case of `deserializePlHeader`.
+-- Assumes nothing.
+use borrow.Author.Needs.{needs}
+use Rattle.codec.proofs.HeaderLaws.{pl-laws}
+use Rattle.codec.proofs.headers.deserialize_pl_header.Statement.{statement}
+use Rattle.codec.proofs.headers.deserialize_pl_header.Tie as tie
+
+pub deserialize-pl-header-spec : {M : Type 1} → statement M
+deserialize-pl-header-spec =
+    tie.close
+    (tie.spec
+    (λ c. search pl-laws)
+    (search needs)
+    (search needs)
+    (search needs)
+    (search needs)
+    (search needs)
+    (search needs)
+    (λ c. search pl-laws)
+    (λ c. search pl-laws))

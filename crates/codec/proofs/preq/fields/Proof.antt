@@ -1,0 +1,18 @@
+-- `codec::preq::fields` meets its contract: each field is what its octets give; bit 0 is the rest of a division by 2.
+-- Assumes nothing.
+use borrow.Author.Needs.{needs}
+use native.Mathlib.Nat.{div-one}
+use Rattle.codec.proofs.preq.fields.Statement.{statement}
+use Rattle.codec.proofs.preq.fields.Tie as tie
+
+pub fields-spec : {M : Type 1} → statement M
+fields-spec =
+    tie.close
+    (tie.spec
+    (search needs)
+    (search needs)
+    (search needs)
+    (search needs)
+    (search needs)
+    (search needs)
+    (λ c. rw div-one))

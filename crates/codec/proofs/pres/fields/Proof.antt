@@ -1,0 +1,17 @@
+-- `codec::pres::fields` meets its contract: each field is what its octets give.
+-- Assumes nothing.
+use borrow.Author.Needs.{needs}
+use Rattle.codec.proofs.pres.fields.Statement.{statement}
+use Rattle.codec.proofs.pres.fields.Tie as tie
+
+pub fields-spec : {M : Type 1} → statement M
+fields-spec =
+    tie.close
+    (tie.spec
+    (search needs)
+    (search needs)
+    (search needs)
+    (search needs)
+    (search needs)
+    (search needs)
+    (λ c. rw (c .before .flags-of .ensures)))

@@ -1,0 +1,18 @@
+-- `codec::soc::fields` meets its contract: each field is what its octets give.
+-- Assumes nothing.
+use borrow.Author.Needs.{needs}
+use Rattle.codec.proofs.soc.fields.Statement.{statement}
+use Rattle.codec.proofs.soc.fields.Tie as tie
+
+pub fields-spec : {M : Type 1} → statement M
+fields-spec =
+    tie.close
+    (tie.spec
+    (search needs)
+    (search needs)
+    (search needs)
+    (search needs)
+    (search needs)
+    (search needs)
+    (search needs)
+    (λ c. rw (c .before .before .get-u32-le .ensures, c .before .get-u32-le2 .ensures, c .get-u64-le .ensures)))

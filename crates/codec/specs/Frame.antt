@@ -1,0 +1,86 @@
+-- Reading a frame, from its Ethernet header on (EPSG DS 301, 4.6.1; IEEE 802.3, 3.1.1).
+-- Assumes nothing.
+use Prim.Native.Nat.{ℕ, _%_}
+use mathlib.Core.Path.{_≡_}
+use mathlib.Core.List.{List, []}
+use lib.ListN.{length, getD, take, drop}
+use lib.Dec.{leb, ltb, eqb}
+use Rattle.octets.specs.Numbers.{beAt}
+use Rattle.types.specs.Causes.{Cause, row, causeOf}
+use Rattle.types.specs.Codes.{need}
+use Rattle.types.specs.Header.{ethHeaderOf, ethertypeEPL}
+use Rattle.types.specs.Messages.{messageOf}
+use Rattle.types.specs.declared.hal.PowerlinkError.the-variants.{BufferTooShort, InvalidEthernetFrame, InvalidPlFrame, InvalidMessageType}
+use Rattle.types.specs.declared.message_type.MessageType.{MessageType}
+use Rattle.types.specs.declared.message_type.MessageType.the-variants as message
+use Rattle.types.specs.declared.message_type.MessageTypeAnswer.{MessageTypeAnswer}
+use Rattle.types.specs.declared.message_type.MessageTypeAnswer.the-variants.{Known, Unknown}
+use Rattle.codec.specs.ASnd.{readASnd, asndPayloadLength}
+use Rattle.codec.specs.PReq.{readPReq}
+use Rattle.codec.specs.PRes.{readPRes}
+use Rattle.codec.specs.SoA.{readSoA}
+use Rattle.codec.specs.SoC.{readSoC}
+use Rattle.codec.specs.declared.DeserializedFrame.{DeserializedFrame}
+use Rattle.codec.specs.declared.PayloadPlace.{PayloadPlace}
+use Rattle.codec.specs.declared.FrameAnswer.{FrameAnswer}
+use Rattle.codec.specs.declared.FrameAnswer.the-variants.{Frame, Refused}
+use Rattle.frame.specs.declared.PowerlinkFrame.{PowerlinkFrame}
+use Rattle.frame.specs.declared.PowerlinkFrame.the-variants.{Soc, PReq, PRes, SoA, ASnd}
+
+-- the rules of a kind
+abbrev pub byKind : MessageType → List ℕ → FrameAnswer
+byKind message.SoC s = readSoC s
+byKind message.PReq s = readPReq s
+byKind message.PRes s = readPRes s
+byKind message.SoA s = readSoA s
+byKind message.ASnd s = readASnd s
+
+abbrev pub byMessage : MessageTypeAnswer → List ℕ → FrameAnswer
+byMessage (Unknown b) s = Refused (InvalidMessageType b)
+byMessage (Known kind) s = byKind kind s
+
+-- the message type is the low seven bits of octet 0; it is tested before any length that a kind needs
+unfoldable pub readSection : List ℕ → FrameAnswer
+readSection s = byMessage (messageOf (getD s 0 0 % 0x80)) s
+
+-- 14 octets, then the EtherType, then a section that is not empty
+unfoldable pub readFrame : List ℕ → FrameAnswer
+readFrame f =
+    need (leb 14 (length f)) (Refused BufferTooShort)
+    (need (eqb (beAt 2 12 f) ethertypeEPL) (Refused InvalidEthernetFrame)
+    (need (ltb 14 (length f)) (Refused InvalidPlFrame)
+    (readSection (drop 14 f))))
+
+abbrev pub place : ℕ → ℕ → PayloadPlace
+place at n = record { start = at; len = n }
+
+-- the payload of a frame of a kind with the section s, counted from the Ethernet header on
+abbrev pub placeInFrame : PowerlinkFrame → List ℕ → PayloadPlace
+placeInFrame (Soc f) s = place 0 0
+placeInFrame (PReq f) s = place 24 (f .«payload_size»)
+placeInFrame (PRes f) s = place 24 (f .«payload_size»)
+placeInFrame (SoA f) s = place 0 0
+placeInFrame (ASnd f) s = place 18 (asndPayloadLength s)
+
+abbrev pub placeOf : FrameAnswer → List ℕ → PayloadPlace
+placeOf (Refused e) s = place 0 0
+placeOf (Frame f) s = placeInFrame f s
+
+-- beside a refusal stands the header that the octets give, those past the end counting as 0, and no payload
+unfoldable pub deserializeFrame : List ℕ → DeserializedFrame
+deserializeFrame f =
+    record { «eth_header» = ethHeaderOf f; answer = readFrame f; «payload_place» = placeOf (readFrame f) (drop 14 f) }
+
+-- the octets at a place; what would lie past the end is left out
+abbrev pub payloadOf : PayloadPlace → List ℕ → List ℕ
+payloadOf p f = take (p .len) (drop (p .start) f)
+
+-- 01's number and values for each case: 0 for a frame that is read
+abbrev pub frameCause : FrameAnswer → Cause
+frameCause (Frame f) = row 0 []
+frameCause (Refused e) = causeOf e
+
+-- r is what reading the octets f answers, with 01's number
+pub record Reads (f : List ℕ) (r : DeserializedFrame) : Type 0 where
+  pub read : r ≡ deserializeFrame f
+  pub cause : frameCause (r .answer) ≡ frameCause (readFrame f)

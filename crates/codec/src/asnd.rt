@@ -1,0 +1,52 @@
+// The rules of reading ASnd.
+ghost use mathlib.Core.Path.{_≡_};
+ghost use Prim.Native.Nat.{_≤_};
+ghost use lib.ListN.{length};
+ghost use Rattle.codec.specs.ASnd.{asndOf, readASnd, asndPayloadLength};
+use crate::FrameAnswer;
+use control::asnd::ASndFrame;
+use frame::PowerlinkFrame;
+use octets::slices::tail;
+use octets::slices::trimmed_len;
+use types::NodeId;
+use types::hal::PowerlinkError;
+use types::service::ServiceId;
+use types::service::ServiceIdAnswer;
+
+pub fn deserialize(s: &[u8]) -> FrameAnswer
+    ensures { λ r. ⌜ r ≡ readASnd (now (s .entry)) ⌝ }
+{
+    if s.len() < 4 {
+        return FrameAnswer::Refused(PowerlinkError::BufferTooShort);
+    }
+    match ServiceId::from_u8(s[3]) {
+        ServiceIdAnswer::Unknown(b) => FrameAnswer::Refused(PowerlinkError::InvalidServiceId(b)),
+        ServiceIdAnswer::Known(service) => {
+            FrameAnswer::Frame(PowerlinkFrame::ASnd(fields(s, service)))
+        }
+    }
+}
+
+// The fields of a section that has passed the tests.
+fn fields(s: &[u8], service_id: ServiceId) -> ASndFrame
+    requires { ⌜ 4 ≤ length (now s) ⌝ }
+    ensures { λ r. ⌜ r ≡ asndOf (now (s .entry)) «service_id» ⌝ }
+{
+    ASndFrame {
+        destination: NodeId(s[1]),
+        source: NodeId(s[2]),
+        service_id,
+    }
+}
+
+// The length of the payload: a section of the smallest size may be padded, so it loses the zeros at its end.
+pub fn payload_len(s: &[u8]) -> usize
+    ensures { λ r. ⌜ r ≡ asndPayloadLength (now (s .entry)) ⌝ }
+{
+    let p = tail(s, 4);
+    if s.len() == 46 {
+        trimmed_len(p)
+    } else {
+        p.len()
+    }
+}

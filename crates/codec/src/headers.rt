@@ -1,0 +1,97 @@
+// The two headers that every frame begins with (powerlink-rs: CodecHelpers).
+ghost use mathlib.Core.Path.{_≡_};
+ghost use Rattle.types.specs.Header.{ethHeaderOf, macOf};
+ghost use Rattle.codec.specs.Headers.{deserializeEthHeader, deserializePlHeader};
+use octets::big_endian::get_u16_be;
+use octets::slices::byte_at;
+use octets::slices::tail;
+use types::NodeId;
+use types::basic::EthernetHeader;
+use types::basic::MacAddress;
+use types::hal::PowerlinkError;
+use types::message_type::MessageType;
+use types::message_type::MessageTypeAnswer;
+
+pub enum EthHeaderAnswer {
+    Read,
+    Refused(PowerlinkError),
+}
+
+// The header stands beside the answer; where it is refused, octets past the end count as 0.
+pub struct DeserializedEthHeader {
+    pub eth_header: EthernetHeader,
+    pub answer: EthHeaderAnswer,
+}
+
+// The octets that every section begins with.
+pub struct PlHeader {
+    pub message_type: MessageType,
+    pub destination: NodeId,
+    pub source: NodeId,
+}
+
+pub enum PlHeaderAnswer {
+    Read(PlHeader),
+    Refused(PowerlinkError),
+}
+
+// The address that the first six octets are.
+fn mac_at(s: &[u8]) -> MacAddress
+    ensures { λ r. ⌜ r ≡ macOf (now (s .entry)) ⌝ }
+{
+    MacAddress([
+        byte_at(s, 0),
+        byte_at(s, 1),
+        byte_at(s, 2),
+        byte_at(s, 3),
+        byte_at(s, 4),
+        byte_at(s, 5),
+    ])
+}
+
+// The header that the first 14 octets are, those past the end counting as 0.
+pub fn eth_header_at(buffer: &[u8]) -> EthernetHeader
+    ensures { λ r. ⌜ r ≡ ethHeaderOf (now (buffer .entry)) ⌝ }
+{
+    EthernetHeader {
+        destination_mac: mac_at(buffer),
+        source_mac: mac_at(tail(buffer, 6)),
+        ether_type: get_u16_be(buffer, 12),
+    }
+}
+
+// Reads the Ethernet header in front of a frame, whatever its EtherType.
+pub fn deserialize_eth_header(buffer: &[u8]) -> DeserializedEthHeader
+    ensures { λ r. ⌜ r ≡ deserializeEthHeader (now (buffer .entry)) ⌝ }
+{
+    let eth_header = eth_header_at(buffer);
+    if buffer.len() < 14 {
+        return DeserializedEthHeader {
+            eth_header,
+            answer: EthHeaderAnswer::Refused(PowerlinkError::BufferTooShort),
+        };
+    }
+    DeserializedEthHeader {
+        eth_header,
+        answer: EthHeaderAnswer::Read,
+    }
+}
+
+// Reads what every section begins with.
+pub fn deserialize_pl_header(s: &[u8]) -> PlHeaderAnswer
+    ensures { λ r. ⌜ r ≡ deserializePlHeader (now (s .entry)) ⌝ }
+{
+    if s.len() < 3 {
+        return PlHeaderAnswer::Refused(PowerlinkError::BufferTooShort);
+    }
+    match MessageType::from_u8(s[0] % 0x80) {
+        MessageTypeAnswer::Unknown(b) => PlHeaderAnswer::Refused(PowerlinkError::InvalidMessageType(
+            b,
+        )),
+        MessageTypeAnswer::Known(message_type) => PlHeaderAnswer::Read(PlHeader {
+            message_type,
+            destination: NodeId(s[1]),
+            source: NodeId(s[2]),
+        }),
+    }
+}

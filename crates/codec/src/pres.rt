@@ -1,0 +1,68 @@
+// The rules of reading PRes.
+ghost use mathlib.Core.Path.{_≡_};
+ghost use Prim.Native.Nat.{_≤_};
+ghost use lib.ListN.{length};
+ghost use Rattle.codec.specs.PRes.{presOf, presFlags, readPRes};
+use crate::FrameAnswer;
+use frame::PowerlinkFrame;
+use octets::little_endian::get_u16_le;
+use poll::pres::PResFlags;
+use poll::pres::PResFrame;
+use types::C_ADR_BROADCAST_NODE_ID;
+use types::NodeId;
+use types::hal::PowerlinkError;
+use types::mapping::PDOVersion;
+use types::poll_flags::PRFlag;
+use types::poll_flags::RSFlag;
+use types::states::NmtState;
+use types::states::NmtStateAnswer;
+
+pub fn deserialize(s: &[u8]) -> FrameAnswer
+    ensures { λ r. ⌜ r ≡ readPRes (now (s .entry)) ⌝ }
+{
+    if s.len() < 10 {
+        return FrameAnswer::Refused(PowerlinkError::BufferTooShort);
+    }
+    if s[1] != C_ADR_BROADCAST_NODE_ID {
+        return FrameAnswer::Refused(PowerlinkError::InvalidPlFrame);
+    }
+    match NmtState::from_u8(s[3]) {
+        NmtStateAnswer::Unknown(b) => FrameAnswer::Refused(PowerlinkError::InvalidNmtState(b)),
+        NmtStateAnswer::Known(nmt_state) => {
+            let size = get_u16_le(s, 8);
+            let len = size as usize;
+            if s.len() - 10 < len {
+                return FrameAnswer::Refused(PowerlinkError::BufferTooShort);
+            }
+            FrameAnswer::Frame(PowerlinkFrame::PRes(fields(s, nmt_state, size)))
+        }
+    }
+}
+
+// The fields of a section that has passed the tests.
+fn fields(s: &[u8], nmt_state: NmtState, payload_size: u16) -> PResFrame
+    requires { ⌜ 10 ≤ length (now s) ⌝ }
+    ensures { λ r. ⌜ r ≡ presOf (now (s .entry)) «nmt_state» «payload_size» ⌝ }
+{
+    PResFrame {
+        destination: NodeId(s[1]),
+        source: NodeId(s[2]),
+        nmt_state,
+        flags: flags_of(s[4], s[5]),
+        pdo_version: PDOVersion(s[6]),
+        payload_size,
+    }
+}
+
+// The flags in octets 4 and 5.
+fn flags_of(octet4: u8, octet5: u8) -> PResFlags
+    ensures { λ r. ⌜ r ≡ presFlags octet4 octet5 ⌝ }
+{
+    PResFlags {
+        ms: octet4 / 0x20 % 2 == 1,
+        en: octet4 / 0x10 % 2 == 1,
+        rd: octet4 % 2 == 1,
+        pr: PRFlag::from_bits(octet5 / 8),
+        rs: RSFlag(octet5 % 8),
+    }
+}

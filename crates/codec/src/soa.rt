@@ -1,0 +1,54 @@
+// The rules of reading SoA.
+ghost use mathlib.Core.Path.{_≡_};
+ghost use Prim.Native.Nat.{_≤_};
+ghost use lib.ListN.{length};
+ghost use Rattle.codec.specs.SoA.{soaOf, readSoA};
+use crate::FrameAnswer;
+use control::soa::SoAFlags;
+use control::soa::SoAFrame;
+use frame::PowerlinkFrame;
+use types::EPLVersion;
+use types::NodeId;
+use types::hal::PowerlinkError;
+use types::requested_service::RequestedServiceId;
+use types::requested_service::RequestedServiceIdAnswer;
+use types::states::NmtState;
+use types::states::NmtStateAnswer;
+
+pub fn deserialize(s: &[u8]) -> FrameAnswer
+    ensures { λ r. ⌜ r ≡ readSoA (now (s .entry)) ⌝ }
+{
+    if s.len() < 9 {
+        return FrameAnswer::Refused(PowerlinkError::BufferTooShort);
+    }
+    match NmtState::from_u8(s[3]) {
+        NmtStateAnswer::Unknown(b) => FrameAnswer::Refused(PowerlinkError::InvalidNmtState(b)),
+        NmtStateAnswer::Known(state) => match RequestedServiceId::from_u8(s[6]) {
+            RequestedServiceIdAnswer::Unknown(b) => {
+                FrameAnswer::Refused(PowerlinkError::InvalidRequestedServiceId(b))
+            }
+            RequestedServiceIdAnswer::Known(service) => {
+                FrameAnswer::Frame(PowerlinkFrame::SoA(fields(s, state, service)))
+            }
+        },
+    }
+}
+
+// The fields of a section that has passed the tests.
+fn fields(s: &[u8], nmt_state: NmtState, req_service_id: RequestedServiceId) -> SoAFrame
+    requires { ⌜ 9 ≤ length (now s) ⌝ }
+    ensures { λ r. ⌜ r ≡ soaOf (now (s .entry)) «nmt_state» «req_service_id» ⌝ }
+{
+    SoAFrame {
+        destination: NodeId(s[1]),
+        source: NodeId(s[2]),
+        nmt_state,
+        flags: SoAFlags {
+            ea: s[4] / 4 % 2 == 1,
+            er: s[4] / 2 % 2 == 1,
+        },
+        req_service_id,
+        target_node_id: NodeId(s[7]),
+        epl_version: EPLVersion(s[8]),
+    }
+}

@@ -1,0 +1,44 @@
+// The rules of reading SoC.
+ghost use mathlib.Core.Path.{_≡_};
+ghost use Prim.Native.Nat.{_≤_};
+ghost use lib.ListN.{length};
+ghost use Rattle.codec.specs.SoC.{socOf, readSoC};
+use crate::FrameAnswer;
+use control::soc::SocFlags;
+use control::soc::SocFrame;
+use frame::PowerlinkFrame;
+use octets::little_endian::get_u32_le;
+use octets::little_endian::get_u64_le;
+use types::NodeId;
+use types::common::NetTime;
+use types::common::RelativeTime;
+use types::hal::PowerlinkError;
+
+pub fn deserialize(s: &[u8]) -> FrameAnswer
+    ensures { λ r. ⌜ r ≡ readSoC (now (s .entry)) ⌝ }
+{
+    if s.len() < 22 {
+        return FrameAnswer::Refused(PowerlinkError::BufferTooShort);
+    }
+    FrameAnswer::Frame(PowerlinkFrame::Soc(fields(s)))
+}
+
+// The fields of a section that has passed the tests.
+fn fields(s: &[u8]) -> SocFrame
+    requires { ⌜ 22 ≤ length (now s) ⌝ }
+    ensures { λ r. ⌜ r ≡ socOf (now (s .entry)) ⌝ }
+{
+    SocFrame {
+        destination: NodeId(s[1]),
+        source: NodeId(s[2]),
+        flags: SocFlags {
+            mc: s[4] / 0x80 % 2 == 1,
+            ps: s[4] / 0x40 % 2 == 1,
+        },
+        net_time: NetTime {
+            seconds: get_u32_le(s, 6),
+            nanoseconds: get_u32_le(s, 10),
+        },
+        relative_time: RelativeTime(get_u64_le(s, 14)),
+    }
+}

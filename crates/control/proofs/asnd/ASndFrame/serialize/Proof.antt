@@ -1,0 +1,21 @@
+-- `ASndFrame::serialize` meets its contract: the octets that it lays out are those of the layout.
+-- Assumes nothing.
+use borrow.Author.Needs.{needs}
+use Rattle.control.specs.ASnd.{asndSection}
+use Rattle.control.proofs.asnd.ASndFrame.serialize.Statement.{statement}
+use Rattle.control.proofs.asnd.ASndFrame.serialize.Tie as tie
+
+pub serialize-spec : {M : Type 1} → statement M
+unfolding asndSection
+serialize-spec =
+    tie.close
+    (tie.spec
+    (search needs)
+    (search needs)
+    (search needs)
+    (search needs)
+    (search needs)
+    (λ c.
+    let w = c .before .before in
+    let s = w .before .before .before in
+    rw (← s .to-u82 .ensures, ← s .before .to-u8 .ensures) (w .write-section .ensures)))

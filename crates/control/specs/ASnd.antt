@@ -1,0 +1,29 @@
+-- Writing an ASnd frame (EPSG DS 301, 4.6.1.1.6).
+-- Assumes nothing.
+use Prim.Native.Nat.{ℕ}
+use mathlib.Core.List.{List, [], _∷_, _++_}
+use Rattle.types.specs.Header.{powerlinkHeader}
+use Rattle.types.specs.Messages.{messageCode}
+use Rattle.types.specs.Services.{serviceCode}
+use Rattle.types.specs.declared.NodeId.{NodeId}
+use Rattle.types.specs.declared.basic.MacAddress.{MacAddress}
+use Rattle.types.specs.declared.message_type.MessageType.the-variants as message
+use Rattle.types.specs.declared.service.ServiceId.{ServiceId}
+use Rattle.section.specs.Write.{padded}
+use Rattle.control.specs.declared.asnd.ASndFrame.{ASndFrame}
+use Rattle.control.specs.declared.asnd.NewASndFrame.{NewASndFrame}
+
+-- all addresses and IDs are given
+abbrev pub newASnd : MacAddress → MacAddress → NodeId → NodeId → ServiceId → NewASndFrame
+newASnd from to target source service =
+    record {
+      «eth_header» = powerlinkHeader to from;
+      frame = record { destination = target; source = source; «service_id» = service };
+    }
+
+-- the 4 octets of the fields
+abbrev pub asndBytes : ASndFrame → List ℕ
+asndBytes f = messageCode message.ASnd ∷ f .destination .0 ∷ f .source .0 ∷ serviceCode (f .«service_id») ∷ []
+
+unfoldable pub asndSection : ASndFrame → List ℕ → List ℕ
+asndSection f payload = padded (asndBytes f ++ payload)

@@ -1,0 +1,3 @@
+pub mod ASnd
+pub mod SoA
+pub mod SoC

@@ -1,0 +1,64 @@
+// Asynchronous Send (EPSG DS 301, 4.6.1.1.6).
+ghost use mathlib.Core.Path.{_≡_};
+ghost use Rattle.section.specs.Write.{Writes};
+ghost use Rattle.control.specs.ASnd.{newASnd, asndSection};
+use section::WriteAnswer;
+use section::write_section;
+use types::C_DLL_MULTICAST_ASND;
+use types::NodeId;
+use types::basic::EthernetHeader;
+use types::basic::MacAddress;
+use types::message_type::MessageType;
+use types::service::ServiceId;
+
+// The fields in front of the payload, which stands beside them.
+pub struct ASndFrame {
+    pub destination: NodeId,
+    pub source: NodeId,
+    pub service_id: ServiceId,
+}
+
+// A frame with the header that goes in front of it.
+pub struct NewASndFrame {
+    pub eth_header: EthernetHeader,
+    pub frame: ASndFrame,
+}
+
+impl ASndFrame {
+    // The address of an ASnd to all nodes; `new` takes any.
+    pub const MULTICAST: [u8; 6] = C_DLL_MULTICAST_ASND;
+
+    // An ASnd with all addresses and IDs given.
+    pub fn new(
+        source_mac: MacAddress,
+        dest_mac: MacAddress,
+        target_node_id: NodeId,
+        source_node_id: NodeId,
+        service_id: ServiceId,
+    ) -> NewASndFrame
+        ensures { λ r. ⌜ r ≡ newASnd «source_mac» «dest_mac» «target_node_id» «source_node_id» «service_id» ⌝ }
+    {
+        NewASndFrame {
+            eth_header: EthernetHeader::new(dest_mac, source_mac),
+            frame: ASndFrame {
+                destination: target_node_id,
+                source: source_node_id,
+                service_id,
+            },
+        }
+    }
+
+    // Writes the section with its payload, if it fits.
+    pub fn serialize(self, payload: &[u8], target: &mut [u8]) -> WriteAnswer
+        ensures { λ r. ⌜ Writes (asndSection self (now (payload .entry))) r (now (target .entry)) (now (target .exit)) ⌝ }
+    {
+        let service = self.service_id;
+        let header = [
+            MessageType::ASnd.to_u8(),
+            self.destination.0,
+            self.source.0,
+            service.to_u8(),
+        ];
+        write_section(&header, payload, target)
+    }
+}

@@ -1,0 +1,91 @@
+// Start of Asynchronous (EPSG DS 301, 4.6.1.1.5).
+ghost use mathlib.Core.Path.{_≡_};
+ghost use Rattle.section.specs.Write.{Writes};
+ghost use Rattle.control.specs.SoA.{newSoA, soaSection};
+use section::WriteAnswer;
+use section::flag;
+use section::write_section;
+use types::C_ADR_BROADCAST_NODE_ID;
+use types::C_ADR_MN_DEF_NODE_ID;
+use types::C_DLL_MULTICAST_SOA;
+use types::EPLVersion;
+use types::NodeId;
+use types::basic::EthernetHeader;
+use types::basic::MacAddress;
+use types::message_type::MessageType;
+use types::requested_service::RequestedServiceId;
+use types::states::NmtState;
+
+// The flags (EPSG DS 301, Table 22).
+pub struct SoAFlags {
+    // Exception acknowledge.
+    pub ea: bool,
+    // Exception reset.
+    pub er: bool,
+}
+
+pub struct SoAFrame {
+    pub destination: NodeId,
+    pub source: NodeId,
+    pub nmt_state: NmtState,
+    pub flags: SoAFlags,
+    pub req_service_id: RequestedServiceId,
+    pub target_node_id: NodeId,
+    pub epl_version: EPLVersion,
+}
+
+// A frame with the header that goes in front of it.
+pub struct NewSoAFrame {
+    pub eth_header: EthernetHeader,
+    pub frame: SoAFrame,
+}
+
+impl SoAFrame {
+    // The address that an SoA is sent to.
+    pub const MULTICAST: [u8; 6] = C_DLL_MULTICAST_SOA;
+
+    // An SoA from the managing node to all nodes.
+    pub fn new(
+        source_mac: MacAddress,
+        nmt_state: NmtState,
+        flags: SoAFlags,
+        requested_service: RequestedServiceId,
+        target_node_id: NodeId,
+        epl_version: EPLVersion,
+    ) -> NewSoAFrame
+        ensures { λ r. ⌜ r ≡ newSoA «source_mac» «nmt_state» flags «requested_service» «target_node_id» «epl_version» ⌝ }
+    {
+        NewSoAFrame {
+            eth_header: EthernetHeader::new(MacAddress(SoAFrame::MULTICAST), source_mac),
+            frame: SoAFrame {
+                destination: NodeId(C_ADR_BROADCAST_NODE_ID),
+                source: NodeId(C_ADR_MN_DEF_NODE_ID),
+                nmt_state,
+                flags,
+                req_service_id: requested_service,
+                target_node_id,
+                epl_version,
+            },
+        }
+    }
+
+    // Writes the section, if it fits.
+    pub fn serialize(self, target: &mut [u8]) -> WriteAnswer
+        ensures { λ r. ⌜ Writes (soaSection self) r (now (target .entry)) (now (target .exit)) ⌝ }
+    {
+        let state = self.nmt_state;
+        let service = self.req_service_id;
+        let header = [
+            MessageType::SoA.to_u8(),
+            self.destination.0,
+            self.source.0,
+            state.to_u8(),
+            flag(self.flags.ea, 4) + flag(self.flags.er, 2),
+            0,
+            service.to_u8(),
+            self.target_node_id.0,
+            self.epl_version.0,
+        ];
+        write_section(&header, b"", target)
+    }
+}

@@ -1,0 +1,30 @@
+-- `same` is safe and ends: both slices are of one length, and what is left of it falls.
+-- Assumes nothing.
+use Prim.Native.Nat.{_-_, _≤_}
+use mathlib.Core.Path.{_≡_}
+use lib.ListN.{length}
+use borrow.Author.Needs.{needs}
+use Rattle.encode.proofs.check.same.Statement.{statement}
+use Rattle.encode.proofs.check.same.Tie as tie
+
+abbrev Inv-loop : tie.InvT-loop
+Inv-loop a b i₀ i = (i ≤ length a) × (length a ≡ length b)
+
+abbrev μ-loop : tie.MeasureT-loop
+μ-loop a b i₀ i = length a - i
+
+pub same-spec : {M : Type 1} → statement M
+same-spec =
+    tie.close
+    (tie.spec
+    Inv-loop
+    μ-loop
+    (search needs)
+    (search needs)
+    (search needs)
+    (search needs)
+    (search needs)
+    (search needs)
+    (search needs)
+    (search needs)
+    (search needs))

@@ -1,0 +1,32 @@
+// Text, numbers and octets on standard output.
+ghost use Prim.Native.Nat.{_<_};
+use libc::STDOUT_FILENO;
+
+pub fn say(text: &[u8]) {
+    io::write_all(STDOUT_FILENO, text);
+}
+
+pub fn number(label: &[u8], n: u64) {
+    say(label);
+    io::print_decimal(STDOUT_FILENO, n);
+}
+
+// Each octet as a space and two hexadecimal digits.
+pub fn hex_all(s: &[u8]) {
+    let mut i = 0;
+    while i < s.len() {
+        hex(s[i]);
+        i += 1;
+    }
+}
+
+fn hex(b: u8) {
+    say(&[b' ', digit(b / 16), digit(b % 16)]);
+}
+
+// The digits of `io::print_hex` are small letters, and these are capitals.
+fn digit(n: u8) -> u8
+    requires { ⌜ n < 16 ⌝ }
+{
+    if n < 10 { b'0' + n } else { b'A' + (n - 10) }
+}

@@ -1,0 +1,108 @@
+// The five kinds joined, and writing any of them (powerlink-rs: frame/mod.rs).
+ghost use mathlib.Core.Path.{_≡_};
+ghost use Rattle.section.specs.Write.{Writes};
+ghost use Rattle.frame.specs.Write.{frameSection};
+ghost use Rattle.frame.specs.Kinds.{intoSoc, intoPReq, intoPRes, intoSoA, intoASnd};
+
+pub mod write;
+
+use control::asnd::ASndFrame;
+use control::soa::SoAFrame;
+use control::soc::SocFrame;
+use poll::preq::PReqFrame;
+use poll::pres::PResFrame;
+use section::WriteAnswer;
+
+pub enum PowerlinkFrame {
+    Soc(SocFrame),
+    PReq(PReqFrame),
+    PRes(PResFrame),
+    SoA(SoAFrame),
+    ASnd(ASndFrame),
+}
+
+// A frame asked for as one kind: that kind, or the frame as it was.
+pub enum IntoSoc {
+    Soc(SocFrame),
+    Other(PowerlinkFrame),
+}
+
+pub enum IntoPReq {
+    PReq(PReqFrame),
+    Other(PowerlinkFrame),
+}
+
+pub enum IntoPRes {
+    PRes(PResFrame),
+    Other(PowerlinkFrame),
+}
+
+pub enum IntoSoA {
+    SoA(SoAFrame),
+    Other(PowerlinkFrame),
+}
+
+pub enum IntoASnd {
+    ASnd(ASndFrame),
+    Other(PowerlinkFrame),
+}
+
+impl PowerlinkFrame {
+    pub fn into_soc(self) -> IntoSoc
+        ensures { λ r. ⌜ r ≡ intoSoc self ⌝ }
+    {
+        let PowerlinkFrame::Soc(f) = self else {
+            return IntoSoc::Other(self);
+        };
+        IntoSoc::Soc(f)
+    }
+
+    pub fn into_preq(self) -> IntoPReq
+        ensures { λ r. ⌜ r ≡ intoPReq self ⌝ }
+    {
+        let PowerlinkFrame::PReq(f) = self else {
+            return IntoPReq::Other(self);
+        };
+        IntoPReq::PReq(f)
+    }
+
+    pub fn into_pres(self) -> IntoPRes
+        ensures { λ r. ⌜ r ≡ intoPRes self ⌝ }
+    {
+        let PowerlinkFrame::PRes(f) = self else {
+            return IntoPRes::Other(self);
+        };
+        IntoPRes::PRes(f)
+    }
+
+    pub fn into_soa(self) -> IntoSoA
+        ensures { λ r. ⌜ r ≡ intoSoA self ⌝ }
+    {
+        let PowerlinkFrame::SoA(f) = self else {
+            return IntoSoA::Other(self);
+        };
+        IntoSoA::SoA(f)
+    }
+
+    pub fn into_asnd(self) -> IntoASnd
+        ensures { λ r. ⌜ r ≡ intoASnd self ⌝ }
+    {
+        let PowerlinkFrame::ASnd(f) = self else {
+            return IntoASnd::Other(self);
+        };
+        IntoASnd::ASnd(f)
+    }
+
+    // Writes the section with its payload, if it fits. SoC and SoA have no payload: what is lent as one is left aside.
+    pub fn serialize(self, payload: &[u8], target: &mut [u8]) -> WriteAnswer
+        ensures { λ r. ⌜ Writes (frameSection self (now (payload .entry))) r (now (target .entry)) (now (target .exit)) ⌝ }
+    {
+        match self {
+            PowerlinkFrame::Soc(f) => f.serialize(target),
+            PowerlinkFrame::PReq(f) => f.serialize(payload, target),
+            PowerlinkFrame::PRes(f) => f.serialize(payload, target),
+            PowerlinkFrame::SoA(f) => f.serialize(target),
+            PowerlinkFrame::ASnd(f) => f.serialize(payload, target),
+        }
+    }
+}

@@ -1,0 +1,53 @@
+-- An ASnd section that is written is read back, and its payload.
+-- Assumes nothing.
+use Prim.Native.Nat.{ℕ, _+_, _-_, _≤_, _<_}
+use mathlib.Core.Path.{_≡_, refl, sym, ap, _∙_}
+use mathlib.Core.Logic.{⊎-elim}
+use mathlib.Core.List.{List, _++_}
+use native.Mathlib.Omega.{arith}
+use lib.ListN.{length, take, drop, replicate, length-append, length-replicate}
+use lib.Seq.{take-at}
+use borrow.Author.Tests.{le-leb, eq-eqb, ne-eqb}
+use Rattle.octets.specs.Trim.{trimmedLength}
+use Rattle.octets.proofs.Order.{le-or-lt}
+use Rattle.octets.proofs.Trim.{trimmed-padded}
+use Rattle.types.specs.Messages.{messageOf}
+use Rattle.types.proofs.ReadBack.{service-known}
+use Rattle.control.specs.ASnd.{asndBytes, asndSection}
+use Rattle.control.specs.declared.asnd.ASndFrame.{ASndFrame}
+use Rattle.section.specs.Write.{padded}
+use Rattle.section.proofs.Sections.{padded-length}
+use Rattle.frame.specs.declared.PowerlinkFrame.the-variants.{ASnd}
+use Rattle.codec.specs.ASnd.{readASnd, asndPayloadLength}
+use Rattle.codec.specs.Frame.{readSection}
+use Rattle.codec.specs.declared.FrameAnswer.the-variants.{Frame}
+
+module _ (f : ASndFrame) (p : List ℕ) where
+  pub asnd-back : readSection (asndSection f p) ≡ Frame (ASnd f)
+  unfolding readSection messageOf readASnd asndSection padded
+  asnd-back = rw (le-leb 4 (length (asndSection f p)) (omega arith), service-known (f .«service_id»))
+
+  section-length : length (asndSection f p) ≡ 4 + length p + (46 - (4 + length p))
+  unfolding asndSection
+  section-length = padded-length (asndBytes f) p
+
+  module _ (full : length p ≤ 42 → trimmedLength p ≡ length p) where
+    trimmed : length p ≤ 42 → asndPayloadLength (asndSection f p) ≡ length p
+    unfolding asndPayloadLength asndSection padded
+    trimmed h =
+        rw (eq-eqb (length (asndSection f p)) 46 (omega (arith, section-length)))
+        (trimmed-padded p (46 - length (asndBytes f ++ p)) ∙ full h)
+
+    whole : 42 < length p → asndPayloadLength (asndSection f p) ≡ length p
+    unfolding asndPayloadLength asndSection padded
+    whole h =
+        let other : length (asndSection f p) ≡ 46 → ⊥ = λ e. omega (arith, section-length) in
+        rw (ne-eqb (length (asndSection f p)) 46 other)
+        (omega (arith, section-length))
+
+    pub asnd-length : asndPayloadLength (asndSection f p) ≡ length p
+    asnd-length = ⊎-elim trimmed whole (le-or-lt (length p) 42)
+
+    pub asnd-payload : take (asndPayloadLength (asndSection f p)) (drop 4 (asndSection f p)) ≡ p
+    unfolding asndSection padded
+    asnd-payload = take-at p _ _ (sym asnd-length)

@@ -1,0 +1,46 @@
+-- What stands behind a header that is written is read as a section, and the header as itself.
+-- Assumes nothing.
+use Prim.Native.Nat.{ℕ, _+_, _<_}
+use mathlib.Core.Path.{_≡_, refl, sym, ap, _∙_}
+use mathlib.Core.List.{List, [], _∷_, _++_}
+use native.Mathlib.Omega.{arith}
+use lib.ListN.{length, getD, drop}
+use borrow.Author.Tests.{le-leb, lt-ltb}
+use Rattle.octets.specs.Numbers.{beAt}
+use Rattle.types.specs.Header.{ethHeaderOf, ethBytes, macOf}
+use Rattle.types.specs.declared.basic.EthernetHeader.{EthernetHeader}
+use Rattle.types.specs.declared.basic.MacAddress.{MacAddress}
+use Rattle.codec.specs.Frame.{readFrame, readSection, placeOf, deserializeFrame}
+use Rattle.codec.specs.declared.DeserializedFrame.{DeserializedFrame}
+use Rattle.frame_laws.specs.ReadBack.{IsHeader}
+
+-- a list of six is its six elements
+six : (l : List ℕ) → length l ≡ 6 → getD l 0 0 ∷ getD l 1 0 ∷ getD l 2 0 ∷ getD l 3 0 ∷ getD l 4 0 ∷ getD l 5 0 ∷ [] ≡ l
+six [] e = absurd (omega arith)
+six (a ∷ []) e = absurd (omega arith)
+six (a ∷ b ∷ []) e = absurd (omega arith)
+six (a ∷ b ∷ c ∷ []) e = absurd (omega arith)
+six (a ∷ b ∷ c ∷ d ∷ []) e = absurd (omega arith)
+six (a ∷ b ∷ c ∷ d ∷ f ∷ []) e = absurd (omega arith)
+six (a ∷ b ∷ c ∷ d ∷ f ∷ g ∷ []) e = refl
+six (a ∷ b ∷ c ∷ d ∷ f ∷ g ∷ x ∷ xs) e = absurd (omega arith)
+
+module _ (h : EthernetHeader) (s : List ℕ) (is : IsHeader h) where
+  pub header-back : ethHeaderOf (ethBytes h ++ s) ≡ h
+  unfolding ethHeaderOf ethBytes beAt
+  header-back =
+      rw (six (h .«destination_mac» .0) (is .destination), six (h .«source_mac» .0) (is .source), is .ethertype)
+
+  pub section-back : 0 < length s → readFrame (ethBytes h ++ s) ≡ readSection s
+  unfolding readFrame ethBytes beAt
+  section-back k =
+      rw (
+        le-leb 14 (length (ethBytes h ++ s)) (omega arith),
+        is .ethertype,
+        lt-ltb 14 (length (ethBytes h ++ s)) (omega arith),
+      )
+
+  pub frame-back : 0 < length s
+      → deserializeFrame (ethBytes h ++ s) ≡ record { «eth_header» = h; answer = readSection s; «payload_place» = placeOf (readSection s) s }
+  unfolding deserializeFrame ethBytes
+  frame-back k = rw (section-back k, header-back)

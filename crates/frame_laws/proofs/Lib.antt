@@ -1,0 +1,9 @@
+pub mod ASndBack
+pub mod Flags
+pub mod HeaderBack
+pub mod Lines
+pub mod PReqBack
+pub mod PResBack
+pub mod ReadBack
+pub mod SoABack
+pub mod SoCBack

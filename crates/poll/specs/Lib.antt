@@ -1,0 +1,2 @@
+pub mod PReq
+pub mod PRes

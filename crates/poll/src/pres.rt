@@ -1,0 +1,97 @@
+// Poll Response, from a controlled node to all (EPSG DS 301, 4.6.1.1.4).
+ghost use mathlib.Core.Path.{_≡_};
+ghost use lib.ListN.{length};
+ghost use Rattle.section.specs.Write.{Writes};
+ghost use Rattle.poll.specs.PRes.{newPRes, presSection};
+use octets::little_endian::put_u16_le;
+use section::WriteAnswer;
+use section::flag;
+use section::write_section;
+use types::C_ADR_BROADCAST_NODE_ID;
+use types::C_DLL_MULTICAST_PRES;
+use types::NodeId;
+use types::basic::EthernetHeader;
+use types::basic::MacAddress;
+use types::mapping::PDOVersion;
+use types::message_type::MessageType;
+use types::poll_flags::PRFlag;
+use types::poll_flags::RSFlag;
+use types::poll_flags::poll_octet;
+use types::states::NmtState;
+
+// The flags (EPSG DS 301, Table 20).
+pub struct PResFlags {
+    // Multiplexed slot.
+    pub ms: bool,
+    // Exception new.
+    pub en: bool,
+    // Ready: the payload is valid.
+    pub rd: bool,
+    pub pr: PRFlag,
+    pub rs: RSFlag,
+}
+
+// The fields in front of the payload, which stands beside them.
+pub struct PResFrame {
+    pub destination: NodeId,
+    pub source: NodeId,
+    pub nmt_state: NmtState,
+    pub flags: PResFlags,
+    pub pdo_version: PDOVersion,
+    pub payload_size: u16,
+}
+
+// A frame with the header that goes in front of it.
+pub struct NewPResFrame {
+    pub eth_header: EthernetHeader,
+    pub frame: PResFrame,
+}
+
+impl PResFrame {
+    // The address that a PRes is sent to.
+    pub const MULTICAST: [u8; 6] = C_DLL_MULTICAST_PRES;
+
+    // A PRes from a controlled node to all nodes. Its size is the payload's length modulo 65,536.
+    pub fn new(
+        source_mac: MacAddress,
+        source_node_id: NodeId,
+        nmt_state: NmtState,
+        flags: PResFlags,
+        pdo_version: PDOVersion,
+        payload: &[u8],
+    ) -> NewPResFrame
+        ensures { λ r. ⌜ r ≡ newPRes «source_mac» «source_node_id» «nmt_state» flags «pdo_version» (length (now (payload .entry))) ⌝ }
+    {
+        NewPResFrame {
+            eth_header: EthernetHeader::new(MacAddress(PResFrame::MULTICAST), source_mac),
+            frame: PResFrame {
+                destination: NodeId(C_ADR_BROADCAST_NODE_ID),
+                source: source_node_id,
+                nmt_state,
+                flags,
+                pdo_version,
+                payload_size: (payload.len() % 0x1_0000) as u16,
+            },
+        }
+    }
+
+    // Writes the section with its payload, if it fits. The size is written as the frame holds it.
+    pub fn serialize(self, payload: &[u8], target: &mut [u8]) -> WriteAnswer
+        ensures { λ r. ⌜ Writes (presSection self (now (payload .entry))) r (now (target .entry)) (now (target .exit)) ⌝ }
+    {
+        let state = self.nmt_state;
+        let flags = self.flags;
+        let pr = flags.pr;
+        let rs = flags.rs;
+        let mut header = [0u8; 10];
+        header[0] = MessageType::PRes.to_u8();
+        header[1] = self.destination.0;
+        header[2] = self.source.0;
+        header[3] = state.to_u8();
+        header[4] = flag(flags.ms, 0x20) + flag(flags.en, 0x10) + flag(flags.rd, 1);
+        header[5] = poll_octet(pr, rs);
+        header[6] = self.pdo_version.0;
+        put_u16_le(&mut header, 8, self.payload_size);
+        write_section(&header, payload, target)
+    }
+}
