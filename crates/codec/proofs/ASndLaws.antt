@@ -30,4 +30,4 @@ module _ (s : List ℕ) where
     unfolding readASnd
     asnd-read service f g e = rw (e, le-leb 4 (length s) long, sym ea ∙ g)
 
-pub ruleset asnd-laws = (needs, asnd-short, asnd-no-service, asnd-read)
+pub ruleset asnd-laws = (needs, asnd-no-service, asnd-read)

@@ -29,4 +29,4 @@ module _ (s : List ℕ) where
     unfolding deserializePlHeader
     pl-read message g = rw (le-leb 3 (length s) long, sym ea ∙ g)
 
-pub ruleset pl-laws = (needs, pl-short, pl-unknown, pl-read)
+pub ruleset pl-laws = (needs, pl-unknown, pl-read)

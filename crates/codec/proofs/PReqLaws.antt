@@ -2,7 +2,9 @@
 -- Assumes nothing.
 use Prim.Native.Nat.{ℕ, _-_, _≤_, _<_}
 use mathlib.Core.Path.{_≡_}
+use mathlib.Core.Bool.{true, false}
 use mathlib.Core.List.{List}
+use lib.Dec.{leb}
 use lib.ListN.{length}
 use borrow.Author.Needs.{needs}
 use borrow.Author.Tests.{le-leb, lt-leb}
@@ -18,13 +20,13 @@ module _ (s : List ℕ) where
   unfolding readPReq
   preq-short k = rw (lt-leb 10 (length s) k)
 
-  module _ (long : 10 ≤ length s) (n : ℕ) (en : n ≡ leAt 2 8 s) where
-    pub preq-cut : length s - 10 < n → Refused BufferTooShort ≡ readPReq s
+  module _ (long : 10 ≤ length s) where
+    pub preq-cut : leb (leAt 2 8 s) (length s - 10) ≡ false → Refused BufferTooShort ≡ readPReq s
     unfolding readPReq
-    preq-cut k = rw (le-leb 10 (length s) long, ← en, lt-leb n (length s - 10) k)
+    preq-cut k = rw (le-leb 10 (length s) long, k)
 
-    pub preq-read : (f : PReqFrame) → n ≤ length s - 10 → f ≡ preqOf s n → Frame (PReq f) ≡ readPReq s
+    pub preq-read : (n : ℕ) (f : PReqFrame) → n ≡ leAt 2 8 s → leb (leAt 2 8 s) (length s - 10) ≡ true → f ≡ preqOf s n → Frame (PReq f) ≡ readPReq s
     unfolding readPReq
-    preq-read f k e = rw (e, le-leb 10 (length s) long, ← en, le-leb n (length s - 10) k)
+    preq-read n f en k e = rw (e, le-leb 10 (length s) long, k, en)
 
-pub ruleset preq-laws = (needs, preq-short, preq-cut, preq-read)
+pub ruleset preq-laws = (needs, preq-cut, preq-read)

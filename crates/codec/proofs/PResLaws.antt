@@ -2,7 +2,9 @@
 -- Assumes nothing.
 use Prim.Native.Nat.{ℕ, _-_, _≤_, _<_}
 use mathlib.Core.Path.{_≡_, sym, _∙_}
+use mathlib.Core.Bool.{true, false}
 use mathlib.Core.List.{List}
+use lib.Dec.{leb}
 use lib.ListN.{length, getD}
 use borrow.Author.Needs.{needs}
 use borrow.Author.Tests.{le-leb, lt-leb, eq-eqb, ne-eqb}
@@ -32,15 +34,13 @@ module _ (s : List ℕ) where
       unfolding readPRes
       pres-no-state b g = rw (le-leb 10 (length s) long, eq-eqb (getD s 1 0) 255 to, sym ea ∙ g)
 
-      module _ (state : NmtState) (es : a ≡ Known state) (n : ℕ) (en : n ≡ leAt 2 8 s) where
-        pub pres-cut : length s - 10 < n → Refused BufferTooShort ≡ readPRes s
+      module _ (state : NmtState) (es : a ≡ Known state) where
+        pub pres-cut : leb (leAt 2 8 s) (length s - 10) ≡ false → Refused BufferTooShort ≡ readPRes s
         unfolding readPRes
-        pres-cut k =
-            rw (le-leb 10 (length s) long, eq-eqb (getD s 1 0) 255 to, sym ea ∙ es, ← en, lt-leb n (length s - 10) k)
+        pres-cut k = rw (le-leb 10 (length s) long, eq-eqb (getD s 1 0) 255 to, sym ea ∙ es, k)
 
-        pub pres-read : (f : PResFrame) → n ≤ length s - 10 → f ≡ presOf s state n → Frame (PRes f) ≡ readPRes s
+        pub pres-read : (n : ℕ) (f : PResFrame) → n ≡ leAt 2 8 s → leb (leAt 2 8 s) (length s - 10) ≡ true → f ≡ presOf s state n → Frame (PRes f) ≡ readPRes s
         unfolding readPRes
-        pres-read f k e =
-            rw (e, le-leb 10 (length s) long, eq-eqb (getD s 1 0) 255 to, sym ea ∙ es, ← en, le-leb n (length s - 10) k)
+        pres-read n f en k e = rw (e, le-leb 10 (length s) long, eq-eqb (getD s 1 0) 255 to, sym ea ∙ es, k, en)
 
-pub ruleset pres-laws = (needs, pres-short, pres-not-to-all, pres-no-state, pres-cut, pres-read)
+pub ruleset pres-laws = (needs, pres-not-to-all, pres-no-state, pres-cut, pres-read)

@@ -39,4 +39,4 @@ module _ (s : List ℕ) where
       unfolding readSoA
       soa-read service f g e = rw (e, le-leb 9 (length s) long, sym ea ∙ es, sym eq ∙ g)
 
-pub ruleset soa-laws = (needs, soa-short, soa-no-state, soa-no-service, soa-read)
+pub ruleset soa-laws = (needs, soa-no-state, soa-no-service, soa-read)

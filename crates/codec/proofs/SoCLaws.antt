@@ -21,4 +21,4 @@ module _ (s : List ℕ) where
   unfolding readSoC
   soc-read f k e = rw (e, le-leb 22 (length s) k)
 
-pub ruleset soc-laws = (needs, soc-short, soc-read)
+pub ruleset soc-laws = (needs, soc-read)

@@ -40,6 +40,6 @@ plByMessage s (Unknown b) = Refused (InvalidMessageType b)
 plByMessage s (Known message) =
     Read (record { «message_type» = message; destination = record { 0 = getD s 1 0 }; source = record { 0 = getD s 2 0 } })
 
--- 3 octets are needed, then a message type in the low seven bits of octet 0
+-- 3 octets are needed, then a message type in the low seven bits of octet 0; for a whole frame `readSection` tests the type first
 unfoldable pub deserializePlHeader : List ℕ → PlHeaderAnswer
 deserializePlHeader s = need (leb 3 (length s)) (Refused BufferTooShort) (plByMessage s (messageOf (getD s 0 0 % 0x80)))

@@ -1,10 +1,11 @@
 // Prints, for each line of standard input, what reading the frame gives that the line writes in hexadecimal: recorded
 // frames, or the cases of a test. A line is `NAME: TOKENS`; a token is an octet, as `0A`, or a run of one, as `00*41`.
-// Lines that are empty or begin with '#' are left out. A NAME that begins with `eth` or `pl` has the Ethernet header, or
-// the three octets that a section begins with, read alone.
+// Lines that are empty or begin with '#' are left out. A NAME that begins with `eth`, `pl` or `status` has the octets
+// read as an Ethernet header, as what a section begins with, or as the payload of a StatusResponse.
 mod parse;
 mod print;
 mod show;
+mod status;
 
 use libc::STDIN_FILENO;
 use octets::slices::front;
@@ -22,7 +23,7 @@ enum Rest {
     Over,
 }
 
-// Shows what NAME asks for of the first `n` octets: a header alone, or the frame. The array comes whole, since its type
+// Shows what NAME asks for of the first `n` octets: a header or a payload alone, or the frame. The array comes whole, since its type
 // then says its length.
 fn reading(name: &[u8], space: &[u8; FRAME_MAX], n: usize) {
     let frame = front(space, n);
@@ -30,6 +31,8 @@ fn reading(name: &[u8], space: &[u8; FRAME_MAX], n: usize) {
         show::eth_header(frame);
     } else if begins(name, b"pl") {
         show::pl_header(frame);
+    } else if begins(name, b"status") {
+        status::status(frame);
     } else {
         show::frame(frame);
     }

@@ -25,7 +25,7 @@ use types::basic::EthernetHeader;
 use types::hal::PowerlinkError;
 
 // The cause's number in 01, and the octet that 01 returns with the numbers from 4 on.
-fn refused(cause: PowerlinkError) {
+pub fn refused(cause: PowerlinkError) {
     octet(b"refused ", cause.number());
     if 4 <= cause.number() {
         octet(b" ", cause.byte());

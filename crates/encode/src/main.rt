@@ -1,4 +1,4 @@
-// Runs the writers of frames at every limit of payload, target and field, and prints a line for each call: what was
+// Runs the writers of frames and StatusResponse at every limit of payload, target and field, and prints a line for each call: what was
 // answered, and what the target holds after it. stdout has what 01 expects, written without the program.
 mod check;
 mod fields;
@@ -9,6 +9,7 @@ mod outcome;
 mod print;
 mod samples;
 mod sections;
+mod status;
 mod whole;
 
 use check::SPACE;
@@ -25,6 +26,7 @@ fn run(payloads: &[u8]) {
     headers::all_eth();
     headers::all_pl();
     whole::all(payloads);
+    status::all();
 }
 
 fn main() {

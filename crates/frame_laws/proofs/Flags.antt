@@ -1,14 +1,9 @@
 -- A flag that is written at its bit is read from it.
 -- Assumes nothing.
-use Prim.Native.Nat.{ℕ, _+_, _/_, _%_, _≤_}
-use mathlib.Core.Path.{_≡_, refl, ap, _∙_}
+use Prim.Native.Nat.{ℕ, _+_}
+use mathlib.Core.Path.{_≡_}
 use mathlib.Core.Bool.{Bool, true, false}
-use native.Mathlib.Nat.{min-eq-left}
-use native.Mathlib.Omega.{arith}
 use Rattle.octets.specs.Numbers.{bit}
-use Rattle.types.specs.PollFlags.{priorityCode, priorityIn, pollOctet}
-use Rattle.types.specs.declared.poll_flags.PRFlag.{PRFlag}
-use Rattle.types.specs.declared.poll_flags.PRFlag.the-variants.{PrioNmtRequest, High3, High2, High1, PrioGenericRequest, Low3, Low2, Low1}
 use Rattle.section.specs.Write.{atBit}
 
 -- two or three flags, case by case
@@ -31,26 +26,3 @@ module _ (i j : ℕ) where
     -- the same for three flags, at bits i, j and k
     abbrev pub Reads3 : ℕ → (Bool → Bool → Bool → Bool) → Type 0
     Reads3 n f = (x y z : Bool) → bit n (atBit i x + atBit j y + atBit k z) ≡ f x y z
-
--- the octet that holds priority and requests, taken apart
-pub priority-back : (p : PRFlag) → priorityIn (priorityCode p) ≡ p
-unfolding priorityIn
-priority-back PrioNmtRequest = refl
-priority-back High3 = refl
-priority-back High2 = refl
-priority-back High1 = refl
-priority-back PrioGenericRequest = refl
-priority-back Low3 = refl
-priority-back Low2 = refl
-priority-back Low1 = refl
-
-module _ (p : PRFlag) (n : ℕ) (h : n ≤ 7) where
-  pub poll-priority : priorityIn (pollOctet p n / 8) ≡ p
-  unfolding pollOctet
-  poll-priority =
-      let e : pollOctet p n / 8 ≡ priorityCode p = rw (min-eq-left h) (omega arith) in
-      ap priorityIn e ∙ priority-back p
-
-  pub poll-requests : pollOctet p n % 8 ≡ n
-  unfolding pollOctet
-  poll-requests = rw (min-eq-left h) (omega arith)

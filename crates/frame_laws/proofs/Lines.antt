@@ -14,8 +14,12 @@ use Rattle.codec.specs.PReq.{readPReq}
 use Rattle.codec.specs.PRes.{presFlags, readPRes}
 use Rattle.codec.specs.SoA.{readSoA}
 use Rattle.codec.specs.SoC.{readSoC}
+use Rattle.status_response.specs.Fields.{readFields}
+use Rattle.status_response.specs.Steps.{statusEntries}
+use Rattle.error_entry.specs.Entry.{entryTypeOf, entryOf}
+use Rattle.types.specs.Modes.{modeIn}
 use Rattle.frame_laws.specs.Lines.{TableHolds}
 
 pub table-holds : TableHolds
-unfolding leAt beAt ethHeaderOf messageOf priorityIn pollOctet requestedOf serviceOf stateOf readASnd asndPayloadLength readFrame readSection deserializeFrame readPReq presFlags readPRes readSoA readSoC
-table-holds = record { frames = refl; flags = refl }
+unfolding leAt beAt ethHeaderOf messageOf priorityIn pollOctet requestedOf serviceOf stateOf readASnd asndPayloadLength readFrame readSection deserializeFrame readPReq presFlags readPRes readSoA readSoC readFields statusEntries entryTypeOf entryOf modeIn
+table-holds = record { frames = refl; statuses = refl; flags = refl }

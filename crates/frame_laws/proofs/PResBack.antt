@@ -11,6 +11,7 @@ use Rattle.octets.specs.Numbers.{leAt}
 use Rattle.octets.proofs.Le.{bytes-back}
 use Rattle.types.specs.Messages.{messageOf}
 use Rattle.types.specs.PollFlags.{pollOctet}
+use Rattle.types.proofs.PollBack.{poll-priority, poll-requests}
 use Rattle.types.proofs.ReadBack.{state-known}
 use Rattle.poll.specs.PRes.{presFlagBits, presBytes, presSection}
 use Rattle.poll.specs.declared.pres.PResFlags.{PResFlags}
@@ -21,7 +22,7 @@ use Rattle.frame.specs.declared.PowerlinkFrame.the-variants.{PRes}
 use Rattle.codec.specs.Frame.{readSection}
 use Rattle.codec.specs.PRes.{presFlags, readPRes}
 use Rattle.codec.specs.declared.FrameAnswer.the-variants.{Frame}
-use Rattle.frame_laws.proofs.Flags.{two, three, Reads3, poll-priority, poll-requests}
+use Rattle.frame_laws.proofs.Flags.{two, three, Reads3}
 
 ms : Reads3 5 4 0 5 (λ x y z. x)
 ms = three _ (two _ refl refl refl refl) (two _ refl refl refl refl)

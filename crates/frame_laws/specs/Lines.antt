@@ -7,7 +7,10 @@ use lib.ListN.{length}
 use Rattle.types.specs.PollFlags.{pollOctet}
 use Rattle.types.specs.declared.poll_flags.PRFlag.the-variants.{PrioNmtRequest}
 use Rattle.codec.specs.Frame.{deserializeFrame, frameCause, payloadOf}
+use Rattle.status_response.specs.Fields.{readFields, statusCause}
+use Rattle.status_response.specs.Steps.{statusEntries}
 use Rattle.frame_laws.specs.FrameLines.{FrameLine, frameLines}
+use Rattle.frame_laws.specs.StatusLines.{StatusLine, statusLines}
 
 -- what reading the line's bytes gives, in the form of a line
 abbrev pub frameOutcome : FrameLine → FrameLine
@@ -19,7 +22,18 @@ frameOutcome l =
       payload = length (payloadOf (deserializeFrame (l .bytes) .«payload_place») (l .bytes));
     }
 
+-- what reading the line's payload gives, in the form of a line
+abbrev pub statusOutcome : StatusLine → StatusLine
+statusOutcome l =
+    record {
+      payload = l .payload;
+      number = statusCause (readFields (l .payload)) .number;
+      returned = statusCause (readFields (l .payload)) .returned;
+      entries = length (statusEntries (l .payload));
+    }
+
 pub record TableHolds : Type 0 where
   pub frames : map frameOutcome frameLines ≡ frameLines
-  -- "pr 7, rs 7: 3Fh", in octet 5 of PRes and octet 1 of a StatusResponse
+  pub statuses : map statusOutcome statusLines ≡ statusLines
+  -- "pr 7, rs 7: 3Fh": the octet that PRes and StatusResponse hold both flags in
   pub flags : pollOctet PrioNmtRequest 7 ≡ 0x3F

@@ -1,4 +1,5 @@
 pub mod Le
+pub mod NumberBack
 pub mod Order
 pub mod ReadBack
 pub mod Sets

@@ -1,7 +1,7 @@
 #!/bin/sh
 # build-oracle.sh SRC OUT: builds the 15 files of powerlink-rs, unchanged, with the stubs beside this script for the modules
-# that did not come with them. SRC/crates/powerlink-rs/src holds the files; OUT gets the tree, the checksums of the files
-# and OUT/{debug,release}/lib{log,powerlink_rs}.rlib. Needs rustc alone.
+# that did not come with them. SRC/crates/powerlink-rs/src holds the files, which must be those of commit 3984eaf980 (SHA256
+# beside this script); OUT gets the tree and OUT/{debug,release}/lib{log,powerlink_rs}.rlib. Needs rustc alone.
 set -eu
 here=$(cd "$(dirname "$0")" && pwd)
 src=$1/crates/powerlink-rs/src
@@ -22,7 +22,7 @@ for f in $files; do
     fi
     cp "$src/$f.rs" "$tree/$f.rs"
 done
-(cd "$tree" && sha256sum $(for f in $files; do echo "$f.rs"; done)) >"$out/SHA256"
+(cd "$tree" && sha256sum --quiet -c "$here/SHA256")
 
 # debug checks overflow, so that a sum that wraps ends the run; release is what is timed
 build() {
@@ -35,4 +35,4 @@ build() {
 }
 build debug -C opt-level=1 -C debug-assertions=on -C overflow-checks=on
 build release -C opt-level=3
-echo "powerlink-rs: built ($(wc -l <"$out/SHA256") files, unchanged)"
+echo "powerlink-rs: built ($(wc -l <"$here/SHA256") files, unchanged)"

@@ -1,7 +1,8 @@
 -- `codec::headers::deserialize_pl_header` meets its contract: each `return` is a case of `deserializePlHeader`.
 -- Assumes nothing.
 use borrow.Author.Needs.{needs}
-use Rattle.codec.proofs.HeaderLaws.{pl-laws}
+use native.Mathlib.Omega.{arith}
+use Rattle.codec.proofs.HeaderLaws.{pl-short, pl-laws}
 use Rattle.codec.proofs.headers.deserialize_pl_header.Statement.{statement}
 use Rattle.codec.proofs.headers.deserialize_pl_header.Tie as tie
 
@@ -9,7 +10,7 @@ pub deserialize-pl-header-spec : {M : Type 1} → statement M
 deserialize-pl-header-spec =
     tie.close
     (tie.spec
-    (λ c. search pl-laws)
+    (λ c. pl-short _ (omega arith))
     (search needs)
     (search needs)
     (search needs)

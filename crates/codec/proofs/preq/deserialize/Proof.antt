@@ -1,7 +1,9 @@
 -- `codec::preq::deserialize` meets its contract: each `return` is a case of `readPReq`.
 -- Assumes nothing.
 use borrow.Author.Needs.{needs}
-use Rattle.codec.proofs.PReqLaws.{preq-laws}
+use native.Mathlib.Omega.{arith}
+use Rattle.codec.proofs.PReqLaws.{preq-short, preq-laws}
+use Rattle.codec.proofs.PollLaws.{payload-cut, payload-fits}
 use Rattle.codec.proofs.preq.deserialize.Statement.{statement}
 use Rattle.codec.proofs.preq.deserialize.Tie as tie
 
@@ -9,10 +11,10 @@ pub deserialize-spec : {M : Type 1} → statement M
 deserialize-spec =
     tie.close
     (tie.spec
-    (λ c. search preq-laws)
+    (λ c. preq-short _ (omega arith))
     (search needs)
     (search needs)
     (search needs)
-    (λ c. search preq-laws)
+    (λ c. let k = payload-cut _ _ _ (c .before .get-u16-le .ensures) (omega arith) in search preq-laws)
     (search needs)
-    (λ c. search preq-laws))
+    (λ c. let k = payload-fits _ _ _ (c .before .before .get-u16-le .ensures) (omega arith) in search preq-laws))

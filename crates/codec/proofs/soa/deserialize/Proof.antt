@@ -1,7 +1,8 @@
 -- `codec::soa::deserialize` meets its contract: each `return` is a case of `readSoA`.
 -- Assumes nothing.
 use borrow.Author.Needs.{needs}
-use Rattle.codec.proofs.SoALaws.{soa-laws}
+use native.Mathlib.Omega.{arith}
+use Rattle.codec.proofs.SoALaws.{soa-short, soa-laws}
 use Rattle.codec.proofs.soa.deserialize.Statement.{statement}
 use Rattle.codec.proofs.soa.deserialize.Tie as tie
 
@@ -9,7 +10,7 @@ pub deserialize-spec : {M : Type 1} → statement M
 deserialize-spec =
     tie.close
     (tie.spec
-    (λ c. search soa-laws)
+    (λ c. soa-short _ (omega arith))
     (search needs)
     (search needs)
     (search needs)

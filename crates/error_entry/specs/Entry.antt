@@ -1,0 +1,54 @@
+-- The 20 octets of an error entry (EPSG DS 301, Tables 94 and 96).
+-- Assumes nothing.
+use Prim.Native.Nat.{ℕ, _+_, _*_, _/_, _%_}
+use mathlib.Core.List.{List, [], _++_}
+use lib.ListN.{length}
+use lib.Dec.{leb}
+use Rattle.octets.specs.Numbers.{bit, leAt, leBytes}
+use Rattle.types.specs.Causes.{Cause, row, causeOf}
+use Rattle.types.specs.Codes.{need}
+use Rattle.types.specs.Modes.{modeCode, modeIn}
+use Rattle.types.specs.declared.hal.PowerlinkError.the-variants.{BufferTooShort}
+use Rattle.section.specs.Write.{atBit}
+use Rattle.error_entry.specs.declared.EntryType.{EntryType}
+use Rattle.error_entry.specs.declared.ErrorEntry.{ErrorEntry}
+use Rattle.error_entry.specs.declared.ErrorEntryAnswer.{ErrorEntryAnswer}
+use Rattle.error_entry.specs.declared.ErrorEntryAnswer.the-variants.{Entry, Refused}
+
+-- bit 15 status entry, bit 14 send to queue, bits 13 to 12 mode, bits 11 to 0 profile
+unfoldable pub entryTypeOf : ℕ → EntryType
+entryTypeOf n =
+    record {
+      «is_status_entry» = bit 15 n;
+      «send_to_queue» = bit 14 n;
+      mode = modeIn (n / 4096 % 16);
+      profile = n % 4096;
+    }
+
+-- the profile is masked to 12 bits
+unfoldable pub typeNumber : EntryType → ℕ
+typeNumber t = atBit 15 (t .«is_status_entry») + atBit 14 (t .«send_to_queue») + 4096 * modeCode (t .mode) + t .profile % 4096
+
+-- octets 0 to 1 type, 2 to 3 code, 4 to 7 seconds, 8 to 11 nanoseconds, 12 to 19 information
+unfoldable pub entryOf : List ℕ → ErrorEntry
+entryOf s =
+    record {
+      «entry_type» = entryTypeOf (leAt 2 0 s);
+      «error_code» = leAt 2 2 s;
+      timestamp = record { seconds = leAt 4 4 s; nanoseconds = leAt 4 8 s };
+      «additional_information» = leAt 8 12 s;
+    }
+
+unfoldable pub entryBytes : ErrorEntry → List ℕ
+entryBytes e =
+    leBytes 2 (typeNumber (e .«entry_type»)) ++ leBytes 2 (e .«error_code») ++ leBytes 4 (e .timestamp .seconds)
+    ++ leBytes 4 (e .timestamp .nanoseconds) ++ leBytes 8 (e .«additional_information»)
+
+-- 20 octets are needed
+unfoldable pub readEntry : List ℕ → ErrorEntryAnswer
+readEntry s = need (leb 20 (length s)) (Refused BufferTooShort) (Entry (entryOf s))
+
+-- 01's number for each case: 0 for what is read
+abbrev pub entryCause : ErrorEntryAnswer → Cause
+entryCause (Entry e) = row 0 []
+entryCause (Refused e) = causeOf e

@@ -1,0 +1,129 @@
+// An entry of the error list of a StatusResponse (powerlink-rs: frame/error/status_response.rs).
+ghost use mathlib.Core.Path.{_≡_};
+ghost use Prim.Native.Nat.{_≤_};
+ghost use lib.Seq.{sets};
+ghost use Rattle.types.specs.Codes.{pick};
+ghost use Rattle.types.specs.Modes.{modeCode};
+ghost use Rattle.section.specs.Write.{Writes};
+ghost use Rattle.error_entry.specs.Entry.{entryTypeOf, typeNumber, entryOf, entryBytes, readEntry};
+use octets::little_endian::get_u16_le;
+use octets::little_endian::get_u32_le;
+use octets::little_endian::get_u64_le;
+use octets::little_endian::put_u16_le;
+use octets::little_endian::put_u32_le;
+use octets::little_endian::put_u64_le;
+use section::WriteAnswer;
+use types::common::NetTime;
+use types::error_mode::ErrorEntryMode;
+use types::hal::PowerlinkError;
+
+// The type of an entry (EPSG DS 301, Table 96).
+pub struct EntryType {
+    // A status entry shows what is wrong now; any other is an entry of the history.
+    pub is_status_entry: bool,
+    pub send_to_queue: bool,
+    pub mode: ErrorEntryMode,
+    // The profile that defines the code; 12 bits of it are sent.
+    pub profile: u16,
+}
+
+// An entry (EPSG DS 301, Table 94).
+pub struct ErrorEntry {
+    pub entry_type: EntryType,
+    pub error_code: u16,
+    pub timestamp: NetTime,
+    pub additional_information: u64,
+}
+
+pub enum ErrorEntryAnswer {
+    Entry(ErrorEntry),
+    Refused(PowerlinkError),
+}
+
+impl EntryType {
+    pub fn from_u16(value: u16) -> EntryType
+        ensures { λ r. ⌜ r ≡ entryTypeOf value ⌝ }
+    {
+        EntryType {
+            is_status_entry: value / 0x8000 % 2 == 1,
+            send_to_queue: value / 0x4000 % 2 == 1,
+            mode: ErrorEntryMode::from_bits((value / 0x1000 % 0x10) as u8),
+            profile: value % 0x1000,
+        }
+    }
+
+    // The profile loses what lies above its 12 bits.
+    pub fn to_u16(self) -> u16
+        ensures { λ r. ⌜ r ≡ typeNumber self ⌝ }
+    {
+        let mode = self.mode;
+        let high = bit(self.is_status_entry, 0x8000) + bit(self.send_to_queue, 0x4000);
+        high + 0x1000 * mode_bits(mode) + self.profile % 0x1000
+    }
+}
+
+// The weight of a flag in the 16 bits of the type.
+fn bit(on: bool, weight: u16) -> u16
+    ensures { λ r. ⌜ (r ≡ pick on weight 0) × (r ≤ weight) ⌝ }
+{
+    if on { weight } else { 0 }
+}
+
+// The mode as the two bits that it takes.
+fn mode_bits(mode: ErrorEntryMode) -> u16
+    ensures { λ r. ⌜ (r ≡ modeCode mode) × (r ≤ 3) ⌝ }
+{
+    mode.to_u8() as u16
+}
+
+impl ErrorEntry {
+    // The entry that the first 20 octets are.
+    pub fn deserialize(buffer: &[u8]) -> ErrorEntryAnswer
+        ensures { λ r. ⌜ r ≡ readEntry (now (buffer .entry)) ⌝ }
+    {
+        if buffer.len() < 20 {
+            return ErrorEntryAnswer::Refused(PowerlinkError::BufferTooShort);
+        }
+        ErrorEntryAnswer::Entry(entry_at(buffer))
+    }
+
+    // Writes the 20 octets, if they fit.
+    pub fn serialize(self, target: &mut [u8]) -> WriteAnswer
+        ensures { λ r. ⌜ Writes (entryBytes self) r (now (target .entry)) (now (target .exit)) ⌝ }
+    {
+        if target.len() < 20 {
+            return WriteAnswer::Refused(PowerlinkError::BufferTooShort);
+        }
+        self.put(target);
+        WriteAnswer::Written(20)
+    }
+
+    // Writes the 20 octets to the front of `target`, each field straight to its place. What does not fit is dropped: for
+    // callers that have tested the length.
+    pub fn put(self, target: &mut [u8])
+        ensures { λ _. ⌜ now (target .exit) ≡ sets (now (target .entry)) 0 (entryBytes self) ⌝ }
+    {
+        let entry_type = self.entry_type;
+        put_u16_le(target, 0, entry_type.to_u16());
+        put_u16_le(target, 2, self.error_code);
+        put_u32_le(target, 4, self.timestamp.seconds);
+        put_u32_le(target, 8, self.timestamp.nanoseconds);
+        put_u64_le(target, 12, self.additional_information);
+    }
+}
+
+// The entry that the first 20 octets are, those past the end counting as 0.
+pub fn entry_at(s: &[u8]) -> ErrorEntry
+    ensures { λ r. ⌜ r ≡ entryOf (now (s .entry)) ⌝ }
+{
+    let entry_type = EntryType::from_u16(get_u16_le(s, 0));
+    ErrorEntry {
+        entry_type,
+        error_code: get_u16_le(s, 2),
+        timestamp: NetTime {
+            seconds: get_u32_le(s, 4),
+            nanoseconds: get_u32_le(s, 8),
+        },
+        additional_information: get_u64_le(s, 12),
+    }
+}

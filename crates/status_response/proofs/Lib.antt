@@ -1,0 +1,7 @@
+pub mod Again
+pub mod Lent
+pub mod Places
+pub mod ReadBack
+pub mod StepLaws
+pub mod StepsBack
+pub mod WriteLaws

@@ -1,0 +1,76 @@
+-- Where the entries stand in the target, when they fit, and how many of a batch are meant.
+-- Assumes nothing.
+use Prim.Native.Nat.{ℕ, zero, suc, _+_, _*_, _-_, _/_, _≤_, _<_}
+use mathlib.Core.Path.{_≡_, refl, sym, _∙_}
+use mathlib.Core.Bool.{Bool, true, false}
+use mathlib.Core.List.{List, _++_, append-assoc, append-nil}
+use native.Mathlib.Omega.{arith}
+use lib.Dec.{leb, ltb}
+use lib.ListN.{length, take, drop, length-drop, drop-of-length-le}
+use lib.Seq.{sets, length-sets, sets-eq, take-all, drop-drop}
+use borrow.Author.Tests.{ltb-true, ltb-false, leb-true, leb-false, le-leb, lt-leb}
+use borrow.Rule.Slice.PartMut.{midOf, putMid}
+use Rattle.octets.proofs.Sets.{sets-front}
+use Rattle.error_entry.specs.Entry.{entryBytes}
+use Rattle.error_entry.specs.declared.ErrorEntry.{ErrorEntry}
+use Rattle.status_response.specs.Parts.{batchCount, entriesFit, entryAtPlace, entriesPut}
+
+pub entry-length : (e : ErrorEntry) → length (entryBytes e) ≡ 20
+unfolding entryBytes
+entry-length e = refl
+
+-- a write to the front of the rest of a list is a write of the whole
+pub sets-rest : (at : ℕ) (t vs : List ℕ) → at + length vs ≤ length t
+    → putMid at (length t - at) t (sets (midOf at (length t - at) t) 0 vs) ≡ sets t at vs
+sets-rest at t vs h =
+    let rest : midOf at (length t - at) t ≡ drop at t = take-all (length t - at) (drop at t) (simp length-drop (omega arith)) in
+    let front : sets (drop at t) 0 vs ≡ vs ++ drop (at + length vs) t =
+    sets-front (drop at t) vs (simp length-drop (omega arith)) ∙ rw (drop-drop (length vs) at t) in
+    rw (rest, front, drop-of-length-le (drop at t) {i = length t - at} (simp length-drop (omega arith)), append-nil, sets-eq vs t at h, append-assoc)
+
+module _ (n len : ℕ) where
+  pub fit-short : len < 34 → false ≡ entriesFit n len
+  unfolding entriesFit
+  fit-short h = sym (lt-leb (34 + 20 * n) len (omega arith))
+
+  pub fit-long : 34 ≤ len → leb n ((len - 34) / 20) ≡ entriesFit n len
+  unfolding entriesFit
+  fit-long h = split (leb n ((len - 34) / 20)) refl
+    where
+      split : (b : Bool) → leb n ((len - 34) / 20) ≡ b → leb n ((len - 34) / 20) ≡ leb (34 + 20 * n) len
+      split true e = e ∙ sym (le-leb (34 + 20 * n) len (omega (arith, leb-true n ((len - 34) / 20) e)))
+      split false e = e ∙ sym (lt-leb (34 + 20 * n) len (omega (arith, leb-false n ((len - 34) / 20) e)))
+
+  pub fit-true : entriesFit n len ≡ true → 34 + 20 * n ≤ len
+  unfolding entriesFit
+  fit-true e = leb-true (34 + 20 * n) len e
+
+  pub fit-false : entriesFit n len ≡ false → len < 34 + 20 * n
+  unfolding entriesFit
+  fit-false e = leb-false (34 + 20 * n) len e
+
+module _ (es : List ErrorEntry) (t : List ℕ) where
+  -- the target keeps its length
+  pub put-length : (i : ℕ) → length (entriesPut es t i) ≡ length t
+  put-length zero = refl
+  put-length (suc i) = length-sets (entriesPut es t i) (14 + 20 * i) (entryBytes (entryAtPlace es i)) ∙ put-length i
+
+  -- each entry of a list that fits has its place
+  pub place-fits : (i : ℕ) → i < length es → 34 + 20 * length es ≤ length t → 34 + 20 * i ≤ length (entriesPut es t i)
+  place-fits i l h = omega (arith, put-length i)
+
+module _ (n : ℕ) where
+  pub count-small : batchCount n ≤ 4
+  count-small = split (ltb n 4) refl
+    where
+      split : (b : Bool) → ltb n 4 ≡ b → batchCount n ≤ 4
+      split true e = rw e (omega (arith, ltb-true n 4 e))
+      split false e = rw e (omega arith)
+
+  -- what lies above four adds no entry
+  pub count-takes : {A : Type 0} (batch : List A) → length batch ≡ 4 → take (batchCount n) batch ≡ take n batch
+  count-takes batch h = split (ltb n 4) refl
+    where
+      split : (b : Bool) → ltb n 4 ≡ b → take (batchCount n) batch ≡ take n batch
+      split true e = rw e
+      split false e = rw e (take-all 4 batch (omega arith) ∙ sym (take-all n batch (omega (arith, ltb-false n 4 e))))

@@ -1,0 +1,35 @@
+-- `entries::put_entry` meets its contract: the rest of the target from the entry's place on is written at its front.
+-- Assumes nothing.
+use mathlib.Core.Path.{ap, _∙_}
+use mathlib.Core.List.{List}
+use Prim.Native.Nat.{ℕ, _+_, _*_, _-_}
+use native.Mathlib.Omega.{arith}
+use lib.ListN.{length}
+use borrow.Author.Needs.{needs}
+use borrow.Rule.Slice.PartMut.{putMid}
+use Rattle.error_entry.specs.Entry.{entryBytes}
+use Rattle.status_response.proofs.Places.{entry-length, sets-rest}
+use Rattle.status_response.proofs.entries.put_entry.Statement.{statement}
+use Rattle.status_response.proofs.entries.put_entry.Tie as tie
+
+returns : tie.Need-returns
+returns c =
+    let p = c .before .before in
+    let a = p .before .before .before .args in
+    let at : ℕ = 14 + 20 * a .i in
+    let t : List ℕ = a .target .now in
+    ap (λ (l : List ℕ). putMid at (length t - at) t l) (p .put .ensures)
+    ∙ sets-rest at t (entryBytes (a .e)) (omega (arith, entry-length (a .e)))
+
+pub put-entry-spec : {M : Type 1} → statement M
+put-entry-spec =
+    tie.close
+    (tie.spec
+    (search needs)
+    (search needs)
+    (search needs)
+    (search needs)
+    (search needs)
+    (search needs)
+    (search needs)
+    returns)

@@ -1,0 +1,5 @@
+pub mod BitField
+pub mod Fields
+pub mod Parts
+pub mod ReadBack
+pub mod Steps

@@ -1,0 +1,86 @@
+// The static error bit field (EPSG DS 301, 6.5.8.1; 01: the error field).
+ghost use mathlib.Core.Path.{_≡_};
+ghost use Rattle.section.specs.Write.{Writes};
+ghost use Rattle.status_response.specs.BitField.{fieldOf, fieldBytes, readField};
+use octets::slices::byte_at;
+use section::WriteAnswer;
+use section::write;
+use types::hal::PowerlinkError;
+
+pub struct StaticErrorBitField {
+    pub error_register: u8,
+    // Bits of the device profile or of the vendor.
+    pub specific_errors: [u8; 7],
+}
+
+pub enum ErrorFieldAnswer {
+    Read,
+    Refused(PowerlinkError),
+}
+
+// The field stands beside the answer; where it is refused, octets past the end count as 0.
+pub struct DeserializedErrorField {
+    pub field: StaticErrorBitField,
+    pub answer: ErrorFieldAnswer,
+}
+
+impl StaticErrorBitField {
+    // The 8 octets of the field.
+    pub fn to_bytes(self) -> [u8; 8]
+        ensures { λ r. ⌜ r ≡ fieldBytes self ⌝ }
+    {
+        let s = self.specific_errors;
+        [
+            self.error_register,
+            s[0],
+            s[1],
+            s[2],
+            s[3],
+            s[4],
+            s[5],
+            s[6],
+        ]
+    }
+
+    // Writes the 8 octets, if they fit.
+    pub fn serialize(self, target: &mut [u8]) -> WriteAnswer
+        ensures { λ r. ⌜ Writes (fieldBytes self) r (now (target .entry)) (now (target .exit)) ⌝ }
+    {
+        write(&self.to_bytes(), target)
+    }
+
+    // Reads the first 8 octets.
+    pub fn deserialize(buffer: &[u8]) -> DeserializedErrorField
+        ensures { λ r. ⌜ r ≡ readField (now (buffer .entry)) ⌝ }
+    {
+        let field = field_at(buffer);
+        if buffer.len() < 8 {
+            return DeserializedErrorField {
+                field,
+                answer: ErrorFieldAnswer::Refused(PowerlinkError::BufferTooShort),
+            };
+        }
+        DeserializedErrorField {
+            field,
+            answer: ErrorFieldAnswer::Read,
+        }
+    }
+}
+
+// The field that the first 8 octets are, those past the end counting as 0.
+pub fn field_at(s: &[u8]) -> StaticErrorBitField
+    ensures { λ r. ⌜ r ≡ fieldOf (now (s .entry)) ⌝ }
+{
+    StaticErrorBitField {
+        error_register: byte_at(s, 0),
+        specific_errors: [
+            byte_at(s, 1),
+            byte_at(s, 2),
+            byte_at(s, 3),
+            byte_at(s, 4),
+            byte_at(s, 5),
+            byte_at(s, 6),
+            byte_at(s, 7),
+        ],
+    }
+}

@@ -1,0 +1,102 @@
+// The 14 octets in front of the error entries (EPSG DS 301, Table 136).
+ghost use mathlib.Core.Path.{_≡_};
+ghost use Prim.Native.Nat.{_≤_};
+ghost use lib.ListN.{length};
+ghost use Rattle.status_response.specs.Fields.{fieldsOf, headBytes, readStatus};
+use crate::bit_field::StaticErrorBitField;
+use crate::bit_field::field_at;
+use octets::slices::tail;
+use section::flag;
+use types::hal::PowerlinkError;
+use types::poll_flags::PRFlag;
+use types::poll_flags::RSFlag;
+use types::poll_flags::poll_octet;
+use types::states::NmtState;
+use types::states::NmtStateAnswer;
+
+// What stands in front of the entries, but for the error field, which stands beside it.
+pub struct StatusFields {
+    // Exception new.
+    pub en_flag: bool,
+    // Exception clear.
+    pub ec_flag: bool,
+    pub pr: PRFlag,
+    pub rs: RSFlag,
+    pub nmt_state: NmtState,
+}
+
+pub enum StatusAnswer {
+    Status(StatusFields),
+    Refused(PowerlinkError),
+}
+
+// The error field stands beside the answer; where the payload is refused, octets past the end count as 0.
+pub struct DeserializedStatus {
+    pub static_error_bit_field: StaticErrorBitField,
+    pub answer: StatusAnswer,
+}
+
+// Reads what stands in front of the entries.
+pub fn deserialize(payload: &[u8]) -> DeserializedStatus
+    ensures { λ r. ⌜ r ≡ readStatus (now (payload .entry)) ⌝ }
+{
+    let static_error_bit_field = field_at(tail(payload, 6));
+    if payload.len() < 14 {
+        return DeserializedStatus {
+            static_error_bit_field,
+            answer: StatusAnswer::Refused(PowerlinkError::BufferTooShort),
+        };
+    }
+    match NmtState::from_u8(payload[2]) {
+        NmtStateAnswer::Unknown(b) => DeserializedStatus {
+            static_error_bit_field,
+            answer: StatusAnswer::Refused(PowerlinkError::InvalidNmtState(b)),
+        },
+        NmtStateAnswer::Known(state) => DeserializedStatus {
+            static_error_bit_field,
+            answer: StatusAnswer::Status(fields(payload, state)),
+        },
+    }
+}
+
+// The fields of a payload that has passed the tests.
+fn fields(payload: &[u8], nmt_state: NmtState) -> StatusFields
+    requires { ⌜ 14 ≤ length (now payload) ⌝ }
+    ensures { λ r. ⌜ r ≡ fieldsOf (now (payload .entry)) «nmt_state» ⌝ }
+{
+    StatusFields {
+        en_flag: payload[0] / 0x20 % 2 == 1,
+        ec_flag: payload[0] / 0x10 % 2 == 1,
+        pr: PRFlag::from_bits(payload[1] / 8),
+        rs: RSFlag(payload[1] % 8),
+        nmt_state,
+    }
+}
+
+impl StatusFields {
+    // The 14 octets, with the error field.
+    pub fn to_bytes(self, field: StaticErrorBitField) -> [u8; 14]
+        ensures { λ r. ⌜ r ≡ headBytes self field ⌝ }
+    {
+        let pr = self.pr;
+        let rs = self.rs;
+        let state = self.nmt_state;
+        let f = field.to_bytes();
+        [
+            flag(self.en_flag, 0x20) + flag(self.ec_flag, 0x10),
+            poll_octet(pr, rs),
+            state.to_u8(),
+            0,
+            0,
+            0,
+            f[0],
+            f[1],
+            f[2],
+            f[3],
+            f[4],
+            f[5],
+            f[6],
+            f[7],
+        ]
+    }
+}

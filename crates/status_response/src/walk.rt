@@ -1,0 +1,64 @@
+// The walk over the entries of a payload: it holds the payload's bytes and the offset of the next entry.
+ghost use mathlib.Core.Path.{_≡_};
+ghost use Rattle.status_response.specs.Steps.{stepAt};
+use error_entry::ErrorEntry;
+use error_entry::entry_at;
+use octets::slices::tail;
+use types::error_mode::ErrorEntryMode;
+
+// What a step finds: an entry with the offset after it, or the end of the list.
+pub enum EntryStep {
+    Entry(ErrorEntry, usize),
+    End,
+}
+
+pub struct EntryWalk<'a> {
+    pub payload: &'a [u8],
+    pub offset: usize,
+}
+
+// The work of a step: the entry at an offset with the offset after it, or the end.
+fn entry_step(payload: &[u8], offset: usize) -> EntryStep
+    ensures { λ r. ⌜ r ≡ stepAt (now (payload .entry)) offset ⌝ }
+{
+    let n = payload.len();
+    if n < 20 {
+        return EntryStep::End;
+    }
+    if n - 20 < offset {
+        return EntryStep::End;
+    }
+    let entry = entry_at(tail(payload, offset));
+    let entry_type = entry.entry_type;
+    let mode = entry_type.mode;
+    match mode {
+        ErrorEntryMode::Terminator => EntryStep::End,
+        ErrorEntryMode::ErrorActive => EntryStep::Entry(entry, offset + 20),
+        ErrorEntryMode::ErrorCleared => EntryStep::Entry(entry, offset + 20),
+        ErrorEntryMode::EventOccurred => EntryStep::Entry(entry, offset + 20),
+    }
+}
+
+// A walk from the first entry of a payload on.
+pub fn new<'a>(payload: &'a [u8]) -> EntryWalk<'a>
+    ensures { λ r. ⌜ (r .payload ≡ payload .entry) × (r .offset ≡ 14) ⌝ }
+{
+    EntryWalk {
+        payload,
+        offset: 14,
+    }
+}
+
+// One step: the entry at the walk's offset with the offset after it, or the end.
+pub fn step<'a>(w: EntryWalk<'a>) -> EntryStep
+    ensures { λ s. ⌜ s ≡ stepAt (now (w .entry .payload)) (w .entry .offset) ⌝ }
+{
+    entry_step(w.payload, w.offset)
+}
+
+// A step from a plain slice and an offset, through the walk.
+pub fn step_from(payload: &[u8], offset: usize) -> EntryStep
+    ensures { λ r. ⌜ r ≡ stepAt (now (payload .entry)) offset ⌝ }
+{
+    step(EntryWalk { payload, offset })
+}
