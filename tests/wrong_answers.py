@@ -25,7 +25,7 @@ UNPROVED = re.compile(r'^fn \w+::(\S+): no proof: .* does not close ', re.M)
 # Not looked at, since something that it builds on failed.
 PASSED_OVER = re.compile(r'was not admitted')
 # The proof file is one of other code.
-UNFIT = re.compile(r'can be named from here|has no\s+field|needs a function|`omega` does not read|the two types are ')
+UNFIT = re.compile(r'can be named from here|has no\s+field|needs a function|`omega` does not read|the two types are (?!identical)')
 
 
 def errors(log):

@@ -41,6 +41,16 @@ pub struct DeserializedFrame {
     pub payload_place: PayloadPlace,
 }
 
+impl DeserializedFrame {
+    // The Ethernet header in front of what was read.
+    pub fn ethernet_header(self) -> EthernetHeader
+        ensures { λ r. ⌜ r ≡ self .«eth_header» ⌝ }
+    {
+        let header = self.eth_header;
+        header
+    }
+}
+
 // Reads a frame, from its Ethernet header on.
 pub fn deserialize_frame(buffer: &[u8]) -> DeserializedFrame
     ensures { λ r. ⌜ Reads (now (buffer .entry)) r ⌝ }

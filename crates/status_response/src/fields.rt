@@ -14,6 +14,11 @@ use types::poll_flags::poll_octet;
 use types::states::NmtState;
 use types::states::NmtStateAnswer;
 
+// The bits of EN and EC in octet 0: 5 and 4 (docs/DIFFERENCES.md: others read 4 and 3).
+const EN: u8 = 0x20;
+
+const EC: u8 = 0x10;
+
 // What stands in front of the entries, but for the error field, which stands beside it.
 pub struct StatusFields {
     // Exception new.
@@ -65,8 +70,8 @@ fn fields(payload: &[u8], nmt_state: NmtState) -> StatusFields
     ensures { λ r. ⌜ r ≡ fieldsOf (now (payload .entry)) «nmt_state» ⌝ }
 {
     StatusFields {
-        en_flag: payload[0] / 0x20 % 2 == 1,
-        ec_flag: payload[0] / 0x10 % 2 == 1,
+        en_flag: payload[0] / EN % 2 == 1,
+        ec_flag: payload[0] / EC % 2 == 1,
         pr: PRFlag::from_bits(payload[1] / 8),
         rs: RSFlag(payload[1] % 8),
         nmt_state,
@@ -83,7 +88,7 @@ impl StatusFields {
         let state = self.nmt_state;
         let f = field.to_bytes();
         [
-            flag(self.en_flag, 0x20) + flag(self.ec_flag, 0x10),
+            flag(self.en_flag, EN) + flag(self.ec_flag, EC),
             poll_octet(pr, rs),
             state.to_u8(),
             0,
