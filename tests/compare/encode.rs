@@ -1,12 +1,14 @@
 //! What powerlink-rs writes, line for line as our program `encode` prints it: each line of standard input of the form
-//! `KIND payload N target L: ..` is answered by what the Rust makes of the same frame, payload and target.
+//! `KIND payload N target L: ..` or `status entries N target L: ..` is answered by what the Rust makes of the same frame or
+//! entries and the same target.
 use powerlink_rs::PowerlinkError;
 use powerlink_rs::common::{NetTime, RelativeTime};
 use powerlink_rs::frame::basic::MacAddress;
 use powerlink_rs::frame::control::{SoAFlags, SocFlags};
+use powerlink_rs::frame::error::{EntryType, ErrorEntry, ErrorEntryMode};
 use powerlink_rs::frame::poll::{PReqFlags, PResFlags};
 use powerlink_rs::frame::{ASndFrame, PReqFrame, PResFrame, PowerlinkFrame, SoAFrame, SocFrame};
-use powerlink_rs::frame::{PRFlag, RSFlag, RequestedServiceId, ServiceId};
+use powerlink_rs::frame::{PRFlag, RSFlag, RequestedServiceId, ServiceId, StaticErrorBitField, StatusResponsePayload};
 use powerlink_rs::nmt::states::NmtState;
 use powerlink_rs::pdo::PDOVersion;
 use powerlink_rs::types::{EPLVersion, NodeId};
@@ -58,6 +60,40 @@ fn written(target: &[u8], n: usize, fixed: usize, payload: &[u8]) -> String {
     format!("written {n}, front {}{lent}, zeros {}, rest as it was", hex(&target[..fixed]), n - used)
 }
 
+fn entry(flags: (bool, bool), mode: ErrorEntryMode, profile: u16, code: u16, time: (u32, u32), information: u64) -> ErrorEntry {
+    ErrorEntry {
+        entry_type: EntryType { is_status_entry: flags.0, send_to_queue: flags.1, mode, profile },
+        error_code: code,
+        timestamp: NetTime { seconds: time.0, nanoseconds: time.1 },
+        additional_information: information,
+    }
+}
+
+/// The StatusResponse that `encode` writes, with the first `n` of its four entries.
+fn status(n: usize) -> StatusResponsePayload {
+    let entries = [
+        entry((true, false), ErrorEntryMode::ErrorActive, 0xFFFF, 0x5678, (67305985, 134678021), 1157159078456920585),
+        entry((false, true), ErrorEntryMode::EventOccurred, 1, 1, (2, 3), 4),
+        entry((false, false), ErrorEntryMode::Terminator, 5, 6, (7, 8), 9),
+        entry((true, true), ErrorEntryMode::ErrorCleared, 0x123, 0xFEFF, (u32::MAX, 0), u64::MAX),
+    ];
+    let field = StaticErrorBitField { error_register: 0xA1, specific_errors: [0xB1, 0xB2, 0xB3, 0xB4, 0xB5, 0xB6, 0xB7] };
+    let (pr, rs, state) = (PRFlag::High3, RSFlag::new(9), NmtState::NmtOperational);
+    StatusResponsePayload::new(true, false, pr, rs, state, field, entries[..n.min(4)].to_vec())
+}
+
+fn status_answer(n: usize, len: usize) -> String {
+    let mut target = vec![FILL; len];
+    match status(n).serialize(&mut target) {
+        Ok(length) => written(&target, length, length - 20, &[]),
+        Err(error) => {
+            assert_eq!(error, PowerlinkError::BufferTooShort);
+            assert!(target.iter().all(|&b| b == FILL));
+            "refused 1, target as it was".into()
+        }
+    }
+}
+
 fn answer(kind: &str, n: usize, len: usize) -> String {
     let payload: Vec<u8> = (0..n).map(|i| (i % 251) as u8 + 1).collect();
     let (frame, fixed) = sample(kind, payload.clone());
@@ -77,8 +113,11 @@ fn answer(kind: &str, n: usize, len: usize) -> String {
 fn main() {
     for line in io::stdin().lines().map(Result::unwrap) {
         let words: Vec<&str> = line.split([' ', ':']).collect();
-        if let [kind, "payload", n, "target", len, ..] = words[..] {
-            println!("{kind} payload {n} target {len}: {}", answer(kind, n.parse().unwrap(), len.parse().unwrap()));
-        }
+        let [kind, of, n, "target", len, ..] = words[..] else {
+            panic!("not a line of these: {line}");
+        };
+        let (count, length) = (n.parse().unwrap(), len.parse().unwrap());
+        let answer = if of == "entries" { status_answer(count, length) } else { answer(kind, count, length) };
+        println!("{kind} {of} {n} target {len}: {answer}");
     }
 }

@@ -31,7 +31,7 @@ for seen in 'soc dst' 'soa dst' 'preq dst' 'pres dst' 'asnd dst' 'en 1' 'ec 1' '
     fi
 done
 program encode
-grep -E '^[a-z]+ payload [0-9]+ target' crates/encode/stdout >"$out/encode.txt"
+grep -E '^[a-z]+ (payload|entries) [0-9]+ target' crates/encode/stdout >"$out/encode.txt"
 "$out/encode" <"$out/encode.txt" | diff "$out/encode.txt" -
 
 echo "writing: $(wc -l <"$out/encode.txt") answers are equal"
