@@ -1,6 +1,7 @@
 //! Lists the code tables of powerlink-rs, octet by octet, then its addresses and IDs, in the form of our program `demo`.
 use powerlink_rs::frame::error::ErrorEntryMode;
-use powerlink_rs::frame::{PRFlag, RequestedServiceId, ServiceId};
+use powerlink_rs::PowerlinkError;
+use powerlink_rs::frame::{PRFlag, PowerlinkFrame, RequestedServiceId, ServiceId, StatusResponsePayload, deserialize_frame};
 use powerlink_rs::nmt::states::NmtState;
 use powerlink_rs::types::{self, MessageType};
 use std::fmt::Debug;
@@ -14,6 +15,20 @@ fn list<T: Copy + Debug>(name: &str, end: u16, read: impl Fn(u8) -> Option<T>, c
         }
     }
     println!();
+}
+
+/// How many entries the chain of ASnd and StatusResponse finds in a section of `len` octets with service 2, zeros but for
+/// the octets given.
+fn chain(len: usize, octets: &[(usize, u8)]) -> Result<usize, PowerlinkError> {
+    let mut f = vec![0; 14 + len];
+    f[12..18].copy_from_slice(&[0x88, 0xAB, 6, 0, 0, 2]);
+    for (at, b) in octets {
+        f[14 + at] = *b;
+    }
+    let PowerlinkFrame::ASnd(asnd) = deserialize_frame(&f)? else {
+        panic!("an ASnd is read as another kind");
+    };
+    Ok(StatusResponsePayload::deserialize(&asnd.payload)?.error_entries.len())
 }
 
 fn address(name: &str, a: [u8; 6]) {
@@ -36,6 +51,10 @@ fn main() {
     println!("managing node: {}", types::C_ADR_MN_DEF_NODE_ID);
     println!("last controlled node: {}", types::C_ADR_MAX_CN_NODE_ID);
     println!("all nodes: {}", types::C_ADR_BROADCAST_NODE_ID);
+
+    // docs/DIFFERENCES.md: ASnd then StatusResponse loses what trimming takes; our `decode` has both payloads untrimmed.
+    assert_eq!(chain(46, &[]), Err(PowerlinkError::BufferTooShort));
+    assert_eq!(chain(46, &[(19, 0x10)]), Ok(0));
 
     // docs/DIFFERENCES.md: a priority above 7 is masked there and refused here.
     for b in 8..=255u8 {

@@ -110,7 +110,19 @@ fn answer(kind: &str, n: usize, len: usize) -> String {
     }
 }
 
+/// Every target under the smallest section, with every payload that a padded section holds: `answer` looks at what a
+/// refused writer has left.
+fn short_targets() {
+    for kind in ["soc", "soa", "preq", "pres", "asnd"] {
+        let most = if kind == "soc" || kind == "soa" { 0 } else { 42 };
+        for (n, len) in (0..=most).flat_map(|n| (0..46).map(move |len| (n, len))) {
+            assert_eq!(answer(kind, n, len), "refused 1, target as it was");
+        }
+    }
+}
+
 fn main() {
+    short_targets();
     for line in io::stdin().lines().map(Result::unwrap) {
         let words: Vec<&str> = line.split([' ', ':']).collect();
         let [kind, of, n, "target", len, ..] = words[..] else {
