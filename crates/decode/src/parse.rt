@@ -1,5 +1,5 @@
 // The octets that a line writes.
-ghost use Prim.Native.Nat.{_≤_};
+ghost use Prim.Native.Nat.{_≤_, max};
 ghost use lib.ListN.{length};
 use octets::slices::tail;
 
@@ -23,10 +23,9 @@ enum Number {
     Malformed,
 }
 
-// The place of the first `b` in `s` from `from` on, or the length where there is none.
+// The place of the first `b` in `s` from `from` on. Where there is none it is the length, or `from` where that is past it.
 pub fn find(s: &[u8], from: usize, b: u8) -> usize
-    requires { ⌜ from ≤ length (now s) ⌝ }
-    ensures { λ r. ⌜ (from ≤ r) × (r ≤ length (now (s .entry))) ⌝ }
+    ensures { λ r. ⌜ (from ≤ r) × (r ≤ max from (length (now (s .entry)))) ⌝ }
 {
     let mut i = from;
     while i < s.len() {
