@@ -1,4 +1,4 @@
-//! Lists the code tables of powerlink-rs, octet by octet, then its addresses and IDs, in the form of our program `demo`.
+//! Lists the code tables of powerlink-rs, octet by octet, then its addresses and IDs, in the form of our program `codes`.
 use powerlink_rs::frame::error::ErrorEntryMode;
 use powerlink_rs::PowerlinkError;
 use powerlink_rs::frame::{PRFlag, PowerlinkFrame, RequestedServiceId, ServiceId, StatusResponsePayload, deserialize_frame};

@@ -13,7 +13,7 @@ program() {
 
 program codes
 "$out/codes" >"$out/codes.txt"
-diff "$out/codes.txt" crates/demo/stdout
+diff "$out/codes.txt" crates/codes/stdout
 
 # The hand-written cases, then frames that the Rust makes.
 program decode

@@ -1,0 +1,29 @@
+-- `list` is safe and ends: the octet is at most 256 at the loop's head, and what is left of the 256 falls.
+-- Assumes nothing.
+use Prim.Native.Nat.{_-_, _≤_}
+use borrow.Author.Needs.{needs}
+use Rattle.codes.proofs.list.Statement.{statement}
+use Rattle.codes.proofs.list.Tie as tie
+
+abbrev Inv-loop : tie.InvT-loop
+Inv-loop name table b₀ t4 b = b ≤ 256
+
+abbrev μ-loop : tie.MeasureT-loop
+μ-loop name table b₀ t4 b = 256 - b
+
+pub list-spec : {M : Type 1} → statement M
+list-spec =
+    tie.close
+    (tie.spec
+    Inv-loop
+    μ-loop
+    (search needs)
+    (search needs)
+    (search needs)
+    (search needs)
+    (search needs)
+    (search needs)
+    (search needs)
+    (search needs)
+    (search needs)
+    (search needs))

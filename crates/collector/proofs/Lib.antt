@@ -1,0 +1,11 @@
+pub mod AnswerLaws
+pub mod BatchLaws
+pub mod BlockLaws
+pub mod BookLaws
+pub mod CallLaws
+pub mod IdLaws
+pub mod Meaning
+pub mod PlacedLaws
+pub mod RegisterLaws
+pub mod Rows
+pub mod WalkLaws

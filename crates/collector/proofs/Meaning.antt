@@ -1,0 +1,214 @@
+-- What the calls make of a state, by node ID: laws over plain lists of octets.
+-- Assumes nothing.
+use Prim.Native.Nat.{ℕ, zero, suc, _+_, _*_, _≤_, _<_}
+use mathlib.Core.Path.{_≡_, refl, sym, ap, _∙_}
+use mathlib.Core.Bool.{Bool, true, false, Bool·beq}
+use mathlib.Core.List.{List}
+use mathlib.Core.Logic.{⊎-elim}
+use mathlib.Core.Option.{none, some}
+use native.Mathlib.Omega.{arith}
+use lib.ListN.{length, getD, replicate}
+use lib.Seq.{getD-drop}
+use lib.Dec.{leb}
+use borrow.Author.Tests.{leb-true}
+use Rattle.octets.proofs.NumberBack.{Octets}
+use Rattle.octets.proofs.Order.{le-or-lt}
+use Rattle.types.specs.Codes.{need, pick}
+use Rattle.types.specs.Header.{ethBytes}
+use Rattle.section.specs.Write.{padded}
+use Rattle.control.specs.SoA.{soaSection}
+use Rattle.frame.specs.Write.{frameBytes}
+use Rattle.codec.specs.Frame.{readFrame}
+use Rattle.error_entry.specs.declared.ErrorEntry.{ErrorEntry}
+use Rattle.status_response.specs.Fields.{readFields}
+use Rattle.status_response.specs.Steps.{statusEntries}
+use Rattle.status_response.specs.declared.fields.StatusAnswer.{StatusAnswer}
+use Rattle.status_response.specs.declared.fields.StatusAnswer.the-variants as status
+use Rattle.collector.specs.Layout.{block, nodeIn, findOf, slotOf, countIn, bookIn, accountIn, accountOf, vacantOf, boxOf, freshBytes, registerBytes, readBytes, bookingBytes, bookedBytes, takenBytes, takeBytes}
+use Rattle.collector.specs.Rules.{Account, Box, Same, freshBox, withAccount, registerAnswer, afterRegister, heardIn, enIn, statusPayload, bookAnswer, statusAnswer, heardAnswer, readAnswer, bookedAccount, afterBooking, afterRead, requestFrame, takeAnswer, withoutFirst, afterTake}
+use Rattle.collector.specs.declared.ReadAnswer.{ReadAnswer}
+use Rattle.collector.specs.declared.ReadAnswer.the-variants.{Booked, Known, Refused, NotStatusResponse, NotRegistered, BookFull}
+use Rattle.collector.specs.declared.RegisterAnswer.{RegisterAnswer}
+use Rattle.collector.specs.declared.RegisterAnswer.the-variants.{Registered, IdOutOfRange, IdRegistered, Full}
+use Rattle.collector.specs.declared.RequestFields.{RequestFields}
+use Rattle.collector.specs.declared.TakeAnswer.{TakeAnswer}
+use Rattle.collector.specs.declared.TakeAnswer.the-variants as taking
+use Rattle.collector.specs.declared.reading.Heard.{Heard}
+use Rattle.collector.specs.declared.reading.Heard.the-variants as heard
+use Rattle.collector.proofs.AnswerLaws.{register-full, register-new, register-known, register-high, register-low, take-unknown, take-one, take-nothing}
+use Rattle.collector.proofs.BatchLaws.{booked-kept, booked-node, booked-place, booked-length}
+use Rattle.collector.proofs.BookLaws.{book-most, taken-kept, taken-node, book-taken, taken-ea, taken-length, book-length}
+use Rattle.collector.proofs.IdLaws.{place-none, place-some, slot-taken, block-means}
+use Rattle.collector.proofs.PlacedLaws.{placed-length}
+use Rattle.collector.proofs.RegisterLaws.{placed-means}
+use Rattle.collector.proofs.WalkLaws.{entries-in-range}
+
+pub same-box : (b : Box) → Same b b
+same-box b = record { accounts = λ i. refl; vacant = refl }
+
+-- a place's book is within its bound
+pub book-bound : (s : List ℕ) (i : ℕ) (p : Account) → accountOf s i ≡ some p → length (p .book) ≤ 64
+book-bound s i p e =
+    ⊎-elim
+    (λ (h : 4 ≤ slotOf s i). absurd (let q : none ≡ some p = sym (place-none s i h) ∙ e in let z : _≡_ {A = ℕ} 0 1 = cc in omega arith))
+    (λ (h : slotOf s i < 4).
+    let q : some (accountIn s (slotOf s i)) ≡ some p = sym (place-some s i h) ∙ e in
+    let r : accountIn s (slotOf s i) ≡ p = cc in
+    omega (arith, book-most s (slotOf s i), ap (λ (x : Account). length (x .book)) r))
+    (le-or-lt 4 (slotOf s i))
+
+-- ---- a fresh state
+
+-- a state in which no block has a node
+no-nodes : (s : List ℕ) → ((k : ℕ) → nodeIn s k ≡ 0) → Same (boxOf s) freshBox
+unfolding vacantOf
+no-nodes s z = record { accounts = λ i. place-none s i (unknown i); vacant = rw (z 0, z 1, z 2, z 3) }
+  where
+    unknown : (i : ℕ) → 4 ≤ slotOf s i
+    unknown i =
+        ⊎-elim
+        (λ (h : 4 ≤ slotOf s i). h)
+        (λ (h : slotOf s i < 4). absurd (slot-taken s i h (z (slotOf s i))))
+        (le-or-lt 4 (slotOf s i))
+
+zeros : (n i : ℕ) → _≡_ {A = ℕ} (getD (replicate n 0) i 0) 0
+zeros zero i = refl
+zeros (suc n) zero = refl
+zeros (suc n) (suc i) = zeros n i
+
+pub fresh-means : Same (boxOf freshBytes) freshBox
+unfolding nodeIn
+fresh-means = no-nodes freshBytes (λ k. zeros 5184 (block k))
+
+-- ---- register
+
+pub register-means : (s : List ℕ) → length s ≡ 5184 → (i : ℕ)
+    → Same (boxOf (registerBytes (registerAnswer i (boxOf s)) i s)) (afterRegister (registerAnswer i (boxOf s)) i (boxOf s))
+register-means s size i =
+    ⊎-elim
+    (λ (low : 1 ≤ i).
+    ⊎-elim
+    (λ (high : i ≤ 239).
+    ⊎-elim
+    (λ (unknown : 4 ≤ findOf s i).
+    ⊎-elim
+    (λ (full : 4 ≤ findOf s 0). rw (← register-full s i low high unknown full) (same-box (boxOf s)))
+    (λ (free : findOf s 0 < 4). rw (← register-new s i low high unknown free) (placed-means s i size low free unknown))
+    (le-or-lt 4 (findOf s 0)))
+    (λ (known : findOf s i < 4). rw (← register-known s i low high known) (same-box (boxOf s)))
+    (le-or-lt 4 (findOf s i)))
+    (λ (high : 239 < i). rw (← register-high s i low high) (same-box (boxOf s)))
+    (le-or-lt i 239))
+    (λ (low : i < 1). rw (← register-low s i low) (same-box (boxOf s)))
+    (le-or-lt 1 i)
+
+pub register-length : (r : RegisterAnswer) (i : ℕ) (s : List ℕ) → length (registerBytes r i s) ≡ length s
+register-length Registered i s = placed-length s (findOf s 0) i
+register-length IdOutOfRange i s = refl
+register-length IdRegistered i s = refl
+register-length Full i s = refl
+
+-- ---- take
+
+module _ (s : List ℕ) (i : ℕ) (known : slotOf s i < 4) (size : length s ≡ 5184) (more : 0 < countIn s (slotOf s i)) where
+  taken-means : Same (boxOf (takenBytes s (slotOf s i))) (withAccount i (withoutFirst (accountOf s i)) (boxOf s))
+  taken-means =
+      let k : ℕ = slotOf s i in
+      block-means s (takenBytes s k) i known (taken-kept s k) (taken-node s k) (withoutFirst (accountOf s i))
+      (rw (place-some s i known, book-taken s k size known more, taken-ea s k))
+
+pub take-means : (s : List ℕ) → length s ≡ 5184 → (i : ℕ)
+    → Same (boxOf (takeBytes (takeAnswer (accountOf s i)) i s)) (afterTake (takeAnswer (accountOf s i)) i (boxOf s))
+take-means s size i =
+    ⊎-elim
+    (λ (unknown : 4 ≤ slotOf s i). rw (← take-unknown s i unknown) (same-box (boxOf s)))
+    (λ (known : slotOf s i < 4).
+    ⊎-elim
+    (λ (more : 1 ≤ countIn s (slotOf s i)). rw (← take-one s i known size more) (taken-means s i known size more))
+    (λ (less : countIn s (slotOf s i) < 1). rw (← take-nothing s i known (omega arith)) (same-box (boxOf s)))
+    (le-or-lt 1 (countIn s (slotOf s i))))
+    (le-or-lt 4 (slotOf s i))
+
+pub take-length : (r : TakeAnswer) (i : ℕ) (s : List ℕ) → length (takeBytes r i s) ≡ length s
+take-length (taking.Taken e) i s = taken-length s (slotOf s i)
+take-length taking.NotRegistered i s = refl
+take-length taking.NothingBooked i s = refl
+
+-- ---- read
+
+-- a batch that there is room for
+module _ (s : List ℕ) (i : ℕ) (known : slotOf s i < 4) (size : length s ≡ 5184) (payload : List ℕ) (octets : Octets payload) where
+  booked-means : length (bookIn s (slotOf s i)) + length (statusEntries payload) ≤ 64
+      → Same (boxOf (bookedBytes s (slotOf s i) (enIn (readFields payload)) (statusEntries payload)))
+      (withAccount i (bookedAccount payload (accountOf s i)) (boxOf s))
+  booked-means room =
+      let k : ℕ = slotOf s i in
+      let en : Bool = enIn (readFields payload) in
+      let es : List ErrorEntry = statusEntries payload in
+      block-means s (bookedBytes s k en es) i known (booked-kept s k en es) (booked-node s k en es) (bookedAccount payload (accountOf s i))
+      (rw (place-some s i known) (booked-place s k en es size known (entries-in-range payload octets) (omega (arith, book-length s k))))
+
+  -- the answer is that the batch is booked, so there was room
+  room-for : (a : StatusAnswer) → statusAnswer a (statusEntries payload) (accountIn s (slotOf s i)) ≡ Booked
+      → length (bookIn s (slotOf s i)) + length (statusEntries payload) ≤ 64
+  unfolding bookAnswer
+  room-for (status.Refused e) q = let z : _≡_ {A = ℕ} 0 1 = cc in absurd (omega arith)
+  room-for (status.Status f) q =
+      let book : List ErrorEntry = bookIn s (slotOf s i) in
+      let n : ℕ = length book + length (statusEntries payload) in
+      leb-true n 64 (go (Bool·beq (f .«en_flag») (accountIn s (slotOf s i) .ea)) (leb n 64) q)
+    where
+      go : (same fits : Bool) → pick same Known (need fits BookFull Booked) ≡ Booked → fits ≡ true
+      go true fits q = let z : _≡_ {A = ℕ} 0 1 = cc in absurd (omega arith)
+      go false true q = refl
+      go false false q = let z : _≡_ {A = ℕ} 0 1 = cc in absurd (omega arith)
+
+module _ (s : List ℕ) (size : length s ≡ 5184) (payload : List ℕ) (octets : Octets payload) where
+  booking-means : (h : Heard) → heardAnswer h payload (boxOf s) ≡ Booked
+      → Same (boxOf (bookingBytes h payload s)) (afterBooking h payload (boxOf s))
+  booking-means (heard.Refused e) q = same-box (boxOf s)
+  booking-means heard.Other q = same-box (boxOf s)
+  booking-means (heard.Status source) q =
+      let i : ℕ = source .0 in
+      ⊎-elim
+      (λ (unknown : 4 ≤ slotOf s i).
+      let r : NotRegistered ≡ Booked = rw (place-none s i unknown) at q in
+      let z : _≡_ {A = ℕ} 0 1 = cc in absurd (omega arith))
+      (λ (known : slotOf s i < 4).
+      booked-means s i known size payload octets (room-for s i known size payload octets (readFields payload) (rw (place-some s i known) at q)))
+      (le-or-lt 4 (slotOf s i))
+
+module _ (s : List ℕ) (size : length s ≡ 5184) (f : List ℕ) (octets : Octets f) where
+  payload-octets : Octets (statusPayload f)
+  payload-octets i = rw (getD-drop 18 f i 0) (octets (18 + i))
+
+  pub read-means : Same (boxOf (readBytes (readAnswer f (boxOf s)) f s)) (afterRead (readAnswer f (boxOf s)) f (boxOf s))
+  unfolding readAnswer
+  read-means = go (readAnswer f (boxOf s)) refl
+    where
+      go : (r : ReadAnswer) → readAnswer f (boxOf s) ≡ r → Same (boxOf (readBytes r f s)) (afterRead r f (boxOf s))
+      go Booked q = booking-means s size (statusPayload f) payload-octets (heardIn (readFrame f)) q
+      go Known q = same-box (boxOf s)
+      go (Refused e) q = same-box (boxOf s)
+      go NotStatusResponse q = same-box (boxOf s)
+      go NotRegistered q = same-box (boxOf s)
+      go BookFull q = same-box (boxOf s)
+
+booking-length : (h : Heard) (payload s : List ℕ) → length (bookingBytes h payload s) ≡ length s
+booking-length (heard.Refused e) payload s = refl
+booking-length heard.Other payload s = refl
+booking-length (heard.Status source) payload s = booked-length s (slotOf s (source .0)) (enIn (readFields payload)) (statusEntries payload)
+
+pub read-length : (r : ReadAnswer) (f s : List ℕ) → length (readBytes r f s) ≡ length s
+read-length Booked f s = booking-length (heardIn (readFrame f)) (statusPayload f) s
+read-length Known f s = refl
+read-length (Refused e) f s = refl
+read-length NotStatusResponse f s = refl
+read-length NotRegistered f s = refl
+read-length BookFull f s = refl
+
+-- ---- request
+
+pub request-size : (i : ℕ) (f : RequestFields) (ea : Bool) → length (requestFrame i f ea) ≡ 60
+unfolding requestFrame frameBytes ethBytes soaSection padded
+request-size i f ea = refl

@@ -1,0 +1,77 @@
+-- `book` meets its contract.
+-- Assumes nothing.
+use Prim.Native.Nat.{ℕ}
+use mathlib.Core.Path.{_≡_, refl, sym, ap, _∙_}
+use mathlib.Core.Bool.{Bool, Bool·beq}
+use mathlib.Core.List.{List}
+use mathlib.Core.Logic.{⊎-elim}
+use native.Mathlib.Omega.{arith}
+use lib.ListN.{take}
+use lib.Seq.{take-length}
+use borrow.Author.Needs.{needs}
+use Rattle.types.specs.Codes.{pick}
+use Rattle.error_entry.specs.declared.ErrorEntry.{ErrorEntry}
+use Rattle.status_response.specs.Steps.{statusEntries}
+use Rattle.collector.specs.Layout.{bookedBytes}
+use Rattle.collector.proofs.AnswerLaws.{book-known, book-full, book-room}
+use Rattle.collector.proofs.reading.book.Statement.{statement}
+use Rattle.collector.proofs.reading.book.Tie as tie
+
+returns : tie.Need-returns
+returns c =
+    let b = c .before in
+    let a = b .before .before .before .args in
+    record { answer = book-known (a .state .now) (a .k) (a .en) (statusEntries (a .payload .now)) (ap (Bool·beq (a .en)) (sym (b .ea .ensures)) ∙ c .if1 .taken); bytes = refl }
+
+returns-2 : tie.Need-returns-2
+returns-2 c =
+    let n = c .before in
+    let m = n .before .before in
+    let d = m .before in
+    let b = d .before in
+    let a = b .before .before .before .args in
+    record {
+      answer = book-full (a .state .now) (a .k) (a .en) (statusEntries (a .payload .now)) (ap (Bool·beq (a .en)) (sym (b .ea .ensures)) ∙ d .if1 .left)
+          (omega (arith, n .count .ensures .0, m .count-entries .ensures));
+      bytes = refl;
+    }
+
+returns-3 : tie.Need-returns-3
+unfolding bookedBytes
+returns-3 c =
+    let p = c .before in
+    let n = p .before .before .before in
+    let m = n .before .before in
+    let d = m .before in
+    let b = d .before in
+    let a = b .before .before .before .args in
+    let s : List ℕ = a .state .now in
+    let es : List ErrorEntry = statusEntries (a .payload .now) in
+    let all : take (m .count-entries .result) es ≡ es = ap (λ (j : ℕ). take j es) (m .count-entries .ensures) ∙ take-length es in
+    let bit : c .if3 .state ≡ pick (a .en) 1 0 =
+    ⊎-elim
+    (λ w. w .1 ∙ ap (λ (x : Bool). pick {A = ℕ} x 1 0) (sym (w .0 .taken)))
+    (λ w. w .1 ∙ ap (λ (x : Bool). pick {A = ℕ} x 1 0) (sym (w .0 .left)))
+    (c .if3 .came) in
+    record {
+      answer = book-room s (a .k) (a .en) es (ap (Bool·beq (a .en)) (sym (b .ea .ensures)) ∙ d .if1 .left)
+          (omega (arith, n .count .ensures .0, m .count-entries .ensures));
+      bytes = rw (p .push-entries .ensures, all, bit);
+    }
+
+pub book-spec : {M : Type 1} → statement M
+book-spec =
+    tie.close
+    (tie.spec
+    (search needs)
+    returns
+    (search needs)
+    (search needs)
+    (search needs)
+    (search needs)
+    returns-2
+    (search needs)
+    (search needs)
+    (search needs)
+    (search needs)
+    returns-3)

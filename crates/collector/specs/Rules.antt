@@ -1,0 +1,275 @@
+-- The rules of 01, "The error exchange", for the box: the managing node that collects errors (EPSG DS 301, 6.5).
+-- Assumes nothing.
+use Prim.Native.Nat.{ℕ, _+_, _-_}
+use mathlib.Core.Bool.{Bool, true, false, _&&_, Bool·beq}
+use mathlib.Core.Path.{_≡_}
+use mathlib.Core.List.{List, [], _∷_, _++_}
+use mathlib.Core.Option.{Option, none, some}
+use lib.ListN.{length, drop}
+use lib.Dec.{leb, ltb, eqb}
+use Rattle.types.specs.Causes.{Cause, row, causeOf}
+use Rattle.types.specs.Codes.{pick, need}
+use Rattle.types.specs.declared.NodeId.{NodeId}
+use Rattle.types.specs.declared.requested_service.RequestedServiceId.the-variants.{StatusRequest}
+use Rattle.types.specs.declared.service.ServiceId.{ServiceId}
+use Rattle.types.specs.declared.service.ServiceId.the-variants as service
+use Rattle.section.specs.Write.{writeAnswer, overwritten}
+use Rattle.section.specs.declared.WriteAnswer.{WriteAnswer}
+use Rattle.section.specs.declared.WriteAnswer.the-variants as write
+use Rattle.control.specs.SoA.{newSoA}
+use Rattle.control.specs.declared.soa.NewSoAFrame.{NewSoAFrame}
+use Rattle.frame.specs.Write.{frameBytes}
+use Rattle.frame.specs.declared.PowerlinkFrame.{PowerlinkFrame}
+use Rattle.frame.specs.declared.PowerlinkFrame.the-variants.{Soc, PReq, PRes, SoA, ASnd}
+use Rattle.codec.specs.Frame.{readFrame}
+use Rattle.codec.specs.declared.FrameAnswer.{FrameAnswer}
+use Rattle.codec.specs.declared.FrameAnswer.the-variants as frame
+use Rattle.error_entry.specs.declared.ErrorEntry.{ErrorEntry}
+use Rattle.status_response.specs.Fields.{readFields}
+use Rattle.status_response.specs.Steps.{statusEntries}
+use Rattle.status_response.specs.declared.fields.StatusAnswer.{StatusAnswer}
+use Rattle.status_response.specs.declared.fields.StatusAnswer.the-variants as status
+use Rattle.collector.specs.declared.ReadAnswer.{ReadAnswer}
+use Rattle.collector.specs.declared.ReadAnswer.the-variants.{Booked, Known, Refused, NotStatusResponse, NotRegistered, BookFull}
+use Rattle.collector.specs.declared.RegisterAnswer.{RegisterAnswer}
+use Rattle.collector.specs.declared.RegisterAnswer.the-variants.{Registered, IdOutOfRange, IdRegistered, Full}
+use Rattle.collector.specs.declared.RequestAnswer.{RequestAnswer}
+use Rattle.collector.specs.declared.RequestAnswer.the-variants as requesting
+use Rattle.collector.specs.declared.RequestFields.{RequestFields}
+use Rattle.collector.specs.declared.TakeAnswer.{TakeAnswer}
+use Rattle.collector.specs.declared.TakeAnswer.the-variants as taking
+use Rattle.collector.specs.declared.reading.Heard.{Heard}
+use Rattle.collector.specs.declared.reading.Heard.the-variants as heard
+
+-- what a registered head has: "a bit EA and a book of up to 64 entries", oldest first
+pub record Account : Type 0 where
+  pub ea : Bool
+  pub book : List ErrorEntry
+
+-- "for each of up to four registered heads": what each ID has, if it is registered, and how many more can be
+pub record Box : Type 0 where
+  pub accounts : ℕ → Option Account
+  pub vacant : ℕ
+
+-- "Fresh: bits 0, all empty"
+abbrev pub freshBox : Box
+freshBox = record { accounts = λ i. none; vacant = 4 }
+
+abbrev pub freshAccount : Account
+freshAccount = record { ea = false; book = [] }
+
+-- two boxes in which every ID has the same
+pub record Same (a b : Box) : Type 0 where
+  pub accounts : (i : ℕ) → a .accounts i ≡ b .accounts i
+  pub vacant : a .vacant ≡ b .vacant
+
+-- what node i has becomes p
+abbrev pub withAccount : ℕ → Account → Box → Box
+withAccount i p b = record { accounts = λ j. pick (eqb j i) (some p) (b .accounts j); vacant = b .vacant }
+
+-- ---- registering
+
+-- 14, then 15: "four registered"
+abbrev pub registerVacant : Option Account → ℕ → RegisterAnswer
+registerVacant (some p) vacant = IdRegistered
+registerVacant none vacant = need (ltb 0 vacant) Full Registered
+
+-- 13: "ID to register not 1 to 239"
+unfoldable pub registerAnswer : ℕ → Box → RegisterAnswer
+registerAnswer i b = need (leb 1 i && leb i 239) IdOutOfRange (registerVacant (b .accounts i) (b .vacant))
+
+-- 01's number for each case: 0 where nothing is refused
+abbrev pub registerCause : RegisterAnswer → Cause
+registerCause Registered = row 0 []
+registerCause IdOutOfRange = row 13 []
+registerCause IdRegistered = row 14 []
+registerCause Full = row 15 []
+
+-- and for each input
+abbrev pub registeredRow : Option Account → ℕ → Cause
+registeredRow (some p) vacant = row 14 []
+registeredRow none vacant = need (ltb 0 vacant) (row 15 []) (row 0 [])
+
+abbrev pub registerRow : ℕ → Box → Cause
+registerRow i b = need (leb 1 i && leb i 239) (row 13 []) (registeredRow (b .accounts i) (b .vacant))
+
+abbrev pub afterRegister : RegisterAnswer → ℕ → Box → Box
+afterRegister Registered i b = record { accounts = withAccount i freshAccount b .accounts; vacant = b .vacant - 1 }
+afterRegister IdOutOfRange i b = b
+afterRegister IdRegistered i b = b
+afterRegister Full i b = b
+
+-- ---- reading a frame
+
+abbrev pub heardService : ServiceId → NodeId → Heard
+heardService service.IdentResponse source = heard.Other
+heardService service.StatusResponse source = heard.Status source
+heardService service.NmtRequest source = heard.Other
+heardService service.NmtCommand source = heard.Other
+heardService service.Sdo source = heard.Other
+heardService service.NMTPublishTime source = heard.Other
+heardService service.NMTPublishNMTState source = heard.Other
+heardService service.NMTPublishNodeState source = heard.Other
+heardService service.NMTPublishNodeList source = heard.Other
+heardService service.NMTPublishEmergNew source = heard.Other
+heardService service.NMTPublishHeartbeat source = heard.Other
+heardService service.NMTPublishActiveNodes source = heard.Other
+
+abbrev pub heardFrame : PowerlinkFrame → Heard
+heardFrame (Soc f) = heard.Other
+heardFrame (PReq f) = heard.Other
+heardFrame (PRes f) = heard.Other
+heardFrame (SoA f) = heard.Other
+heardFrame (ASnd f) = heardService (f .«service_id») (f .source)
+
+abbrev pub heardIn : FrameAnswer → Heard
+heardIn (frame.Refused e) = heard.Refused e
+heardIn (frame.Frame f) = heardFrame f
+
+-- "the box reads it from section byte 4, untrimmed"
+abbrev pub statusPayload : List ℕ → List ℕ
+statusPayload f = drop 18 f
+
+-- "EN equal to EA means known"; 12: "fewer free places than batch entries"
+unfoldable pub bookAnswer : Bool → List ErrorEntry → Account → ReadAnswer
+bookAnswer en es p = pick (Bool·beq en (p .ea)) Known (need (leb (length (p .book) + length es) 64) BookFull Booked)
+
+-- the StatusResponse rules, then known, then 12
+abbrev pub statusAnswer : StatusAnswer → List ErrorEntry → Account → ReadAnswer
+statusAnswer (status.Refused e) es p = Refused e
+statusAnswer (status.Status f) es p = bookAnswer (f .«en_flag») es p
+
+-- 11: "ID not registered"
+abbrev pub accountAnswer : List ℕ → Option Account → ReadAnswer
+accountAnswer payload none = NotRegistered
+accountAnswer payload (some p) = statusAnswer (readFields payload) (statusEntries payload) p
+
+-- "Box order: frame rules, 10, 11, StatusResponse rules (1, 5), known, 12"
+abbrev pub heardAnswer : Heard → List ℕ → Box → ReadAnswer
+heardAnswer (heard.Refused e) payload b = Refused e
+heardAnswer heard.Other payload b = NotStatusResponse
+heardAnswer (heard.Status source) payload b = accountAnswer payload (b .accounts (source .0))
+
+unfoldable pub readAnswer : List ℕ → Box → ReadAnswer
+readAnswer f b = heardAnswer (heardIn (readFrame f)) (statusPayload f) b
+
+abbrev pub readCause : ReadAnswer → Cause
+readCause Booked = row 0 []
+readCause Known = row 0 []
+readCause (Refused e) = causeOf e
+readCause NotStatusResponse = row 10 []
+readCause NotRegistered = row 11 []
+readCause BookFull = row 12 []
+
+abbrev pub statusRow : StatusAnswer → List ErrorEntry → Account → Cause
+statusRow (status.Refused e) es p = causeOf e
+statusRow (status.Status f) es p =
+    pick (Bool·beq (f .«en_flag») (p .ea)) (row 0 []) (need (leb (length (p .book) + length es) 64) (row 12 []) (row 0 []))
+
+abbrev pub accountRow : List ℕ → Option Account → Cause
+accountRow payload none = row 11 []
+accountRow payload (some p) = statusRow (readFields payload) (statusEntries payload) p
+
+abbrev pub heardRow : Heard → List ℕ → Box → Cause
+heardRow (heard.Refused e) payload b = causeOf e
+heardRow heard.Other payload b = row 10 []
+heardRow (heard.Status source) payload b = accountRow payload (b .accounts (source .0))
+
+abbrev pub readRow : List ℕ → Box → Cause
+readRow f b = heardRow (heardIn (readFrame f)) (statusPayload f) b
+
+-- EN of a payload that can be read
+abbrev pub enIn : StatusAnswer → Bool
+enIn (status.Refused e) = false
+enIn (status.Status f) = f .«en_flag»
+
+-- "the whole batch goes into the book and EA becomes EN"
+abbrev pub bookedAccount : List ℕ → Option Account → Account
+bookedAccount payload none = freshAccount
+bookedAccount payload (some p) = record { ea = enIn (readFields payload); book = p .book ++ statusEntries payload }
+
+abbrev pub afterBooking : Heard → List ℕ → Box → Box
+afterBooking (heard.Refused e) payload b = b
+afterBooking heard.Other payload b = b
+afterBooking (heard.Status source) payload b = withAccount (source .0) (bookedAccount payload (b .accounts (source .0))) b
+
+-- only what is booked changes anything
+abbrev pub afterRead : ReadAnswer → List ℕ → Box → Box
+afterRead Booked f b = afterBooking (heardIn (readFrame f)) (statusPayload f) b
+afterRead Known f b = b
+afterRead (Refused e) f b = b
+afterRead NotStatusResponse f b = b
+afterRead NotRegistered f b = b
+afterRead BookFull f b = b
+
+-- ---- request
+
+abbrev pub requestSoA : ℕ → RequestFields → Bool → NewSoAFrame
+requestSoA i f ea =
+    newSoA (f .«source_mac») (f .«nmt_state») (record { ea = ea; er = false }) StatusRequest (record { 0 = i }) (f .«epl_version»)
+
+-- "a 60-byte SoA frame as its `new` makes it, source 240, service 2, target the head, EA, er 0"
+unfoldable pub requestFrame : ℕ → RequestFields → Bool → List ℕ
+requestFrame i f ea = frameBytes (requestSoA i f ea .«eth_header») (SoA (requestSoA i f ea .frame)) []
+
+abbrev pub asRequest : WriteAnswer → RequestAnswer
+asRequest (write.Written n) = requesting.Written n
+asRequest (write.Refused e) = requesting.Refused e
+
+-- the answer of writing these octets
+abbrev pub requestWritten : List ℕ → List ℕ → RequestAnswer
+requestWritten bs target = asRequest (writeAnswer bs target)
+
+-- 11, then 1
+abbrev pub requestAnswer : ℕ → RequestFields → List ℕ → Option Account → RequestAnswer
+requestAnswer i f target none = requesting.NotRegistered
+requestAnswer i f target (some p) = requestWritten (requestFrame i f (p .ea)) target
+
+abbrev pub requestCause : RequestAnswer → Cause
+requestCause (requesting.Written n) = row 0 (n ∷ [])
+requestCause requesting.NotRegistered = row 11 []
+requestCause (requesting.Refused e) = causeOf e
+
+abbrev pub requestRow : List ℕ → Option Account → Cause
+requestRow target none = row 11 []
+requestRow target (some p) = pick (leb 60 (length target)) (row 0 (60 ∷ [])) (row 1 [])
+
+-- what the target then holds
+abbrev pub afterRequest : ℕ → RequestFields → List ℕ → Option Account → List ℕ
+afterRequest i f target none = target
+afterRequest i f target (some p) = overwritten (requestFrame i f (p .ea)) target
+
+-- ---- Take
+
+-- 16: "nothing booked to take"
+abbrev pub takeFirst : List ErrorEntry → TakeAnswer
+takeFirst [] = taking.NothingBooked
+takeFirst (e ∷ es) = taking.Taken e
+
+-- 11, then 16; "the oldest booked entry is handed out"
+abbrev pub takeAnswer : Option Account → TakeAnswer
+takeAnswer none = taking.NotRegistered
+takeAnswer (some p) = takeFirst (p .book)
+
+abbrev pub takeCause : TakeAnswer → Cause
+takeCause (taking.Taken e) = row 0 []
+takeCause taking.NotRegistered = row 11 []
+takeCause taking.NothingBooked = row 16 []
+
+abbrev pub bookRow : List ErrorEntry → Cause
+bookRow [] = row 16 []
+bookRow (e ∷ es) = row 0 []
+
+abbrev pub takeRow : Option Account → Cause
+takeRow none = row 11 []
+takeRow (some p) = bookRow (p .book)
+
+-- "and its place is used again"
+abbrev pub withoutFirst : Option Account → Account
+withoutFirst none = freshAccount
+withoutFirst (some p) = record { ea = p .ea; book = drop 1 (p .book) }
+
+abbrev pub afterTake : TakeAnswer → ℕ → Box → Box
+afterTake (taking.Taken e) i b = withAccount i (withoutFirst (b .accounts i)) b
+afterTake taking.NotRegistered i b = b
+afterTake taking.NothingBooked i b = b

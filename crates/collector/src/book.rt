@@ -1,0 +1,72 @@
+// A node's book: a ring of records.
+ghost use mathlib.Core.Path.{_≡_};
+ghost use Prim.Native.Nat.{_+_, _≤_, _<_};
+ghost use lib.ListN.{length, take};
+ghost use Rattle.status_response.specs.Steps.{statusEntries};
+ghost use Rattle.collector.specs.Layout.{countIn, startIn, entryIn, takenBytes, pushedBytes, pushedAll};
+use crate::BLOCK_LEN;
+use crate::Collector;
+use crate::state::count;
+use crate::state::record_place;
+use crate::state::start;
+use error_entry::ErrorEntry;
+use records::get;
+use records::put;
+use status_response::walk::EntryStep;
+use status_response::walk::step_from;
+
+// Hands out the oldest entry.
+pub fn take_first(state: &mut Collector, k: usize) -> ErrorEntry
+    requires { ⌜ (k < 4) × (0 < countIn (now state) k) ⌝ }
+    ensures { λ r. ⌜ (r ≡ entryIn (now (state .entry)) k (startIn (now (state .entry)) k)) × (now (state .exit) ≡ takenBytes (now (state .entry)) k) ⌝ }
+{
+    let first = start(state, k);
+    let n = count(state, k);
+    let e = get(state, record_place(k, first));
+    state[BLOCK_LEN * k + 2] = (first + 1) % 64;
+    state[BLOCK_LEN * k + 3] = n - 1;
+    e
+}
+
+// An entry joins the book, last.
+pub fn push(state: &mut Collector, k: usize, e: ErrorEntry)
+    requires { ⌜ (k < 4) × (countIn (now state) k < 64) ⌝ }
+    ensures { λ _. ⌜ (now (state .exit) ≡ pushedBytes (now (state .entry)) k e) × (countIn (now (state .exit)) k ≡ countIn (now (state .entry)) k + 1) ⌝ }
+{
+    let n = count(state, k);
+    let at = record_place(k, start(state, k) + n);
+    put(state, at, e);
+    state[BLOCK_LEN * k + 3] = n + 1;
+}
+
+// How many entries a payload holds.
+pub fn count_entries(payload: &[u8]) -> usize
+    ensures { λ r. ⌜ r ≡ length (statusEntries (now (payload .entry))) ⌝ }
+{
+    let mut n = 0usize;
+    let mut at = 14usize;
+    loop {
+        match step_from(payload, at) {
+            EntryStep::End => return n,
+            EntryStep::Entry(_, next) => {
+                n += 1;
+                at = next;
+            }
+        }
+    }
+}
+
+// The first `n` entries of a payload join the book, in order.
+pub fn push_entries(state: &mut Collector, k: usize, payload: &[u8], n: usize)
+    requires { ⌜ (k < 4) × (n ≤ length (statusEntries (now payload))) × (countIn (now state) k + n ≤ 64) ⌝ }
+    ensures { λ _. ⌜ now (state .exit) ≡ pushedAll (now (state .entry)) k (take n (statusEntries (now (payload .entry)))) ⌝ }
+{
+    let mut i = 0usize;
+    while i < n {
+        match step_from(payload, 14 + 20 * i) {
+            EntryStep::End => return,
+            EntryStep::Entry(e, _) => push(state, k, e),
+        }
+        i += 1;
+    }
+}

@@ -1,0 +1,155 @@
+// The managing node's side of error signaling (EPSG DS 301, 6.5; 01: the box). For each of up to four registered
+// controlled nodes (01: heads) it keeps the bit EA, exception acknowledge, and a book of up to 64 error entries.
+//
+// Its state is octets that the caller lends. What they mean is told in specs/Layout.antt; every pattern means something,
+// and all zeros mean a fresh state.
+ghost use mathlib.Core.Path.{_≡_};
+ghost use lib.ListN.{replicate};
+ghost use Rattle.collector.specs.Calls.{Fresh, Registers, Reads, Requests, Takes};
+
+mod asking;
+mod book;
+mod reading;
+mod state;
+
+use asking::write_request;
+use book::take_first;
+use error_entry::ErrorEntry;
+use octets::slices::tail;
+use reading::Heard;
+use reading::hear;
+use reading::read_status;
+use records::RECORD_LEN;
+use state::NODES;
+use state::count;
+use state::ea;
+use state::find;
+use state::place_node;
+use state::slot;
+use types::C_ADR_MAX_CN_NODE_ID;
+use types::EPLVersion;
+use types::NodeId;
+use types::basic::MacAddress;
+use types::hal::PowerlinkError;
+use types::states::NmtState;
+
+// The octets of a node's block in front of its records.
+const CONTROL_LEN: usize = 16;
+
+// The entries that a book holds.
+pub const BOOK_LEN: usize = 64;
+
+const BLOCK_LEN: usize = CONTROL_LEN + BOOK_LEN * RECORD_LEN;
+
+pub const COLLECTOR_LEN: usize = 4 * BLOCK_LEN;
+
+// 01's box.
+pub type Collector = [u8; COLLECTOR_LEN];
+
+pub enum RegisterAnswer {
+    Registered,
+    IdOutOfRange,
+    IdRegistered,
+    // Four nodes are registered.
+    Full,
+}
+
+// What reading a frame comes to: its batch is booked; EN equals EA, so its batch is known; or why nothing is booked.
+pub enum ReadAnswer {
+    Booked,
+    Known,
+    // The frame cannot be read, or its payload is no StatusResponse that can be.
+    Refused(PowerlinkError),
+    NotStatusResponse,
+    NotRegistered,
+    BookFull,
+}
+
+// What a request holds beside the node and EA.
+pub struct RequestFields {
+    pub source_mac: MacAddress,
+    pub nmt_state: NmtState,
+    pub epl_version: EPLVersion,
+}
+
+pub enum RequestAnswer {
+    Written(usize),
+    NotRegistered,
+    Refused(PowerlinkError),
+}
+
+pub enum TakeAnswer {
+    Taken(ErrorEntry),
+    NotRegistered,
+    NothingBooked,
+}
+
+// Makes a fresh state: no node is registered.
+pub fn new(state: &mut Collector)
+    ensures { λ _. ⌜ Fresh (now (state .exit)) ⌝ }
+{
+    *state = [0u8; COLLECTOR_LEN];
+}
+
+// Gives a node a place, with EA 0 and an empty book.
+pub fn register(state: &mut Collector, id: NodeId) -> RegisterAnswer
+    ensures { λ r. ⌜ Registers id r (now (state .entry)) (now (state .exit)) ⌝ }
+{
+    if id.0 < 1 {
+        return RegisterAnswer::IdOutOfRange;
+    }
+    if C_ADR_MAX_CN_NODE_ID < id.0 {
+        return RegisterAnswer::IdOutOfRange;
+    }
+    if find(state, id.0) < NODES {
+        return RegisterAnswer::IdRegistered;
+    }
+    let k = find(state, 0);
+    if NODES <= k {
+        return RegisterAnswer::Full;
+    }
+    place_node(state, k, id.0);
+    RegisterAnswer::Registered
+}
+
+// Reads a frame: the batch of a registered node's StatusResponse goes into its book, whole, unless it is there already.
+pub fn read(state: &mut Collector, buffer: &[u8]) -> ReadAnswer
+    ensures { λ r. ⌜ Reads (now (buffer .entry)) r (now (state .entry)) (now (state .exit)) ⌝ }
+{
+    match hear(buffer) {
+        Heard::Refused(e) => ReadAnswer::Refused(e),
+        Heard::Other => ReadAnswer::NotStatusResponse,
+        // The payload from octet 4 of the section on, untrimmed: an answer without entries ends in zeros.
+        Heard::Status(source) => read_status(state, source.0, tail(buffer, 18)),
+    }
+}
+
+// Writes the SoA that asks a registered node for its StatusResponse and tells it EA.
+pub fn request(
+    state: &Collector,
+    id: NodeId,
+    fields: RequestFields,
+    target: &mut [u8],
+) -> RequestAnswer
+    ensures { λ r. ⌜ Requests id fields r (now (state .entry)) (now (target .entry)) (now (target .exit)) ⌝ }
+{
+    let k = slot(state, id.0);
+    if NODES <= k {
+        return RequestAnswer::NotRegistered;
+    }
+    write_request(id, fields, ea(state, k), target)
+}
+
+// Hands out the oldest entry of a node's book; its place is used again.
+pub fn take(state: &mut Collector, id: NodeId) -> TakeAnswer
+    ensures { λ r. ⌜ Takes id r (now (state .entry)) (now (state .exit)) ⌝ }
+{
+    let k = slot(state, id.0);
+    if NODES <= k {
+        return TakeAnswer::NotRegistered;
+    }
+    if count(state, k) == 0 {
+        return TakeAnswer::NothingBooked;
+    }
+    TakeAnswer::Taken(take_first(state, k))
+}

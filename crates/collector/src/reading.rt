@@ -1,0 +1,86 @@
+// Reading a node's StatusResponse.
+ghost use mathlib.Core.Path.{_≡_};
+ghost use Prim.Native.Nat.{_<_};
+ghost use lib.ListN.{length};
+ghost use Rattle.codec.specs.Frame.{readFrame};
+ghost use Rattle.collector.specs.Calls.{Books, ReadsStatus};
+ghost use Rattle.collector.specs.Rules.{heardIn};
+use crate::BLOCK_LEN;
+use crate::Collector;
+use crate::ReadAnswer;
+use crate::book::count_entries;
+use crate::book::push_entries;
+use crate::state::NODES;
+use crate::state::count;
+use crate::state::ea;
+use crate::state::slot;
+use codec::FrameAnswer;
+use codec::deserialize_frame;
+use frame::PowerlinkFrame;
+use status_response::fields::StatusAnswer;
+use status_response::fields::deserialize;
+use types::NodeId;
+use types::hal::PowerlinkError;
+use types::service::ServiceId;
+
+// What a frame is to the managing node.
+pub enum Heard {
+    Status(NodeId),
+    Other,
+    Refused(PowerlinkError),
+}
+
+// A StatusResponse with its source, another frame, or none.
+pub fn hear(buffer: &[u8]) -> Heard
+    ensures { λ r. ⌜ r ≡ heardIn (readFrame (now (buffer .entry))) ⌝ }
+{
+    let read = deserialize_frame(buffer);
+    let answer = read.answer;
+    let frame = match answer {
+        FrameAnswer::Refused(e) => return Heard::Refused(e),
+        FrameAnswer::Frame(f) => f,
+    };
+    let PowerlinkFrame::ASnd(f) = frame else {
+        return Heard::Other;
+    };
+    let service = f.service_id;
+    let source = f.source;
+    match service {
+        ServiceId::StatusResponse => Heard::Status(source),
+        _ => Heard::Other,
+    }
+}
+
+// Reads the StatusResponse of the node `source`.
+pub fn read_status(state: &mut Collector, source: u8, payload: &[u8]) -> ReadAnswer
+    ensures { λ r. ⌜ ReadsStatus source (now (payload .entry)) r (now (state .entry)) (now (state .exit)) × (length (now (state .entry)) ≡ 5184) ⌝ }
+{
+    let k = slot(state, source);
+    if NODES <= k {
+        return ReadAnswer::NotRegistered;
+    }
+    let status = deserialize(payload);
+    let answer = status.answer;
+    match answer {
+        StatusAnswer::Refused(e) => ReadAnswer::Refused(e),
+        StatusAnswer::Status(f) => book(state, k, f.en_flag, payload),
+    }
+}
+
+// Books the entries of a payload with the bit EN: all of them, or none.
+fn book(state: &mut Collector, k: usize, en: bool, payload: &[u8]) -> ReadAnswer
+    requires { ⌜ k < 4 ⌝ }
+    ensures { λ r. ⌜ Books k en (now (payload .entry)) r (now (state .entry)) (now (state .exit)) ⌝ }
+{
+    if en == ea(state, k) {
+        return ReadAnswer::Known;
+    }
+    let n = count_entries(payload);
+    let free = (64 - count(state, k)) as usize;
+    if free < n {
+        return ReadAnswer::BookFull;
+    }
+    push_entries(state, k, payload, n);
+    state[BLOCK_LEN * k + 1] = if en { 1 } else { 0 };
+    ReadAnswer::Booked
+}

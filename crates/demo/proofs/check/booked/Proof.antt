@@ -1,0 +1,31 @@
+-- `booked` is safe and ends: what is left of the takes falls.
+-- Assumes nothing.
+use Prim.Native.Nat.{_-_, _≤_}
+use borrow.Author.Needs.{needs}
+use Rattle.demo.proofs.check.booked.Statement.{statement}
+use Rattle.demo.proofs.check.booked.Tie as tie
+
+abbrev Inv-loop : tie.InvT-loop
+Inv-loop head state copy₀ n₀ counter₀ copy n counter = counter ≤ 65
+
+abbrev μ-loop : tie.MeasureT-loop
+μ-loop head state copy₀ n₀ counter₀ copy n counter = 65 - counter
+
+pub booked-spec : {M : Type 1} → statement M
+booked-spec =
+    tie.close
+    (tie.spec
+    Inv-loop
+    μ-loop
+    (search needs)
+    (search needs)
+    (search needs)
+    (search needs)
+    (search needs)
+    (search needs)
+    (search needs)
+    (search needs)
+    (search needs)
+    (search needs)
+    (search needs)
+    (search needs))

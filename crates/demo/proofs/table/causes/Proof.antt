@@ -1,0 +1,35 @@
+-- `causes` is safe and ends: the cause is at most 17 at the head of the loop, and what is left falls.
+-- Assumes nothing.
+use Prim.Native.Nat.{_-_, _≤_}
+use borrow.Author.Needs.{needs}
+use Rattle.demo.proofs.table.causes.Statement.{statement}
+use Rattle.demo.proofs.table.causes.Tie as tie
+
+abbrev Inv-loop : tie.InvT-loop
+Inv-loop tally₀ cause₀ t3 t4 t5 tally cause = cause ≤ 17
+
+abbrev μ-loop : tie.MeasureT-loop
+μ-loop tally₀ cause₀ t3 t4 t5 tally cause = 17 - cause
+
+pub causes-spec : {M : Type 1} → statement M
+causes-spec =
+    tie.close
+    (tie.spec
+    Inv-loop
+    μ-loop
+    (search needs)
+    (search needs)
+    (search needs)
+    (search needs)
+    (search needs)
+    (search needs)
+    (search needs)
+    (search needs)
+    (search needs)
+    (search needs)
+    (search needs)
+    (search needs)
+    (search needs)
+    (search needs)
+    (search needs)
+    (search needs))

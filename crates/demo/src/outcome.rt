@@ -1,0 +1,102 @@
+// What a call came to, as a number: 01's cause where it was refused.
+use collector::RegisterAnswer;
+use collector::RequestAnswer;
+use collector::TakeAnswer;
+use reporter::NewAnswer;
+use reporter::RaiseAnswer;
+use section::WriteAnswer;
+
+// The call did what it is for: raised, written, booked, closed, registered, handed out.
+pub const DONE: u64 = 0;
+
+// The box has booked the batch before.
+pub const KNOWN: u64 = 100;
+
+// A head read EA, and it closes nothing.
+pub const KEPT: u64 = 101;
+
+// A frame tells a head nothing.
+pub const IGNORED: u64 = 102;
+
+pub fn of_new(answer: NewAnswer) -> u64 {
+    match answer {
+        NewAnswer::Made => DONE,
+        NewAnswer::IdOutOfRange => 13,
+    }
+}
+
+pub fn of_raise(answer: RaiseAnswer) -> u64 {
+    match answer {
+        RaiseAnswer::Raised => DONE,
+        RaiseAnswer::EntryInvalid => 8,
+        RaiseAnswer::QueueFull => 9,
+    }
+}
+
+pub fn of_write(answer: WriteAnswer) -> u64 {
+    match answer {
+        WriteAnswer::Written(_) => DONE,
+        WriteAnswer::Refused(e) => e.number() as u64,
+    }
+}
+
+// How many octets were written: none where the call was refused.
+pub fn length_of(answer: WriteAnswer) -> usize {
+    match answer {
+        WriteAnswer::Written(n) => n,
+        WriteAnswer::Refused(_) => 0,
+    }
+}
+
+pub fn of_head_reading(answer: reporter::ReadAnswer) -> u64 {
+    match answer {
+        reporter::ReadAnswer::Closed => DONE,
+        reporter::ReadAnswer::Kept => KEPT,
+        reporter::ReadAnswer::Ignored => IGNORED,
+        reporter::ReadAnswer::Refused(e) => e.number() as u64,
+    }
+}
+
+pub fn of_register(answer: RegisterAnswer) -> u64 {
+    match answer {
+        RegisterAnswer::Registered => DONE,
+        RegisterAnswer::IdOutOfRange => 13,
+        RegisterAnswer::IdRegistered => 14,
+        RegisterAnswer::Full => 15,
+    }
+}
+
+pub fn of_box_reading(answer: collector::ReadAnswer) -> u64 {
+    match answer {
+        collector::ReadAnswer::Booked => DONE,
+        collector::ReadAnswer::Known => KNOWN,
+        collector::ReadAnswer::Refused(e) => e.number() as u64,
+        collector::ReadAnswer::NotStatusResponse => 10,
+        collector::ReadAnswer::NotRegistered => 11,
+        collector::ReadAnswer::BookFull => 12,
+    }
+}
+
+pub fn of_request(answer: RequestAnswer) -> u64 {
+    match answer {
+        RequestAnswer::Written(_) => DONE,
+        RequestAnswer::NotRegistered => 11,
+        RequestAnswer::Refused(e) => e.number() as u64,
+    }
+}
+
+pub fn request_length(answer: RequestAnswer) -> usize {
+    match answer {
+        RequestAnswer::Written(n) => n,
+        RequestAnswer::NotRegistered => 0,
+        RequestAnswer::Refused(_) => 0,
+    }
+}
+
+pub fn of_take(answer: TakeAnswer) -> u64 {
+    match answer {
+        TakeAnswer::Taken(_) => DONE,
+        TakeAnswer::NotRegistered => 11,
+        TakeAnswer::NothingBooked => 16,
+    }
+}

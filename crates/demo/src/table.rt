@@ -1,0 +1,86 @@
+// The tables that a fitter reads.
+use crate::head::Head;
+use crate::print::column;
+use crate::print::number;
+use crate::print::say;
+use crate::tally::CALLS;
+use crate::tally::FAULTS;
+use crate::tally::REQUESTS;
+use crate::tally::Tally;
+use crate::tally::counted;
+use crate::tally::demand;
+
+fn row(head: Head) {
+    let answers = head.answers;
+    column(head.id as u64);
+    column(head.accepted);
+    column(head.refused);
+    column(head.booked);
+    column(head.taken);
+    column(head.open);
+    column(head.waiting);
+    column(head.sent);
+    column(answers.lost);
+    column(answers.repeated);
+    say(b"\n");
+}
+
+// A line for each head: its entries, then its answers on their way to the box.
+pub fn heads(all: [Head; 5]) {
+    say(
+        b"     head   raised  refused   booked    taken     open  waiting     sent     lost repeated\n",
+    );
+    for k in 0..5usize {
+        row(all[k]);
+    }
+}
+
+// 01's table, in few words.
+fn cause_name(cause: usize) {
+    match cause {
+        1 => say(b"input or target too short"),
+        2 => say(b"EtherType not 88AB h"),
+        3 => say(b"section empty, or PRes not to 255"),
+        4 => say(b"message type unknown"),
+        5 => say(b"NMT state unknown"),
+        6 => say(b"service unknown"),
+        7 => say(b"requested service unknown"),
+        8 => say(b"entry of mode 0, or profile above 4,095"),
+        9 => say(b"16 already waiting"),
+        10 => say(b"no StatusResponse"),
+        11 => say(b"ID not registered"),
+        12 => say(b"fewer free places than entries"),
+        13 => say(b"ID not 1 to 239"),
+        14 => say(b"ID registered already"),
+        15 => say(b"four registered"),
+        _ => say(b"nothing booked to take"),
+    }
+}
+
+// How often each cause was given; a cause that never was makes the run worth less than it should be.
+fn causes(tally: &mut Tally) {
+    for cause in 1..17usize {
+        column(counted(tally, cause));
+        number(b"  cause ", cause as u64);
+        say(b", ");
+        cause_name(cause);
+        say(b"\n");
+        demand(tally, 0 < counted(tally, cause));
+    }
+}
+
+pub fn totals(tally: &mut Tally) {
+    number(b"calls ", counted(tally, CALLS));
+    number(b", requests sent ", counted(tally, REQUESTS));
+    say(b", refusals by cause\n");
+    causes(tally);
+}
+
+pub fn verdict(tally: &Tally) {
+    if counted(tally, FAULTS) == 0 {
+        say(b"every accepted fault is accounted for\n");
+    } else {
+        number(b"", counted(tally, FAULTS));
+        say(b" times something else than 01 has\nFAULTS ARE MISSING OR DOUBLE\n");
+    }
+}

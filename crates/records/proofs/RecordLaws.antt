@@ -1,0 +1,128 @@
+-- Laws of a store of records: what is read after an entry is put, at its place and at others, and after one octet is stored.
+-- Assumes nothing.
+use Prim.Native.Nat.{ℕ, zero, suc, _+_, _*_, _≤_, _<_}
+use mathlib.Core.Path.{_≡_, refl, sym, ap, _∙_}
+use mathlib.Core.List.{List, [], _∷_}
+use mathlib.Core.Logic.{⊎-elim}
+use native.Mathlib.Omega.{arith}
+use lib.ListN.{length, take, drop, getD, set}
+use lib.Seq.{sets, length-sets, getD-drop, getD-set-other}
+use Rattle.octets.specs.Numbers.{le, leAt}
+use Rattle.octets.proofs.NumberBack.{Octets, number-small}
+use Rattle.octets.proofs.Order.{le-or-lt}
+use Rattle.octets.proofs.ReadBack.{drop-sets}
+use Rattle.error_entry.specs.Entry.{entryTypeOf, entryOf, entryBytes}
+use Rattle.error_entry.specs.ReadBack.{InRange}
+use Rattle.error_entry.specs.declared.ErrorEntry.{ErrorEntry}
+use Rattle.error_entry.proofs.ReadBack.{entry-back}
+use Rattle.records.specs.Records.{recordAt, withRecord}
+
+-- ---- a record is known by its 20 octets
+
+-- octets in front, of a list that may be too short
+le-front : (n : ℕ) (s : List ℕ) → le (take (suc n) s) ≡ getD s 0 0 + 256 * le (take n (drop 1 s))
+le-front zero [] = refl
+le-front (suc n) [] = refl
+le-front n (x ∷ s) = refl
+
+le-same : (n : ℕ) (s t : List ℕ) → ((i : ℕ) → i < n → getD s i 0 ≡ getD t i 0) → le (take n s) ≡ le (take n t)
+le-same zero s t same = refl
+le-same (suc n) s t same =
+    let front : getD s 0 0 ≡ getD t 0 0 = same 0 (omega arith) in
+    let behind : le (take n (drop 1 s)) ≡ le (take n (drop 1 t)) =
+    le-same n (drop 1 s) (drop 1 t) (λ i h. getD-drop 1 s i 0 ∙ ap (λ (k : ℕ). getD s k 0) (one-add i) ∙ same (suc i) (omega arith)
+    ∙ ap (λ (k : ℕ). getD t k 0) (sym (one-add i)) ∙ sym (getD-drop 1 t i 0)) in
+    rw (le-front n s, le-front n t, front, behind)
+  where
+    one-add : (i : ℕ) → 1 + i ≡ suc i
+    one-add i = omega arith
+
+number-same : (s t : List ℕ) → ((i : ℕ) → i < 20 → getD s i 0 ≡ getD t i 0) → (n at : ℕ) → at + n ≤ 20 → leAt n at s ≡ leAt n at t
+unfolding leAt
+number-same s t same n at h =
+    le-same n (drop at s) (drop at t) (λ i l. getD-drop at s i 0 ∙ same (at + i) (omega arith) ∙ sym (getD-drop at t i 0))
+
+entry-same : (s t : List ℕ) → ((i : ℕ) → i < 20 → getD s i 0 ≡ getD t i 0) → entryOf s ≡ entryOf t
+unfolding entryOf
+entry-same s t same =
+    rw (
+      number-same s t same 2 0 (omega arith),
+      number-same s t same 2 2 (omega arith),
+      number-same s t same 4 4 (omega arith),
+      number-same s t same 4 8 (omega arith),
+      number-same s t same 8 12 (omega arith),
+    )
+
+pub record-same-octets : (s t : List ℕ) (at : ℕ) → ((i : ℕ) → at ≤ i → i < at + 20 → getD s i 0 ≡ getD t i 0) → recordAt s at ≡ recordAt t at
+unfolding recordAt
+record-same-octets s t at same =
+    entry-same (drop at s) (drop at t)
+    (λ i h. getD-drop at s i 0 ∙ same (at + i) (omega arith) (omega arith) ∙ sym (getD-drop at t i 0))
+
+-- ---- octets that a put leaves
+
+pub bytes-length : (e : ErrorEntry) → length (entryBytes e) ≡ 20
+unfolding entryBytes
+bytes-length e = refl
+
+sets-below : (vs l : List ℕ) (at i : ℕ) → i < at → getD (sets l at vs) i 0 ≡ getD l i 0
+sets-below [] l at i h = refl
+sets-below (v ∷ vs) l at i h = sets-below vs (set l at v) (suc at) i (omega arith) ∙ getD-set-other l at i v 0 (omega arith)
+
+sets-above : (vs l : List ℕ) (at i : ℕ) → at + length vs ≤ i → getD (sets l at vs) i 0 ≡ getD l i 0
+sets-above [] l at i h = refl
+sets-above (v ∷ vs) l at i h = sets-above vs (set l at v) (suc at) i (omega arith) ∙ getD-set-other l at i v 0 (omega arith)
+
+module _ (s : List ℕ) (at : ℕ) (e : ErrorEntry) where
+  pub length-record : length (withRecord s at e) ≡ length s
+  unfolding withRecord
+  length-record = length-sets s at (entryBytes e)
+
+  pub octet-record : (i : ℕ) → i < at → getD (withRecord s at e) i 0 ≡ getD s i 0
+  unfolding withRecord
+  octet-record i h = sets-below (entryBytes e) s at i h
+
+  pub octet-record-above : (i : ℕ) → at + 20 ≤ i → getD (withRecord s at e) i 0 ≡ getD s i 0
+  unfolding withRecord
+  octet-record-above i h = sets-above (entryBytes e) s at i (omega (arith, bytes-length e))
+
+  -- ---- records
+
+  pub record-same : at + 20 ≤ length s → InRange e → recordAt (withRecord s at e) at ≡ e
+  unfolding recordAt withRecord
+  record-same fits range =
+      ap entryOf (drop-sets s at (entryBytes e) (omega (arith, bytes-length e))) ∙ entry-back e (drop (at + length (entryBytes e)) s) range
+
+  pub record-below : (b : ℕ) → b + 20 ≤ at → recordAt (withRecord s at e) b ≡ recordAt s b
+  record-below b h = record-same-octets (withRecord s at e) s b (λ i l m. octet-record i (omega arith))
+
+  pub record-above : (b : ℕ) → at + 20 ≤ b → recordAt (withRecord s at e) b ≡ recordAt s b
+  record-above b h = record-same-octets (withRecord s at e) s b (λ i l m. octet-record-above i (omega arith))
+
+-- of records side by side, from a base on, another one is as it was
+pub record-other : (s : List ℕ) (e : ErrorEntry) (base i j : ℕ) → (j ≡ i → ⊥)
+    → recordAt (withRecord s (base + 20 * i) e) (base + 20 * j) ≡ recordAt s (base + 20 * j)
+record-other s e base i j ne =
+    ⊎-elim
+    (λ (h : j ≤ i). record-below s (base + 20 * i) e (base + 20 * j) (omega arith))
+    (λ (h : i < j). record-above s (base + 20 * i) e (base + 20 * j) (omega arith))
+    (le-or-lt j i)
+
+module _ (s : List ℕ) (i x at : ℕ) where
+  pub record-set : i < at → recordAt (set s i x) at ≡ recordAt s at
+  record-set h = record-same-octets (set s i x) s at (λ j l m. getD-set-other s i j x 0 (omega arith))
+
+  pub record-set-above : at + 20 ≤ i → recordAt (set s i x) at ≡ recordAt s at
+  record-set-above h = record-same-octets (set s i x) s at (λ j l m. getD-set-other s i j x 0 (omega arith))
+
+-- what is read from octets is of the widths
+pub in-range : (s : List ℕ) → Octets s → InRange (entryOf s)
+unfolding entryOf entryTypeOf
+in-range s o =
+    record {
+      profile = omega arith;
+      code = omega (arith, number-small s o 2 2);
+      seconds = omega (arith, number-small s o 4 4);
+      nanoseconds = omega (arith, number-small s o 4 8);
+      information = omega (arith, number-small s o 8 12);
+    }

@@ -1,0 +1,95 @@
+-- What each call promises, from its answer and the octets that it leaves; and its answer, by the tests that lead to it.
+-- Assumes nothing.
+use Prim.Native.Nat.{ℕ, _≤_, _<_}
+use mathlib.Core.Path.{_≡_, refl, sym, ap, _∙_}
+use mathlib.Core.Bool.{Bool, true, false, not, Bool·beq}
+use mathlib.Core.List.{List}
+use native.Mathlib.Omega.{arith}
+use lib.ListN.{length}
+use borrow.Author.Tests.{le-leb, lt-leb, lt-ltb, le-ltb, eq-eqb, ne-eqb, not-true, not-false}
+use Rattle.types.specs.declared.NodeId.{NodeId}
+use Rattle.error_entry.specs.declared.ErrorEntry.{ErrorEntry}
+use Rattle.codec.specs.Frame.{readFrame}
+use Rattle.reporter.specs.Calls.{Makes, Raises, Acknowledges, Reads}
+use Rattle.reporter.specs.Layout.{enOf, openOf, waitingOf, headOf, newBytes, raiseBytes, readBytes}
+use Rattle.reporter.specs.Rules.{newAnswer, newCause, isRaisable, raiseAnswer, raiseCause, heardIn, eaAnswer, heardAnswer, readCause, afterRead}
+use Rattle.reporter.specs.declared.NewAnswer.the-variants.{Made, IdOutOfRange}
+use Rattle.reporter.specs.declared.RaiseAnswer.the-variants.{Raised, EntryInvalid, QueueFull}
+use Rattle.reporter.specs.declared.ReadAnswer.{ReadAnswer}
+use Rattle.reporter.specs.declared.ReadAnswer.the-variants.{Closed, Kept}
+use Rattle.reporter.specs.declared.acknowledge.Heard.{Heard}
+use Rattle.reporter.proofs.Meaning.{Widths, made, raises-means, reads-means}
+use Rattle.reporter.proofs.Ranges.{en-is, waiting-length, batch-empty}
+use Rattle.reporter.proofs.Rows.{new-row, raise-row, read-row}
+
+-- ---- a new head
+
+module _ (i : NodeId) (s : List ℕ) where
+  pub makes-not : IdOutOfRange ≡ newAnswer (i .0) → Makes i IdOutOfRange s s
+  makes-not e = record { answer = e; cause = ap newCause e ∙ new-row (i .0); head = λ r. let z : _≡_ {A = ℕ} 0 1 = cc in absurd (omega arith); bytes = refl }
+
+  pub makes : Made ≡ newAnswer (i .0) → Makes i Made s (newBytes Made (i .0) s)
+  makes e = record { answer = e; cause = ap newCause e ∙ new-row (i .0); head = λ r. made (i .0) s; bytes = refl }
+
+  pub id-low : i .0 < 1 → IdOutOfRange ≡ newAnswer (i .0)
+  id-low h = rw (lt-leb 1 (i .0) h)
+
+  module _ (l : 1 ≤ i .0) where
+    pub id-high : 239 < i .0 → IdOutOfRange ≡ newAnswer (i .0)
+    id-high h = rw (le-leb 1 (i .0) l, lt-leb (i .0) 239 h)
+
+    pub id-good : i .0 ≤ 239 → Made ≡ newAnswer (i .0)
+    id-good h = rw (le-leb 1 (i .0) l, le-leb (i .0) 239 h)
+
+-- ---- Raise
+
+module _ (e : ErrorEntry) (s : List ℕ) where
+  module _ (b : Bool) (eb : b ≡ isRaisable e) where
+    pub raise-invalid : b ≡ false → EntryInvalid ≡ raiseAnswer e (headOf s)
+    unfolding raiseAnswer
+    raise-invalid h = rw (sym eb ∙ h)
+
+    module _ (n : ℕ) (h : b ≡ true) (en : n ≡ waitingOf s) where
+      pub raise-full : 16 ≤ n → QueueFull ≡ raiseAnswer e (headOf s)
+      unfolding raiseAnswer
+      raise-full l = rw (sym eb ∙ h, waiting-length s, ← en, le-ltb n 16 l)
+
+      pub raise-good : n < 16 → Raised ≡ raiseAnswer e (headOf s)
+      unfolding raiseAnswer
+      raise-good l = rw (sym eb ∙ h, waiting-length s, ← en, lt-ltb n 16 l)
+
+  pub invalid : EntryInvalid ≡ raiseAnswer e (headOf s) → Raises e EntryInvalid s s
+  invalid r = record { answer = r; cause = ap raiseCause r ∙ raise-row e (headOf s); head = refl; bytes = refl }
+
+  pub full : QueueFull ≡ raiseAnswer e (headOf s) → Raises e QueueFull s s
+  full r = record { answer = r; cause = ap raiseCause r ∙ raise-row e (headOf s); head = refl; bytes = refl }
+
+  pub raised : (after : List ℕ) → length s ≡ 408 → Widths e → Raised ≡ raiseAnswer e (headOf s) → after ≡ raiseBytes Raised e s → Raises e Raised s after
+  raised after size w r b =
+      record { answer = r; cause = ap raiseCause r ∙ raise-row e (headOf s); head = ap headOf b ∙ rw (← r) at (raises-means e s size w); bytes = b }
+
+-- ---- reading
+
+module _ (ea : Bool) (s : List ℕ) where
+  pub acknowledges : length s ≡ 408 → (r : ReadAnswer) → r ≡ eaAnswer ea (headOf s) → (after : List ℕ) → after ≡ readBytes r s → Acknowledges ea r s after
+  acknowledges size r e after b = record { answer = e; head = ap headOf b ∙ reads-means s size r; bytes = b }
+
+  module _ (n : ℕ) (eo : n ≡ openOf s) where
+    pub none-open : n ≡ 0 → Kept ≡ eaAnswer ea (headOf s)
+    unfolding eaAnswer
+    none-open h = rw (batch-empty s, eq-eqb (openOf s) 0 (omega arith))
+
+    module _ (h : n ≡ 0 → ⊥) (en : Bool) (ee : en ≡ enOf s) where
+      pub other-ea : not (Bool·beq en ea) ≡ true → Kept ≡ eaAnswer ea (headOf s)
+      unfolding eaAnswer
+      other-ea t = rw (batch-empty s, ne-eqb (openOf s) 0 (λ z. h (eo ∙ z)), en-is s, ← ee, not-true (Bool·beq en ea) t)
+
+      pub same-ea : not (Bool·beq en ea) ≡ false → Closed ≡ eaAnswer ea (headOf s)
+      unfolding eaAnswer
+      same-ea t = rw (batch-empty s, ne-eqb (openOf s) 0 (λ z. h (eo ∙ z)), en-is s, ← ee, not-false (Bool·beq en ea) t)
+
+module _ (frame s after : List ℕ) (r : ReadAnswer) (x : Heard) (ex : x ≡ heardIn (headOf s .id) (readFrame frame)) where
+  pub reads : r ≡ heardAnswer x (headOf s) → headOf after ≡ afterRead r (headOf s) → after ≡ readBytes r s → Reads frame r s after
+  reads e h b =
+      let f : r ≡ heardAnswer (heardIn (headOf s .id) (readFrame frame)) (headOf s) = e ∙ ap (λ (y : Heard). heardAnswer y (headOf s)) ex in
+      record { answer = f; cause = ap readCause f ∙ read-row (headOf s .id) (readFrame frame) (headOf s); head = h; bytes = b }

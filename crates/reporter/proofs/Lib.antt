@@ -1,0 +1,12 @@
+pub mod AnswerLaws
+pub mod Answering
+pub mod CallLaws
+pub mod Closing
+pub mod Entries
+pub mod Hearing
+pub mod Meaning
+pub mod Opening
+pub mod Raising
+pub mod Ranges
+pub mod Rows
+pub mod Tests

@@ -1,0 +1,51 @@
+-- What each call of a reporter promises: its answer is the rule's on what the state means, with 01's number; what the state means
+-- afterwards is the rule's; and the octets themselves. A refusal leaves state and target as they were.
+-- Assumes nothing.
+use Prim.Native.Nat.{ℕ}
+use mathlib.Core.Bool.{Bool}
+use mathlib.Core.Path.{_≡_}
+use mathlib.Core.List.{List}
+use lib.ListN.{length}
+use Rattle.types.specs.declared.NodeId.{NodeId}
+use Rattle.section.specs.Write.{Writes}
+use Rattle.section.specs.declared.WriteAnswer.{WriteAnswer}
+use Rattle.codec.specs.Frame.{readFrame, frameCause}
+use Rattle.error_entry.specs.declared.ErrorEntry.{ErrorEntry}
+use Rattle.reporter.specs.Layout.{headOf, newBytes, raiseBytes, answerBytes, readBytes}
+use Rattle.reporter.specs.Rules.{freshHead, newAnswer, newCause, newRow, raiseAnswer, raiseCause, raiseRow, afterRaise, opened, answerFrame, answerLength, afterAnswer, heardIn, eaAnswer, heardAnswer, readCause, afterRead}
+use Rattle.reporter.specs.declared.AnswerFields.{AnswerFields}
+use Rattle.reporter.specs.declared.NewAnswer.{NewAnswer}
+use Rattle.reporter.specs.declared.NewAnswer.the-variants.{Made}
+use Rattle.reporter.specs.declared.RaiseAnswer.{RaiseAnswer}
+use Rattle.reporter.specs.declared.ReadAnswer.{ReadAnswer}
+
+-- a head is made, and it is a fresh one; or "no head is made"
+pub record Makes (i : NodeId) (r : NewAnswer) (state after : List ℕ) : Type 0 where
+  pub answer : r ≡ newAnswer (i .0)
+  pub cause : newCause r ≡ newRow (i .0)
+  pub head : r ≡ Made → headOf after ≡ freshHead (i .0)
+  pub bytes : after ≡ newBytes r (i .0) state
+
+pub record Raises (e : ErrorEntry) (r : RaiseAnswer) (state after : List ℕ) : Type 0 where
+  pub answer : r ≡ raiseAnswer e (headOf state)
+  pub cause : raiseCause r ≡ raiseRow e (headOf state)
+  pub head : headOf after ≡ afterRaise r e (headOf state)
+  pub bytes : after ≡ raiseBytes r e state
+
+pub record Answers (f : AnswerFields) (r : WriteAnswer) (state after target written : List ℕ) : Type 0 where
+  pub writes : Writes (answerFrame f (opened (headOf state))) r target written
+  pub size : length (answerFrame f (opened (headOf state))) ≡ answerLength (length (opened (headOf state) .batch))
+  pub head : headOf after ≡ afterAnswer r (headOf state)
+  pub bytes : after ≡ answerBytes r state
+
+-- the part of reading that EA decides
+pub record Acknowledges (ea : Bool) (r : ReadAnswer) (state after : List ℕ) : Type 0 where
+  pub answer : r ≡ eaAnswer ea (headOf state)
+  pub head : headOf after ≡ afterRead r (headOf state)
+  pub bytes : after ≡ readBytes r state
+
+pub record Reads (frame : List ℕ) (r : ReadAnswer) (state after : List ℕ) : Type 0 where
+  pub answer : r ≡ heardAnswer (heardIn (headOf state .id) (readFrame frame)) (headOf state)
+  pub cause : readCause r ≡ frameCause (readFrame frame)
+  pub head : headOf after ≡ afterRead r (headOf state)
+  pub bytes : after ≡ readBytes r state

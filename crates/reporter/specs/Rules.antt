@@ -1,0 +1,165 @@
+-- The rules of 01, "The error exchange", for the head: a controlled node that reports errors (EPSG DS 301, 6.5).
+-- Assumes nothing.
+use Prim.Native.Nat.{ℕ, zero, suc, _+_, _*_}
+use mathlib.Core.Bool.{Bool, true, false, not, _&&_, Bool·beq}
+use mathlib.Core.List.{List, [], _∷_, _++_}
+use lib.ListN.{length, take, drop}
+use lib.Dec.{leb, ltb, eqb}
+use Rattle.types.specs.Causes.{Cause, row, causeOf}
+use Rattle.types.specs.Codes.{pick, need}
+use Rattle.types.specs.declared.service.ServiceId.the-variants as service
+use Rattle.section.specs.declared.WriteAnswer.{WriteAnswer}
+use Rattle.section.specs.declared.WriteAnswer.the-variants as write
+use Rattle.control.specs.ASnd.{newASnd}
+use Rattle.control.specs.declared.asnd.NewASndFrame.{NewASndFrame}
+use Rattle.frame.specs.Write.{frameBytes}
+use Rattle.frame.specs.declared.PowerlinkFrame.{PowerlinkFrame}
+use Rattle.frame.specs.declared.PowerlinkFrame.the-variants.{Soc, PReq, PRes, SoA, ASnd}
+use Rattle.codec.specs.declared.FrameAnswer.{FrameAnswer}
+use Rattle.codec.specs.declared.FrameAnswer.the-variants as frame
+use Rattle.error_entry.specs.declared.ErrorEntry.{ErrorEntry}
+use Rattle.status_response.specs.Fields.{headBytes}
+use Rattle.status_response.specs.Steps.{unlessTerminator, statusBytes}
+use Rattle.status_response.specs.declared.fields.StatusFields.{StatusFields}
+use Rattle.reporter.specs.declared.AnswerFields.{AnswerFields}
+use Rattle.reporter.specs.declared.NewAnswer.{NewAnswer}
+use Rattle.reporter.specs.declared.NewAnswer.the-variants.{Made, IdOutOfRange}
+use Rattle.reporter.specs.declared.RaiseAnswer.{RaiseAnswer}
+use Rattle.reporter.specs.declared.RaiseAnswer.the-variants.{Raised, EntryInvalid, QueueFull}
+use Rattle.reporter.specs.declared.ReadAnswer.{ReadAnswer}
+use Rattle.reporter.specs.declared.ReadAnswer.the-variants.{Closed, Kept, Ignored, Refused}
+use Rattle.reporter.specs.declared.acknowledge.Heard.{Heard}
+use Rattle.reporter.specs.declared.acknowledge.Heard.the-variants as heard
+
+-- "A head has a node ID, a bit EN, at most one open batch (1 to 4 entries) and up to 16 waiting entries": no entries, no open batch
+pub record Head : Type 0 where
+  pub id : ℕ
+  pub en : Bool
+  pub batch : List ErrorEntry
+  pub waiting : List ErrorEntry
+
+-- "Fresh: bits 0, all empty"
+abbrev pub freshHead : ℕ → Head
+freshHead i = record { id = i; en = false; batch = []; waiting = [] }
+
+-- ---- a new head
+
+-- cause 13: the ID of a new head is not 1 to 239
+abbrev pub newAnswer : ℕ → NewAnswer
+newAnswer i = need (leb 1 i && leb i 239) IdOutOfRange Made
+
+-- 01's number for each case: 0 where nothing is refused
+abbrev pub newCause : NewAnswer → Cause
+newCause Made = row 0 []
+newCause IdOutOfRange = row 13 []
+
+-- and for each input
+abbrev pub newRow : ℕ → Cause
+newRow i = need (leb 1 i && leb i 239) (row 13 []) (row 0 [])
+
+-- ---- Raise
+
+-- cause 8 says what may not be raised: "entry of mode 0, or profile above 4,095"
+unfoldable pub isRaisable : ErrorEntry → Bool
+isRaisable e = unlessTerminator (e .«entry_type» .mode) (ltb (e .«entry_type» .profile) 4096) false
+
+-- 8, then 9: "16 already waiting"
+unfoldable pub raiseAnswer : ErrorEntry → Head → RaiseAnswer
+raiseAnswer e h = need (isRaisable e) EntryInvalid (need (ltb (length (h .waiting)) 16) QueueFull Raised)
+
+abbrev pub raiseCause : RaiseAnswer → Cause
+raiseCause Raised = row 0 []
+raiseCause EntryInvalid = row 8 []
+raiseCause QueueFull = row 9 []
+
+abbrev pub raiseRow : ErrorEntry → Head → Cause
+raiseRow e h = need (isRaisable e) (row 8 []) (need (ltb (length (h .waiting)) 16) (row 9 []) (row 0 []))
+
+-- "the entry joins the waiting ones, last"
+abbrev pub afterRaise : RaiseAnswer → ErrorEntry → Head → Head
+afterRaise Raised e h = record { id = h .id; en = h .en; batch = h .batch; waiting = h .waiting ++ (e ∷ []) }
+afterRaise EntryInvalid e h = h
+afterRaise QueueFull e h = h
+
+-- ---- Answer
+
+abbrev pub isEmpty : List ErrorEntry → Bool
+isEmpty [] = true
+isEmpty (e ∷ es) = false
+
+-- "with no batch open and entries waiting"
+abbrev pub opens : Head → Bool
+opens h = isEmpty (h .batch) && not (isEmpty (h .waiting))
+
+-- "the first 4 (or all, if fewer) become the open batch and EN flips"
+unfoldable pub opened : Head → Head
+opened h =
+    pick (opens h)
+    (record { id = h .id; en = not (h .en); batch = take 4 (h .waiting); waiting = drop 4 (h .waiting) })
+    h
+
+-- the caller's fields, with EN
+abbrev pub statusFields : AnswerFields → Bool → StatusFields
+statusFields f en =
+    record { «en_flag» = en; «ec_flag» = f .«ec_flag»; pr = f .pr; rs = f .rs; «nmt_state» = f .«nmt_state» }
+
+-- "EN, its batch and the caller's other fields"
+unfoldable pub answerPayload : AnswerFields → Head → List ℕ
+answerPayload f h = statusBytes (headBytes (statusFields f (h .en)) (f .«static_error_bit_field»)) (h .batch)
+
+abbrev pub answerASnd : AnswerFields → ℕ → NewASndFrame
+answerASnd f i = newASnd (f .«source_mac») (f .«dest_mac») (record { 0 = 255 }) (record { 0 = i }) service.StatusResponse
+
+-- "an Ethernet frame from its ID to node 255, service 2"
+unfoldable pub answerFrame : AnswerFields → Head → List ℕ
+answerFrame f h = frameBytes (answerASnd f (h .id) .«eth_header») (ASnd (answerASnd f (h .id) .frame)) (answerPayload f h)
+
+-- "60 bytes without entries, else 52 + 20 per entry"
+abbrev pub answerLength : ℕ → ℕ
+answerLength zero = 60
+answerLength (suc n) = 52 + 20 * suc n
+
+-- "A refused answer changes nothing"
+abbrev pub afterAnswer : WriteAnswer → Head → Head
+afterAnswer (write.Written n) h = opened h
+afterAnswer (write.Refused e) h = h
+
+-- ---- reading a frame
+
+-- EA, where the source is 240 and the frame is for node i
+unfoldable pub eaFor : ℕ → ℕ → ℕ → Bool → Heard
+eaFor i source target ea = need (eqb source 240) heard.Nothing (need (eqb target i) heard.Nothing (heard.Ea ea))
+
+-- "a PReq to its ID or an SoA with it as target gives EA"
+abbrev pub heardFrame : ℕ → PowerlinkFrame → Heard
+heardFrame i (Soc f) = heard.Nothing
+heardFrame i (PReq f) = eaFor i (f .source .0) (f .destination .0) (f .flags .ea)
+heardFrame i (PRes f) = heard.Nothing
+heardFrame i (SoA f) = eaFor i (f .source .0) (f .«target_node_id» .0) (f .flags .ea)
+heardFrame i (ASnd f) = heard.Nothing
+
+abbrev pub heardIn : ℕ → FrameAnswer → Heard
+heardIn i (frame.Refused e) = heard.Refused e
+heardIn i (frame.Frame f) = heardFrame i f
+
+-- "If a batch is open and EA equals EN, it closes"
+unfoldable pub eaAnswer : Bool → Head → ReadAnswer
+eaAnswer ea h = pick (not (isEmpty (h .batch)) && Bool·beq (h .en) ea) Closed Kept
+
+-- "Other readable frames are ignored"; frames that cannot be read give their cause
+abbrev pub heardAnswer : Heard → Head → ReadAnswer
+heardAnswer (heard.Refused e) h = Refused e
+heardAnswer heard.Nothing h = Ignored
+heardAnswer (heard.Ea ea) h = eaAnswer ea h
+
+abbrev pub readCause : ReadAnswer → Cause
+readCause Closed = row 0 []
+readCause Kept = row 0 []
+readCause Ignored = row 0 []
+readCause (Refused e) = causeOf e
+
+abbrev pub afterRead : ReadAnswer → Head → Head
+afterRead Closed h = record { id = h .id; en = h .en; batch = []; waiting = h .waiting }
+afterRead Kept h = h
+afterRead Ignored h = h
+afterRead (Refused e) h = h

@@ -1,0 +1,131 @@
+// The batch that an answer carries, and the answer's frame.
+ghost use mathlib.Core.Path.{_≡_};
+ghost use Prim.Native.Nat.{_+_, _*_, _≤_};
+ghost use lib.ListN.{length, take};
+ghost use Rattle.section.specs.Write.{Writes};
+ghost use Rattle.reporter.specs.Layout.{reporterLength, headOf, opensIn, openedBytes, carriedIn, firstFour};
+ghost use Rattle.reporter.specs.Rules.{opened, statusFields, answerPayload, answerFrame};
+use crate::AnswerFields;
+use crate::Reporter;
+use crate::state::en;
+use crate::state::open;
+use crate::state::record_place;
+use crate::state::start;
+use crate::state::waiting;
+use control::asnd::ASndFrame;
+use error_entry::ErrorEntry;
+use frame::PowerlinkFrame;
+use frame::write::serialize_frame;
+use records::get;
+use section::WriteAnswer;
+use status_response::entries::serialize_batch;
+use status_response::fields::StatusFields;
+use types::C_ADR_BROADCAST_NODE_ID;
+use types::NodeId;
+use types::service::ServiceId;
+
+// The payload of the largest answer: 14 octets in front, four entries and the terminator.
+const PAYLOAD_MAX: usize = 114;
+
+// Whether an answer opens a batch: none is open, and entries wait.
+fn opens(state: &Reporter) -> bool
+    ensures { λ r. ⌜ (r ≡ opensIn (now (state .entry))) × (length (now (state .entry)) ≡ reporterLength) ⌝ }
+{
+    if 0 < open(state) {
+        return false;
+    }
+    0 < waiting(state)
+}
+
+// How many entries an answer carries.
+fn carried(state: &Reporter) -> u8
+    ensures { λ r. ⌜ (r ≡ carriedIn (now (state .entry))) × (r ≤ 4) ⌝ }
+{
+    if !opens(state) {
+        return open(state);
+    }
+    let n = waiting(state);
+    if n < 4 { n } else { 4 }
+}
+
+// The first waiting entries become the open batch, and EN flips, where an answer opens one.
+pub fn open_batch(state: &mut Reporter)
+    ensures { λ _. ⌜ (now (state .exit) ≡ openedBytes (now (state .entry))) × (length (now (state .entry)) ≡ reporterLength) ⌝ }
+{
+    if !opens(state) {
+        return;
+    }
+    let n = carried(state);
+    let left = waiting(state) - n;
+    state[1] = if en(state) { 0 } else { 1 };
+    state[3] = n;
+    state[4] = left;
+}
+
+// The four entries from the ring's start on, whether they are of the batch or not.
+fn first_four(state: &Reporter) -> [ErrorEntry; 4]
+    ensures { λ r. ⌜ r ≡ firstFour (now (state .entry)) ⌝ }
+{
+    let at = start(state);
+    [
+        get(state, record_place(at)),
+        get(state, record_place(at + 1)),
+        get(state, record_place(at + 2)),
+        get(state, record_place(at + 3)),
+    ]
+}
+
+// The front of an answer's payload, but for the error field.
+fn status_fields(state: &Reporter, fields: AnswerFields) -> StatusFields
+    ensures { λ r. ⌜ r ≡ statusFields fields (opened (headOf (now (state .entry))) .en) ⌝ }
+{
+    let en = en(state);
+    StatusFields {
+        en_flag: if opens(state) { !en } else { en },
+        ec_flag: fields.ec_flag,
+        pr: fields.pr,
+        rs: fields.rs,
+        nmt_state: fields.nmt_state,
+    }
+}
+
+// Puts an answer's payload at the front of `payload`.
+fn put_payload(state: &Reporter, fields: AnswerFields, payload: &mut [u8; PAYLOAD_MAX])
+    ensures { λ _. ⌜ take (34 + 20 * carriedIn (now (state .entry))) (now (payload .exit)) ≡ answerPayload fields (opened (headOf (now (state .entry)))) ⌝ }
+{
+    let front = status_fields(state, fields);
+    let n = carried(state) as usize;
+    serialize_batch(
+        front,
+        fields.static_error_bit_field,
+        first_four(state),
+        n,
+        payload,
+    );
+}
+
+// Writes the frame of an answer, if it fits.
+pub fn answer_frame(state: &Reporter, fields: AnswerFields, target: &mut [u8]) -> WriteAnswer
+    ensures { λ r. ⌜ Writes (answerFrame fields (opened (headOf (now (state .entry))))) r (now (target .entry)) (now (target .exit)) ⌝ }
+{
+    let mut payload = [0u8; PAYLOAD_MAX];
+    put_payload(state, fields, &mut payload);
+    let len = 34 + 20 * (carried(state) as usize);
+    let source_mac = fields.source_mac;
+    let dest_mac = fields.dest_mac;
+    let asnd = ASndFrame::new(
+        source_mac,
+        dest_mac,
+        NodeId(C_ADR_BROADCAST_NODE_ID),
+        NodeId(state[0]),
+        ServiceId::StatusResponse,
+    );
+    let eth_header = asnd.eth_header;
+    let frame = asnd.frame;
+    serialize_frame(
+        eth_header,
+        PowerlinkFrame::ASnd(frame),
+        &payload[..len],
+        target,
+    )
+}

@@ -1,0 +1,129 @@
+// A controlled node's side of error signaling (EPSG DS 301, 6.5; 01: the head). It collects error entries, reports them
+// in StatusResponses, batch by batch, and closes a batch once the managing node has acknowledged it: the bit EN, exception
+// new, flips with each batch, and EA, exception acknowledge, comes back equal.
+//
+// Its state is octets that the caller lends. What they mean is told in specs/Layout.antt; every pattern means something.
+ghost use mathlib.Core.Path.{_≡_};
+ghost use Rattle.reporter.specs.Calls.{Makes, Raises, Answers, Reads};
+
+mod acknowledge;
+mod batch;
+mod state;
+
+use acknowledge::Heard;
+use acknowledge::acknowledge;
+use acknowledge::hear;
+use batch::answer_frame;
+use batch::open_batch;
+use error_entry::ErrorEntry;
+use records::RECORD_LEN;
+use section::WriteAnswer;
+use state::push;
+use state::raisable;
+use state::waiting;
+use status_response::bit_field::StaticErrorBitField;
+use types::C_ADR_MAX_CN_NODE_ID;
+use types::NodeId;
+use types::basic::MacAddress;
+use types::hal::PowerlinkError;
+use types::poll_flags::PRFlag;
+use types::poll_flags::RSFlag;
+use types::states::NmtState;
+
+// The octets in front of the records.
+const CONTROL_LEN: usize = 8;
+
+// Places for the largest open batch and for all entries that may wait.
+const PLACES: usize = 20;
+
+pub const REPORTER_LEN: usize = CONTROL_LEN + PLACES * RECORD_LEN;
+
+// 01's head.
+pub type Reporter = [u8; REPORTER_LEN];
+
+pub enum NewAnswer {
+    Made,
+    IdOutOfRange,
+}
+
+pub enum RaiseAnswer {
+    Raised,
+    // The mode is the terminator's, or the profile has more than 12 bits.
+    EntryInvalid,
+    // 16 entries are waiting.
+    QueueFull,
+}
+
+// What an answer holds beside the entries and EN.
+pub struct AnswerFields {
+    pub source_mac: MacAddress,
+    pub dest_mac: MacAddress,
+    pub ec_flag: bool,
+    pub pr: PRFlag,
+    pub rs: RSFlag,
+    pub nmt_state: NmtState,
+    pub static_error_bit_field: StaticErrorBitField,
+}
+
+// What reading a frame comes to: the open batch is acknowledged and closed; EA was read and closes nothing; the frame
+// holds no EA for this node; or it cannot be read.
+pub enum ReadAnswer {
+    Closed,
+    Kept,
+    Ignored,
+    Refused(PowerlinkError),
+}
+
+// Makes a fresh state for a node.
+pub fn new(state: &mut Reporter, id: NodeId) -> NewAnswer
+    ensures { λ r. ⌜ Makes id r (now (state .entry)) (now (state .exit)) ⌝ }
+{
+    if id.0 < 1 {
+        return NewAnswer::IdOutOfRange;
+    }
+    if C_ADR_MAX_CN_NODE_ID < id.0 {
+        return NewAnswer::IdOutOfRange;
+    }
+    *state = [0u8; REPORTER_LEN];
+    state[0] = id.0;
+    NewAnswer::Made
+}
+
+// An entry joins the waiting ones, last.
+pub fn raise(state: &mut Reporter, entry: ErrorEntry) -> RaiseAnswer
+    ensures { λ r. ⌜ Raises entry r (now (state .entry)) (now (state .exit)) ⌝ }
+{
+    if !raisable(entry) {
+        return RaiseAnswer::EntryInvalid;
+    }
+    if 16 <= waiting(state) {
+        return RaiseAnswer::QueueFull;
+    }
+    push(state, entry);
+    RaiseAnswer::Raised
+}
+
+// Writes a StatusResponse with the open batch. Where none is open and entries wait, the first four, or all if fewer,
+// become it, and EN flips; a refused answer leaves that undone.
+pub fn answer(state: &mut Reporter, fields: AnswerFields, target: &mut [u8]) -> WriteAnswer
+    ensures { λ r. ⌜ Answers fields r (now (state .entry)) (now (state .exit)) (now (target .entry)) (now (target .exit)) ⌝ }
+{
+    match answer_frame(state, fields, target) {
+        WriteAnswer::Written(n) => {
+            open_batch(state);
+            WriteAnswer::Written(n)
+        }
+        WriteAnswer::Refused(e) => WriteAnswer::Refused(e),
+    }
+}
+
+// Reads a frame: a PReq to this node or an SoA with it as target, from the managing node, gives EA.
+pub fn read(state: &mut Reporter, buffer: &[u8]) -> ReadAnswer
+    ensures { λ r. ⌜ Reads (now (buffer .entry)) r (now (state .entry)) (now (state .exit)) ⌝ }
+{
+    match hear(state[0], buffer) {
+        Heard::Refused(e) => ReadAnswer::Refused(e),
+        Heard::Nothing => ReadAnswer::Ignored,
+        Heard::Ea(ea) => acknowledge(state, ea),
+    }
+}

@@ -1,0 +1,137 @@
+-- The box's calls keep the invariant.
+-- Assumes nothing.
+use Prim.Native.Nat.{ℕ, _+_, _≤_}
+use mathlib.Core.Bool.{Bool, true, false, not, _||_, Bool·beq}
+use mathlib.Core.Path.{_≡_, sym, ap, _∙_}
+use mathlib.Core.List.{List, [], _∷_, _++_, append-assoc}
+use mathlib.Core.Option.{some}
+use native.Mathlib.Omega.{arith}
+use lib.ListN.{length, getElem?, length-append}
+use lib.Dec.{leb}
+use borrow.Author.Tests.{le-leb}
+use Rattle.codec.specs.Frame.{readFrame}
+use Rattle.error_entry.specs.declared.ErrorEntry.{ErrorEntry}
+use Rattle.reporter.specs.Rules.{Head, heardIn}
+use Rattle.reporter.specs.declared.acknowledge.Heard.the-variants as heard
+use Rattle.signaling.proofs.Facts.{beq-same, beq-not, at-lt, join-book}
+use Rattle.signaling.proofs.Invariant.{enSaid, batchSaid, Past, Inv}
+use Rattle.signaling.proofs.Transit.{answers-later, answers-fresh, answers-booked, requests-send, requests-booked}
+
+-- ---- what each call adds to the past
+
+module _ (c : Past) where
+  abbrev pub afterBoxRead : ℕ → Bool → Past
+  afterBoxRead p booked =
+      record {
+        answers = c .answers;
+        boxAt = p;
+        openedAt = c .openedAt;
+        requests = c .requests;
+        headAt = c .headAt;
+        booked = booked;
+        handed = c .handed;
+        accepted = c .accepted;
+      }
+
+  abbrev pub afterRequesting : List ℕ → Past
+  afterRequesting bs =
+      record {
+        answers = c .answers;
+        boxAt = c .boxAt;
+        openedAt = c .openedAt;
+        requests = c .requests ++ (bs ∷ []);
+        headAt = c .headAt;
+        booked = c .booked;
+        handed = c .handed;
+        accepted = c .accepted;
+      }
+
+  abbrev pub afterHanding : ErrorEntry → Past
+  afterHanding e =
+      record {
+        answers = c .answers;
+        boxAt = c .boxAt;
+        openedAt = c .openedAt;
+        requests = c .requests;
+        headAt = c .headAt;
+        booked = c .booked;
+        handed = c .handed ++ (e ∷ []);
+        accepted = c .accepted;
+      }
+
+module _ {i : ℕ} {h : Head} {ea : Bool} {book : List ErrorEntry} {c : Past} (t : Inv i h ea book c) where
+  -- ---- reading
+
+  module _ (p : ℕ) (bs : List ℕ) (le : c .boxAt ≤ p) (at : getElem? (c .answers) p ≡ some bs) where
+    -- a reading that changes nothing in the box
+    pub box-passes : Inv i h ea book (afterBoxRead c p (c .booked))
+    box-passes =
+        record {
+          id = t .id;
+          batch = t .batch;
+          waiting = t .waiting;
+          source = t .source;
+          answers = answers-later (t .answers) p le (at-lt (c .answers) bs p at);
+          turned = t .turned;
+          requests = t .requests;
+          idle = t .idle;
+          since = t .since;
+          total = t .total;
+          room = t .room;
+        }
+
+    pub box-books : enSaid bs ≡ not ea → length book + length (batchSaid bs) ≤ 64
+        → Inv i h (enSaid bs) (book ++ batchSaid bs) (afterBoxRead c p (leb (c .openedAt) p || c .booked))
+    box-books fresh room =
+        let (differ, past, bit, same-batch, open?) = answers-fresh (t .answers) (t .idle) p bs le at fresh in
+        let en = h .en in
+        let was : c .booked ≡ false = t .since ∙ ap (λ (b : Bool). Bool·beq b en) differ ∙ beq-not en in
+        let now : leb (c .openedAt) p || c .booked ≡ true = ap (λ (b : Bool). b || c .booked) (le-leb _ _ past) in
+        record {
+          id = t .id;
+          batch = t .batch;
+          waiting = t .waiting;
+          source = t .source;
+          answers = answers-booked (t .answers) p le (at-lt (c .answers) bs p at) past (enSaid bs);
+          turned = length (c .requests);
+          requests = rw bit (requests-booked (t .requests) differ open?);
+          idle = λ e. bit;
+          since = now ∙ sym (beq-same en) ∙ ap (λ (b : Bool). Bool·beq b en) (sym bit);
+          total = rw (now, same-batch) (join-book (c .handed) book (h .batch) (h .waiting) (rw was at (t .total)));
+          room = simp length-append room;
+        }
+
+  -- ---- request and Take
+
+  pub request-sends : (bs : List ℕ) → ((x : Bool) → heardIn i (readFrame bs) ≡ heard.Ea x → x ≡ ea) → Inv i h ea book (afterRequesting c bs)
+  request-sends bs says =
+      record {
+        id = t .id;
+        batch = t .batch;
+        waiting = t .waiting;
+        source = t .source;
+        answers = t .answers;
+        turned = t .turned;
+        requests = requests-send (t .requests) bs says;
+        idle = t .idle;
+        since = t .since;
+        total = t .total;
+        room = t .room;
+      }
+
+  -- a Take moves the oldest entry of the book behind those handed out
+  pub take-moves : (e : ErrorEntry) (es : List ErrorEntry) → book ≡ e ∷ es → Inv i h ea es (afterHanding c e)
+  take-moves e es first =
+      record {
+        id = t .id;
+        batch = t .batch;
+        waiting = t .waiting;
+        source = t .source;
+        answers = t .answers;
+        turned = t .turned;
+        requests = t .requests;
+        idle = t .idle;
+        since = t .since;
+        total = rw (append-assoc (c .handed) (e ∷ []) es) (rw first at (t .total));
+        room = omega (arith, t .room, ap length first);
+      }

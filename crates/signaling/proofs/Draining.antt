@@ -1,0 +1,47 @@
+-- Takes can be made until one is refused.
+-- Assumes nothing.
+use Prim.Native.Nat.{ℕ}
+use mathlib.Core.Bool.{Bool}
+use mathlib.Core.Path.{_≡_, refl, ap, _∙_}
+use mathlib.Core.List.{List, [], _∷_}
+use mathlib.Core.Option.{Option, none, some}
+use lib.ListN.{length}
+use borrow.Author.Tests.{eq-eqb}
+use Rattle.error_entry.specs.declared.ErrorEntry.{ErrorEntry}
+use Rattle.collector.specs.Layout.{accountOf, takeBytes}
+use Rattle.collector.specs.Rules.{Account}
+use Rattle.collector.specs.declared.TakeAnswer.the-variants as taking
+use Rattle.collector.proofs.Meaning.{register-length, read-length, take-length}
+use Rattle.signaling.specs.Calls.{Event, World, Step, raise, answer, headReads, register, boxReads, request, takes, Run, fresh, call, Drained, over, more}
+use Rattle.signaling.proofs.Callable.{hands}
+use Rattle.signaling.proofs.Invariant.{bookOf}
+
+-- ---- a box has 5,184 octets
+
+step-size : {i : ℕ} {w v : World} {x : Event} → Step i w x v → length (v .box) ≡ length (w .box)
+step-size (raise e r after n c) = refl
+step-size (answer f r after target written sizes c) = refl
+step-size (headReads o bs r after d c) = refl
+step-size {w} (register j r after c) = ap length (c .bytes) ∙ register-length r j (w .box)
+step-size {w} (boxReads o bs r after d c) = ap length (c .bytes) ∙ read-length r bs (w .box)
+step-size (request j f r target written six c) = refl
+step-size {w} (takes j r after c) = ap length (c .bytes) ∙ take-length r j (w .box)
+
+pub box-size : {i : ℕ} {w : World} → Run i w → length (w .box) ≡ 5184
+box-size (fresh before head box m f) = ap length (f .bytes)
+box-size (call r s) = step-size s ∙ box-size r
+
+-- ---- what further Takes hand out is the book
+
+module _ (i : ℕ) where
+  draining-place : (ea : Bool) (es : List ErrorEntry) (b : List ℕ) → length b ≡ 5184 → accountOf b i ≡ some (record { ea = ea; book = es })
+      → Drained i b es
+  draining-place ea [] b size e = let r = rw e at (hands b i size) in over taking.NothingBooked b (r .0) tt
+  draining-place ea (x ∷ es) b size e =
+      let r = rw e at (hands b i size) in
+      more x (takeBytes (taking.Taken x) i b) es (r .0)
+      (draining-place ea es (takeBytes (taking.Taken x) i b) (r .1) (r .0 .box .accounts i ∙ rw (eq-eqb i i refl, e)))
+
+  pub draining : (o : Option Account) (b : List ℕ) → length b ≡ 5184 → accountOf b i ≡ o → Drained i b (bookOf o)
+  draining none b size e = let r = rw e at (hands b i size) in over taking.NotRegistered b (r .0) tt
+  draining (some p) b size e = draining-place (p .ea) (p .book) b size e

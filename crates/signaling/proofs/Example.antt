@@ -1,0 +1,223 @@
+-- A list of calls with a loss and a repeat that books two batches, and two exchanges.
+-- Assumes nothing.
+use Prim.Native.Nat.{ℕ, _^_, _<_}
+use mathlib.Core.Bool.{Bool, true, false}
+use mathlib.Core.Path.{_≡_, refl, sym, ap, _∙_}
+use mathlib.Core.List.{List, [], _∷_}
+use mathlib.Core.Option.{some}
+use native.Mathlib.Omega.{arith}
+use lib.ListN.{length, take}
+use Rattle.types.specs.declared.error_mode.ErrorEntryMode.{ErrorEntryMode}
+use Rattle.types.specs.declared.error_mode.ErrorEntryMode.the-variants.{ErrorActive, ErrorCleared, EventOccurred}
+use Rattle.section.specs.declared.WriteAnswer.the-variants as write
+use Rattle.error_entry.specs.declared.ErrorEntry.{ErrorEntry}
+use Rattle.reporter.specs.Rules.{Head, freshHead, isRaisable, raiseAnswer, afterRaise, opened, answerFrame, eaAnswer}
+use Rattle.reporter.specs.declared.RaiseAnswer.the-variants.{Raised}
+use Rattle.reporter.specs.declared.ReadAnswer.the-variants.{Closed}
+use Rattle.collector.specs.Layout.{freshBytes}
+use Rattle.collector.specs.Rules.{Account, freshAccount, registerAnswer, bookAnswer, requestFrame}
+use Rattle.collector.specs.declared.ReadAnswer.the-variants as box
+use Rattle.collector.specs.declared.RegisterAnswer.the-variants.{Registered}
+use Rattle.collector.specs.declared.RequestAnswer.the-variants as requesting
+use Rattle.signaling.specs.Calls.{sent, Event, raised, answered, headRead, registered, boxRead, requested, Log, Run, fresh, call}
+use Rattle.signaling.specs.Example.{entry, five, LossAndRepeat, TwoExchanges}
+use Rattle.signaling.specs.Exchanges.{done, more, still}
+use Rattle.signaling.proofs.Callable.{freshes}
+use Rattle.signaling.proofs.Draining.{draining}
+use Rattle.signaling.proofs.ExampleFrames.{numbers, fields, sizes, asked, fifth, first, second, answer-octets, first-says, second-says, hears-ea}
+use Rattle.signaling.proofs.Exchanging.{Exchanged, exchanging}
+use Rattle.signaling.proofs.Making.{world, Knows, Next, held, sent-whole, starting, raising, answering, closing, knowing, booking, asking}
+
+-- ---- what the head becomes, and the list of calls
+
+abbrev waits : List ErrorEntry → Head
+waits es = record { id = 7; en = false; batch = []; waiting = es }
+
+-- the first batch is closed, the second is not open yet
+abbrev between : Head
+between = record { id = 7; en = true; batch = []; waiting = fifth ∷ [] }
+
+abbrev place : Bool → List ErrorEntry → Account
+place ea es = record { ea = ea; book = es }
+
+-- the events of an answer and of a request
+abbrev answerOf : Head → Event
+answerOf h = answered (write.Written (length (answerFrame fields h))) (held (answerFrame fields h))
+
+abbrev requestOf : Bool → Event
+requestOf ea = requested 7 (requesting.Written (length (requestFrame 7 asked ea))) (held (requestFrame 7 asked ea))
+
+abbrev all-raised : Log
+all-raised =
+    raised fifth Raised ∷ raised (entry ErrorActive 0x8164) Raised ∷ raised (entry EventOccurred 0x8163) Raised
+    ∷ raised (entry ErrorCleared 0x8162) Raised
+    ∷ raised (entry ErrorActive 0x8161) Raised
+    ∷ registered 7 Registered
+    ∷ []
+
+-- the first answer is lost
+abbrev answered-twice : Log
+answered-twice = answerOf first ∷ answerOf first ∷ all-raised
+
+abbrev read-twice : Log
+read-twice =
+    boxRead (sent 1) (answerFrame fields first) box.Known ∷ boxRead (sent 1) (answerFrame fields first) box.Booked ∷ answered-twice
+
+abbrev first-closed : Log
+first-closed = headRead (sent 0) (requestFrame 7 asked true) Closed ∷ requestOf true ∷ read-twice
+
+abbrev all-booked : Log
+all-booked = boxRead (sent 2) (answerFrame fields second) box.Booked ∷ answerOf second ∷ first-closed
+
+abbrev all-closed : Log
+all-closed = headRead (sent 1) (requestFrame 7 asked false) Closed ∷ requestOf false ∷ all-booked
+
+-- an exchange in which the frames at these places are read
+abbrev exchanged : ℕ → ℕ → Head → Log → Log
+exchanged n m h l =
+    headRead (sent m) (requestFrame 7 asked (h .en)) Closed ∷ requestOf (h .en) ∷ boxRead (sent n) (answerFrame fields h) box.Booked ∷ answerOf h ∷ l
+
+-- ---- the list with a loss and a repeat
+
+-- a list of calls has come to this
+record Reached (l : Log) (h : Head) (p : Account) : Type 0 where
+  state : List ℕ
+  box : List ℕ
+  run : Run 7 (world state box l)
+  knows : Knows 7 state box l h p
+
+next : {l : Log} {h g : Head} {p q : Account} {x : Event} → Reached l h p
+    → ((s b : List ℕ) → Knows 7 s b l h p → Next 7 s b l x g q) → Reached (x ∷ l) g q
+next r make =
+    let n = make (r .state) (r .box) (r .knows) in
+    record { state = n .state; box = n .box; run = call (r .run) (n .step); knows = n .knows }
+
+reached-start : Reached (registered 7 Registered ∷ []) (freshHead 7) freshAccount
+unfolding registerAnswer
+reached-start =
+    let t = starting 7 refl (rw (freshes .box .accounts 7, freshes .box .vacant)) in
+    record {
+      state = t .next .state;
+      box = t .next .box;
+      run = call (fresh [] (t .head) freshBytes (t .made) (t .fresh)) (t .next .step);
+      knows = t .next .knows;
+    }
+
+adding : {l : Log} {h : Head} {p : Account} (m : ErrorEntryMode) (c : ℕ) → c < 2 ^ 16 → raiseAnswer (entry m c) h ≡ Raised → Reached l h p
+    → Reached (raised (entry m c) Raised ∷ l) (afterRaise Raised (entry m c) h) p
+adding m c small ok r = next r (λ s b k. raising k (entry m c) (numbers m c small) ok)
+
+reached-raised : Reached all-raised (waits five) freshAccount
+unfolding raiseAnswer isRaisable
+reached-raised =
+    adding ErrorCleared 0x8165 (omega arith) refl
+    (adding ErrorActive 0x8164 (omega arith) refl
+    (adding EventOccurred 0x8163 (omega arith) refl
+    (adding ErrorCleared 0x8162 (omega arith) refl
+    (adding ErrorActive 0x8161 (omega arith) refl
+    reached-start))))
+
+reached-answered : Reached answered-twice first freshAccount
+unfolding opened
+reached-answered =
+    next (next reached-raised (λ s b k. answering k fields sizes (omega arith)))
+    (λ s b k. answering k fields sizes (omega arith))
+
+reached-read : Reached read-twice first (place true (take 4 five))
+unfolding bookAnswer
+reached-read =
+    next
+    (next reached-answered
+    (λ s b k.
+    booking k (answerFrame fields first) first first-says refl 1
+    (omega arith, ap some (sent-whole (answerFrame fields first))) (answer-octets .0) refl))
+    (λ s b k.
+    knowing k (answerFrame fields first) first first-says refl 1
+    (omega arith, ap some (sent-whole (answerFrame fields first))) (answer-octets .0) refl)
+
+reached-first : Reached first-closed between (place true (take 4 five))
+unfolding asked eaAnswer
+reached-first =
+    next (next reached-read (λ s b k. asking k asked refl))
+    (λ s b k.
+    closing k 0 (requestFrame 7 asked true)
+    (omega arith, ap some (sent-whole (requestFrame 7 asked true))) refl (rw (hears-ea true)))
+
+reached-booked : Reached all-booked second (place false five)
+unfolding opened bookAnswer
+reached-booked =
+    next (next reached-first (λ s b k. answering k fields sizes (omega arith)))
+    (λ s b k.
+    booking k (answerFrame fields second) second second-says refl 2
+    (omega arith, ap some (sent-whole (answerFrame fields second))) (answer-octets .1) refl)
+
+reached-end : Reached all-closed (waits []) (place false five)
+unfolding asked eaAnswer
+reached-end =
+    next (next reached-booked (λ s b k. asking k asked refl))
+    (λ s b k.
+    closing k 1 (requestFrame 7 asked false)
+    (omega arith, ap some (sent-whole (requestFrame 7 asked false))) refl (rw (hears-ea false)))
+
+pub loss-and-repeat : LossAndRepeat
+loss-and-repeat =
+    let r = reached-end in
+    record {
+      w = world (r .state) (r .box) all-closed;
+      run = r .run;
+      entries = refl;
+      answers = refl;
+      boxes = refl;
+      requests = refl;
+      heads = refl;
+      place = r .knows .place;
+      rest = r .knows .rules;
+      state = r .knows .means ∙ sym (r .knows .rules);
+      booked = rw (reached-first .knows .rules);
+      drained = draining 7 (some (place false five)) (r .box) (r .knows .boxSize) (r .knows .place);
+    }
+
+-- ---- two exchanges
+
+module _ {s b : List ℕ} where
+  exchange₁ : Knows 7 s b all-raised (waits five) freshAccount
+      → Exchanged 7 s b all-raised (exchanged 0 0 first all-raised) between (place true (take 4 five))
+  unfolding opened asked bookAnswer eaAnswer
+  exchange₁ k =
+      exchanging 7 fields asked sizes refl all-raised (waits five) freshAccount 0 0 k (omega arith) first-says refl (answer-octets .0) refl
+      (omega arith, ap some (sent-whole (answerFrame fields first)))
+      (omega arith)
+      (omega arith, ap some (sent-whole (requestFrame 7 asked true)))
+      (omega arith)
+      (hears-ea true)
+      refl
+
+  exchange₂ : Knows 7 s b (exchanged 0 0 first all-raised) between (place true (take 4 five))
+      → Exchanged 7 s b (exchanged 0 0 first all-raised) (exchanged 1 1 second (exchanged 0 0 first all-raised)) (waits []) (place false five)
+  unfolding opened asked bookAnswer eaAnswer
+  exchange₂ k =
+      exchanging 7 fields asked sizes refl (exchanged 0 0 first all-raised) between (place true (take 4 five)) 1 1 k (omega arith) second-says
+      refl
+      (answer-octets .1)
+      refl
+      (omega arith, ap some (sent-whole (answerFrame fields second)))
+      (omega arith)
+      (omega arith, ap some (sent-whole (requestFrame 7 asked false)))
+      (omega arith)
+      (hears-ea false)
+      refl
+
+pub two-exchanges : TwoExchanges
+two-exchanges =
+    let r = reached-raised in
+    let x = exchange₁ (r .knows) in
+    let y = exchange₂ (x .knows) in
+    record {
+      w = world (r .state) (r .box) all-raised;
+      v = world (y .state) (y .box) (exchanged 1 1 second (exchanged 0 0 first all-raised));
+      run = r .run;
+      room = record { account = freshAccount; registered = r .knows .place; free = rw (r .knows .rules) (omega arith) };
+      waiting = rw (r .knows .rules);
+      exchanges = more still (x .exchange) (more still (y .exchange) (done still));
+      closed = rw (y .knows .rules);
+    }

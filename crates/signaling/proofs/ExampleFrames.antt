@@ -1,0 +1,102 @@
+-- The frames of the example, and what the calls are given for them.
+-- Assumes nothing.
+use Prim.Native.Nat.{ℕ, zero, suc, _^_, _<_}
+use mathlib.Core.Bool.{Bool, true, false, _&&_}
+use mathlib.Core.Path.{_≡_, refl}
+use mathlib.Core.List.{List, [], _∷_}
+use native.Mathlib.Omega.{arith}
+use lib.ListN.{take, replicate}
+use lib.Dec.{ltb}
+use borrow.Author.Tests.{ltb-true}
+use Rattle.octets.proofs.NumberBack.{Octets}
+use Rattle.types.specs.Addresses.{multicastASnd}
+use Rattle.types.specs.Header.{ethBytes}
+use Rattle.types.specs.PollFlags.{pollOctet}
+use Rattle.types.specs.declared.error_mode.ErrorEntryMode.{ErrorEntryMode}
+use Rattle.types.specs.declared.error_mode.ErrorEntryMode.the-variants.{ErrorCleared}
+use Rattle.types.specs.declared.poll_flags.PRFlag.the-variants.{Low1}
+use Rattle.types.specs.declared.states.NmtState.the-variants.{NmtOperational}
+use Rattle.section.specs.Write.{padded}
+use Rattle.control.specs.ASnd.{asndSection}
+use Rattle.frame.specs.Write.{frameBytes}
+use Rattle.codec.specs.Frame.{readFrame}
+use Rattle.error_entry.specs.Entry.{typeNumber, entryBytes}
+use Rattle.error_entry.specs.declared.ErrorEntry.{ErrorEntry}
+use Rattle.status_response.specs.BitField.{fieldBytes}
+use Rattle.status_response.specs.Fields.{headBytes}
+use Rattle.status_response.specs.Steps.{statusBytes}
+use Rattle.reporter.specs.Rules.{Head, isRaisable, answerPayload, answerFrame, eaFor, heardIn}
+use Rattle.reporter.specs.declared.AnswerFields.{AnswerFields}
+use Rattle.reporter.specs.declared.acknowledge.Heard.the-variants as heard
+use Rattle.collector.specs.Rules.{requestFrame}
+use Rattle.collector.specs.declared.RequestFields.{RequestFields}
+use Rattle.signaling.specs.Calls.{Numbers, AnswerSizes}
+use Rattle.signaling.specs.Example.{entry, five}
+use Rattle.signaling.proofs.Facts.{both}
+use Rattle.signaling.proofs.Frames.{Says, answer-reads, request-reads}
+
+-- ---- the entries, and what the calls are given
+
+pub numbers : (m : ErrorEntryMode) (c : ℕ) → c < 2 ^ 16 → Numbers (entry m c)
+numbers m c h = record { code = h; seconds = omega arith; nanoseconds = omega arith; information = omega arith }
+
+unfoldable pub fields : AnswerFields
+fields =
+    record {
+      «source_mac» = record { 0 = 2 ∷ 0 ∷ 0 ∷ 0 ∷ 0 ∷ 7 ∷ [] };
+      «dest_mac» = record { 0 = multicastASnd };
+      «ec_flag» = false;
+      pr = Low1;
+      rs = record { 0 = 0 };
+      «nmt_state» = NmtOperational;
+      «static_error_bit_field» = record { «error_register» = 1; «specific_errors» = replicate 7 0 };
+    }
+
+pub sizes : AnswerSizes fields
+unfolding fields
+sizes = record { source = refl; destination = refl; errors = refl }
+
+unfoldable pub asked : RequestFields
+asked = record { «source_mac» = record { 0 = 2 ∷ 0 ∷ 0 ∷ 0 ∷ 0 ∷ 240 ∷ [] }; «nmt_state» = NmtOperational; «epl_version» = record { 0 = 0x20 } }
+
+-- ---- the head, when it answers
+
+abbrev pub fifth : ErrorEntry
+fifth = entry ErrorCleared 0x8165
+
+-- with the first batch open, and with the second
+abbrev pub first : Head
+first = record { id = 7; en = true; batch = take 4 five; waiting = fifth ∷ [] }
+
+abbrev pub second : Head
+second = record { id = 7; en = false; batch = fifth ∷ []; waiting = [] }
+
+-- ---- the frames
+
+-- whether all are octets
+abbrev below : List ℕ → Bool
+below [] = true
+below (b ∷ bs) = ltb b 256 && below bs
+
+octets : (bs : List ℕ) → below bs ≡ true → Octets bs
+octets [] e i = omega arith
+octets (b ∷ bs) e zero = ltb-true b 256 (both (ltb b 256) (below bs) e .0)
+octets (b ∷ bs) e (suc i) = octets bs (both (ltb b 256) (below bs) e .1) i
+
+pub answer-octets : Octets (answerFrame fields first) × Octets (answerFrame fields second)
+unfolding fields answerFrame frameBytes ethBytes asndSection padded answerPayload statusBytes headBytes fieldBytes entryBytes typeNumber pollOctet
+answer-octets = (octets (answerFrame fields first) refl, octets (answerFrame fields second) refl)
+
+pub first-says : Says (answerFrame fields first) first
+unfolding isRaisable
+first-says =
+    answer-reads fields first sizes
+    ((refl, numbers _ _ (omega arith)), ((refl, numbers _ _ (omega arith)), ((refl, numbers _ _ (omega arith)), ((refl, numbers _ _ (omega arith)), tt))))
+
+pub second-says : Says (answerFrame fields second) second
+unfolding isRaisable
+second-says = answer-reads fields second sizes ((refl, numbers _ _ (omega arith)), tt)
+
+pub hears-ea : (ea : Bool) → heardIn 7 (readFrame (requestFrame 7 asked ea)) ≡ heard.Ea ea
+unfolding asked eaFor
+hears-ea ea = rw (request-reads 7 asked ea refl)

@@ -1,0 +1,98 @@
+-- One exchange: an answer is read and booked, and then a request is read, which closes the batch.
+-- Assumes nothing.
+use Prim.Native.Nat.{ℕ, _≤_}
+use mathlib.Core.Path.{_≡_}
+use mathlib.Core.List.{List, _∷_, _++_}
+use lib.ListN.{length}
+use Rattle.octets.proofs.NumberBack.{Octets}
+use Rattle.section.specs.declared.WriteAnswer.the-variants as write
+use Rattle.codec.specs.Frame.{readFrame}
+use Rattle.reporter.specs.Rules.{Head, opened, answerFrame, answerLength, heardIn, eaAnswer, afterRead}
+use Rattle.reporter.specs.declared.AnswerFields.{AnswerFields}
+use Rattle.reporter.specs.declared.ReadAnswer.the-variants.{Closed}
+use Rattle.reporter.specs.declared.acknowledge.Heard.the-variants as heard
+use Rattle.collector.specs.Rules.{Account, bookAnswer, requestFrame}
+use Rattle.collector.specs.declared.ReadAnswer.the-variants as box
+use Rattle.collector.specs.declared.RequestAnswer.the-variants as requesting
+use Rattle.collector.specs.declared.RequestFields.{RequestFields}
+use Rattle.signaling.specs.Calls.{sent, answered, headRead, boxRead, requested, Log, answersSent, requestsSent, boxAt, headAt, Delivered, AnswerSizes}
+use Rattle.signaling.specs.Exchanges.{Exchange, still}
+use Rattle.signaling.proofs.Frames.{Says}
+use Rattle.signaling.proofs.Making.{world, Knows, held, answering, closing, booking, asking}
+
+-- an exchange that can be made, and what it leaves
+pub record Exchanged (i : ℕ) (s b : List ℕ) (l after : Log) (h : Head) (p : Account) : Type 0 where
+  pub state : List ℕ
+  pub box : List ℕ
+  pub exchange : Exchange i (world s b l) (world state box after)
+  pub knows : Knows i state box after h p
+
+module _ (i : ℕ) (f : AnswerFields) (g : RequestFields) (sizes : AnswerSizes f) (six : length (g .«source_mac» .0) ≡ 6) where
+  module _ (l : Log) (h : Head) (p : Account) where
+    abbrev pub frame₁ : List ℕ
+    frame₁ = answerFrame f (opened h)
+
+    abbrev pub booked : Account
+    booked = record { ea = opened h .en; book = p .book ++ opened h .batch }
+
+    abbrev pub frame₂ : List ℕ
+    frame₂ = requestFrame i g (opened h .en)
+
+    abbrev pub written : Log
+    written = answered (write.Written (length frame₁)) (held frame₁) ∷ l
+
+    abbrev pub requested₁ : ℕ → Log
+    requested₁ n = requested i (requesting.Written (length frame₂)) (held frame₂) ∷ boxRead (sent n) frame₁ box.Booked ∷ written
+
+    pub exchanging : {s b : List ℕ} (n m : ℕ) → Knows i s b l h p → answerLength (length (opened h .batch)) ≤ 200 → Says frame₁ (opened h)
+        → opened h .id ≡ i
+        → Octets frame₁
+        → bookAnswer (opened h .en) (opened h .batch) p ≡ box.Booked
+        → Delivered i (sent n) frame₁ (answersSent written) (boxAt l)
+        → length (answersSent l) ≤ n
+        → Delivered 240 (sent m) frame₂ (requestsSent (requested₁ n)) (headAt l)
+        → length (requestsSent l) ≤ m
+        → heardIn i (readFrame frame₂) ≡ heard.Ea (opened h .en)
+        → eaAnswer (opened h .en) (opened h) ≡ Closed
+        → Exchanged i s b l (headRead (sent m) frame₂ Closed ∷ requested₁ n) (afterRead Closed (opened h)) booked
+    exchanging n m k small says from octets books₁ given₁ new₁ given₂ new₂ hears₁ closes =
+        let a = answering k f sizes small in
+        let b = booking (a .knows) frame₁ (opened h) says from n given₁ octets books₁ in
+        let c = asking (b .knows) g six in
+        let d = closing (c .knows) m frame₂ given₂ from (rw hears₁ closes) in
+        record {
+          state = d .state;
+          box = d .box;
+          exchange = record {
+            length₁ = length frame₁;
+            answer = held frame₁;
+            w₁ = world (a .state) (a .box) written;
+            answers = a .step;
+            w₂ = world (a .state) (a .box) written;
+            quiet₁ = still;
+            p = n;
+            answerRead = frame₁;
+            boxSays = box.Booked;
+            w₃ = world (b .state) (b .box) (boxRead (sent n) frame₁ box.Booked ∷ written);
+            boxReads = b .step;
+            newAnswer = new₁;
+            w₄ = world (b .state) (b .box) (boxRead (sent n) frame₁ box.Booked ∷ written);
+            quiet₂ = still;
+            length₂ = length frame₂;
+            request = held frame₂;
+            w₅ = world (c .state) (c .box) (requested₁ n);
+            requests = c .step;
+            w₆ = world (c .state) (c .box) (requested₁ n);
+            quiet₃ = still;
+            q = m;
+            requestRead = frame₂;
+            headSays = Closed;
+            w₇ = world (d .state) (d .box) (headRead (sent m) frame₂ Closed ∷ requested₁ n);
+            headReads = d .step;
+            newRequest = new₂;
+            ea = opened h .en;
+            mine = hears₁;
+            quiet₄ = still;
+          };
+          knows = d .knows;
+        }

@@ -1,0 +1,215 @@
+-- Each call can be made in any state, and what both states mean afterwards.
+-- Assumes nothing.
+use Prim.Native.Nat.{ℕ, _≤_}
+use mathlib.Core.Path.{_≡_, refl, ap, _∙_}
+use mathlib.Core.List.{List, [], _∷_, _++_}
+use mathlib.Core.Option.{some}
+use native.Mathlib.Omega.{arith}
+use lib.ListN.{length, take, drop, replicate}
+use lib.Seq.{take-at}
+use borrow.Author.Tests.{le-leb, eq-eqb}
+use Rattle.octets.proofs.NumberBack.{Octets}
+use Rattle.section.specs.Write.{writeAnswer, overwritten}
+use Rattle.section.specs.declared.WriteAnswer.the-variants as write
+use Rattle.codec.specs.Frame.{readFrame}
+use Rattle.error_entry.specs.declared.ErrorEntry.{ErrorEntry}
+use Rattle.reporter.specs.Calls as reporter
+use Rattle.reporter.specs.Layout.{headOf, newBytes, raiseBytes, answerBytes, readBytes}
+use Rattle.reporter.specs.Rules.{Head, freshHead, newAnswer, raiseAnswer, afterRaise, opened, answerFrame, answerLength, heardIn, heardAnswer, afterRead}
+use Rattle.reporter.specs.declared.AnswerFields.{AnswerFields}
+use Rattle.reporter.specs.declared.NewAnswer.the-variants.{Made}
+use Rattle.reporter.specs.declared.RaiseAnswer.the-variants.{Raised}
+use Rattle.reporter.specs.declared.ReadAnswer.the-variants.{Closed}
+use Rattle.collector.specs.Calls as collector
+use Rattle.collector.specs.Layout as layout
+use Rattle.collector.specs.Layout.{boxOf, accountOf, freshBytes, registerBytes}
+use Rattle.collector.specs.Rules.{Account, freshAccount, registerAnswer, bookAnswer, readAnswer, requestFrame}
+use Rattle.collector.specs.declared.ReadAnswer.the-variants as box
+use Rattle.collector.specs.declared.RegisterAnswer.the-variants.{Registered}
+use Rattle.collector.specs.declared.RequestAnswer.the-variants as requesting
+use Rattle.collector.specs.declared.RequestFields.{RequestFields}
+use Rattle.signaling.specs.Calls.{sent, Event, raised, answered, headRead, registered, boxRead, requested, Log, answersSent, requestsSent, boxAt, headAt, ruled, World, Delivered, Numbers, AnswerSizes, node, Step, raise, answer, headReads, register, boxReads, request}
+use Rattle.signaling.proofs.Callable.{makes, raises, answers, hears, freshes, registers, books, asks}
+use Rattle.signaling.proofs.Frames.{Says}
+
+abbrev pub world : List ℕ → List ℕ → Log → World
+world s b l = record { head = s; box = b; log = l }
+
+-- what both states mean after a log, to the head with ID i
+pub record Knows (i : ℕ) (s b : List ℕ) (l : Log) (h : Head) (p : Account) : Type 0 where
+  pub headSize : length s ≡ 408
+  pub boxSize : length b ≡ 5184
+  pub means : headOf s ≡ h
+  pub rules : ruled i l ≡ h
+  pub place : accountOf b i ≡ some p
+
+-- a call that can be made, and what it leaves
+pub record Next (i : ℕ) (s b : List ℕ) (l : Log) (x : Event) (h : Head) (p : Account) : Type 0 where
+  pub state : List ℕ
+  pub box : List ℕ
+  pub step : Step i (world s b l) x (world state box (x ∷ l))
+  pub knows : Knows i state box (x ∷ l) h p
+
+-- ---- writing
+
+pub target : List ℕ
+target = replicate 200 0
+
+-- what a target holds once these octets are written to it
+abbrev pub held : List ℕ → List ℕ
+held bs = bs ++ drop (length bs) target
+
+target-size : length target ≡ 200
+unfolding target
+target-size = refl
+
+module _ (bs : List ℕ) (fits : length bs ≤ 200) where
+  fits-target : length bs ≤ length target
+  fits-target = rw target-size fits
+
+  is-written : writeAnswer bs target ≡ write.Written (length bs)
+  unfolding writeAnswer
+  is-written = rw (le-leb (length bs) (length target) fits-target)
+
+  is-held : overwritten bs target ≡ held bs
+  unfolding overwritten
+  is-held = rw (le-leb (length bs) (length target) fits-target)
+
+pub sent-whole : (bs : List ℕ) → take (length bs) (held bs) ≡ bs
+sent-whole bs = take-at bs _ _ refl
+
+-- ---- the start
+
+pub record Started (i : ℕ) : Type 0 where
+  pub head : List ℕ
+  pub made : reporter.Makes (node i) Made [] head
+  pub fresh : collector.Fresh freshBytes
+  pub next : Next i head freshBytes [] (registered i Registered) (freshHead i) freshAccount
+
+pub starting : (i : ℕ) → newAnswer i ≡ Made → registerAnswer i (boxOf freshBytes) ≡ Registered → Started i
+starting i ok free =
+    let m = makes i [] ok in
+    let r = rw free at (registers freshBytes i refl) in
+    record {
+      head = newBytes Made i [];
+      made = m .0;
+      fresh = freshes;
+      next = record {
+        state = newBytes Made i [];
+        box = registerBytes Registered i freshBytes;
+        step = register i Registered (registerBytes Registered i freshBytes) (r .0);
+        knows = record {
+          headSize = m .1;
+          boxSize = r .1;
+          means = m .0 .head refl;
+          rules = refl;
+          place = r .0 .box .accounts i ∙ rw (eq-eqb i i refl);
+        };
+      };
+    }
+
+module _ {i : ℕ} {s b : List ℕ} {l : Log} {h : Head} {p : Account} (k : Knows i s b l h p) where
+  -- ---- the head's calls
+
+  pub raising : (e : ErrorEntry) → Numbers e → raiseAnswer e h ≡ Raised → Next i s b l (raised e Raised) (afterRaise Raised e h) p
+  raising e n ok =
+      let q : raiseAnswer e (headOf s) ≡ Raised = rw (k .means) ok in
+      let r = rw q at (raises s e (k .headSize) n) in
+      record {
+        state = raiseBytes Raised e s;
+        box = b;
+        step = raise e Raised (raiseBytes Raised e s) n (r .0);
+        knows = record {
+          headSize = r .1;
+          boxSize = k .boxSize;
+          means = r .0 .head ∙ rw (k .means);
+          rules = rw (k .rules, ok);
+          place = k .place;
+        };
+      }
+
+  pub answering : (f : AnswerFields) → AnswerSizes f → answerLength (length (opened h .batch)) ≤ 200
+      → Next i s b l (answered (write.Written (length (answerFrame f (opened h)))) (held (answerFrame f (opened h)))) (opened h) p
+  answering f sizes small =
+      let a = rw (k .means) at (answers s f target (k .headSize)) in
+      let fits : length (answerFrame f (opened h)) ≤ 200 = rw (rw (k .means) at (a .0 .size)) small in
+      let r = rw (is-written (answerFrame f (opened h)) fits, is-held (answerFrame f (opened h)) fits) at a in
+      record {
+        state = answerBytes (write.Written (length (answerFrame f (opened h)))) s;
+        box = b;
+        step = answer f _ _ target (held (answerFrame f (opened h))) sizes (r .0);
+        knows = record {
+          headSize = r .1;
+          boxSize = k .boxSize;
+          means = r .0 .head ∙ rw (k .means);
+          rules = rw (k .rules);
+          place = k .place;
+        };
+      }
+
+  pub closing : (q : ℕ) (bs : List ℕ) → Delivered 240 (sent q) bs (requestsSent l) (headAt l) → h .id ≡ i
+      → heardAnswer (heardIn i (readFrame bs)) h ≡ Closed → Next i s b l (headRead (sent q) bs Closed) (afterRead Closed h) p
+  closing q bs given same ok =
+      let c : heardAnswer (heardIn (headOf s .id) (readFrame bs)) (headOf s) ≡ Closed =
+      rw (k .means) (ap (λ (n : ℕ). heardAnswer (heardIn n (readFrame bs)) h) same ∙ ok) in
+      let r = rw c at (hears s bs (k .headSize)) in
+      record {
+        state = readBytes Closed s;
+        box = b;
+        step = headReads (sent q) bs Closed (readBytes Closed s) given (r .0);
+        knows = record {
+          headSize = r .1;
+          boxSize = k .boxSize;
+          means = r .0 .head ∙ rw (k .means);
+          rules = rw (k .rules, ok);
+          place = k .place;
+        };
+      }
+
+  -- ---- the box's calls
+
+  module _ (bs : List ℕ) (g : Head) (says : Says bs g) (from : g .id ≡ i) where
+    read-as : readAnswer bs (boxOf b) ≡ bookAnswer (g .en) (g .batch) p
+    unfolding readAnswer
+    read-as = rw (says .status, from, k .place, says .read, says .en, says .entries)
+
+    pub knowing : (q : ℕ) → Delivered i (sent q) bs (answersSent l) (boxAt l) → Octets bs → bookAnswer (g .en) (g .batch) p ≡ box.Known
+        → Next i s b l (boxRead (sent q) bs box.Known) h p
+    knowing q given octets ok =
+        let r = rw (read-as, ok) at (books b bs (k .boxSize) octets) in
+        record {
+          state = s;
+          box = b;
+          step = boxReads (sent q) bs box.Known b given (r .0);
+          knows = record { headSize = k .headSize; boxSize = k .boxSize; means = k .means; rules = k .rules; place = k .place };
+        }
+
+    pub booking : (q : ℕ) → Delivered i (sent q) bs (answersSent l) (boxAt l) → Octets bs → bookAnswer (g .en) (g .batch) p ≡ box.Booked
+        → Next i s b l (boxRead (sent q) bs box.Booked) h (record { ea = g .en; book = p .book ++ g .batch })
+    booking q given octets ok =
+        let r = rw (read-as, ok) at (books b bs (k .boxSize) octets) in
+        record {
+          state = s;
+          box = layout.readBytes box.Booked bs b;
+          step = boxReads (sent q) bs box.Booked (layout.readBytes box.Booked bs b) given (r .0);
+          knows = record {
+            headSize = k .headSize;
+            boxSize = r .1;
+            means = k .means;
+            rules = k .rules;
+            place = r .0 .box .accounts i ∙ rw (says .status, from, eq-eqb i i refl, k .place, says .read, says .en, says .entries);
+          };
+        }
+
+  pub asking : (f : RequestFields) → length (f .«source_mac» .0) ≡ 6
+      → Next i s b l (requested i (requesting.Written (length (requestFrame i f (p .ea)))) (held (requestFrame i f (p .ea)))) h p
+  asking f six =
+      let a = rw (k .place) at (asks b i f target) in
+      let fits : length (requestFrame i f (p .ea)) ≤ 200 = rw (a .size (p .ea)) (omega arith) in
+      let r = rw (is-written (requestFrame i f (p .ea)) fits, is-held (requestFrame i f (p .ea)) fits) at a in
+      record {
+        state = s;
+        box = b;
+        step = request i f _ target (held (requestFrame i f (p .ea))) six r;
+        knows = record { headSize = k .headSize; boxSize = k .boxSize; means = k .means; rules = k .rules; place = k .place };
+      }

@@ -1,0 +1,235 @@
+-- What a quiet call leaves as it was.
+-- Assumes nothing.
+use Prim.Native.Nat.{ℕ, _+_, _≤_}
+use mathlib.Core.Bool.{Bool}
+use mathlib.Core.Path.{_≡_, refl, _∙_}
+use mathlib.Core.Logic.{_⊎_, inl, inr}
+use mathlib.Core.List.{List, append-nil}
+use mathlib.Core.Option.{Option, none, some}
+use native.Mathlib.Omega.{arith}
+use lib.ListN.{length, take, getElem?, length-append}
+use lib.Dec.{eqb}
+use borrow.Author.Tests.{eqb-true}
+use Rattle.section.specs.declared.WriteAnswer.the-variants as write
+use Rattle.codec.specs.Frame.{readFrame}
+use Rattle.reporter.specs.Rules.{Head, afterAnswer, heardIn}
+use Rattle.reporter.specs.declared.RaiseAnswer.the-variants.{Raised, EntryInvalid, QueueFull}
+use Rattle.reporter.specs.declared.acknowledge.Heard.the-variants as heard
+use Rattle.collector.specs.Layout.{boxOf}
+use Rattle.collector.specs.Rules.{Account, Box, withAccount, afterRegister, heardIn as boxHeard, statusPayload, afterBooking, afterRead as boxAfterRead, withoutFirst, afterTake}
+use Rattle.collector.specs.declared.ReadAnswer.{ReadAnswer as BoxReadAnswer}
+use Rattle.collector.specs.declared.ReadAnswer.the-variants as box
+use Rattle.collector.specs.declared.RegisterAnswer.{RegisterAnswer}
+use Rattle.collector.specs.declared.RegisterAnswer.the-variants.{Registered, IdOutOfRange, IdRegistered, Full}
+use Rattle.collector.specs.declared.RequestAnswer.the-variants as requesting
+use Rattle.collector.specs.declared.TakeAnswer.{TakeAnswer}
+use Rattle.collector.specs.declared.TakeAnswer.the-variants as taking
+use Rattle.collector.specs.declared.reading.Heard.{Heard as BoxHeard}
+use Rattle.collector.specs.declared.reading.Heard.the-variants as boxHears
+use Rattle.signaling.specs.Calls.{sent, foreign, Event, raised, answered, headRead, registered, boxRead, requested, taken, accepted, handedOut, answersSent, requestsSent, World, Step, raise, answer, headReads, register, boxReads, request, takes}
+use Rattle.signaling.specs.Exchanges.{Quiet, NoRepeat, Quietly, still, next, again}
+use Rattle.signaling.proofs.Calls.{unheard, read-elsewhere, register-same}
+use Rattle.signaling.proofs.Facts.{either, at-snoc}
+use Rattle.signaling.proofs.Frames.{Says}
+use Rattle.signaling.proofs.Invariant.{eaOf, headIn, placeFor, Held}
+use Rattle.signaling.proofs.Steps.{answer-says, head-now, request-says}
+
+-- ---- every call but a Raise that is accepted: a place stays, nothing is accepted, and nothing is taken back
+
+abbrev pub IsPlace : Option Account → Type 0
+IsPlace none = ⊥
+IsPlace (some p) = Unit {0}
+
+module _ (i : ℕ) (b : Box) (is : IsPlace (b .accounts i)) where
+  with-stays : (j : ℕ) (p : Account) → IsPlace (withAccount j p b .accounts i)
+  with-stays j p = either (eqb i j) (λ here. rw here tt) (λ away. rw away is)
+
+  register-stays : (j : ℕ) (r : RegisterAnswer) → IsPlace (afterRegister r j b .accounts i)
+  register-stays j Registered = with-stays j _
+  register-stays j IdOutOfRange = is
+  register-stays j IdRegistered = is
+  register-stays j Full = is
+
+  booking-stays : (s : BoxHeard) (payload : List ℕ) → IsPlace (afterBooking s payload b .accounts i)
+  booking-stays (boxHears.Refused e) payload = is
+  booking-stays boxHears.Other payload = is
+  booking-stays (boxHears.Status source) payload = with-stays (source .0) _
+
+  read-stays : (bs : List ℕ) (r : BoxReadAnswer) → IsPlace (boxAfterRead r bs b .accounts i)
+  read-stays bs box.Booked = booking-stays (boxHeard (readFrame bs)) (statusPayload bs)
+  read-stays bs box.Known = is
+  read-stays bs (box.Refused e) = is
+  read-stays bs box.NotStatusResponse = is
+  read-stays bs box.NotRegistered = is
+  read-stays bs box.BookFull = is
+
+  take-stays : (j : ℕ) (r : TakeAnswer) → IsPlace (afterTake r j b .accounts i)
+  take-stays j (taking.Taken e) = with-stays j _
+  take-stays j taking.NotRegistered = is
+  take-stays j taking.NothingBooked = is
+
+abbrev pub NoRaise : Event → Type 0
+NoRaise (raised e Raised) = ⊥
+NoRaise (raised e EntryInvalid) = Unit {0}
+NoRaise (raised e QueueFull) = Unit {0}
+NoRaise (answered r bs) = Unit {0}
+NoRaise (headRead o bs r) = Unit {0}
+NoRaise (registered j r) = Unit {0}
+NoRaise (boxRead o bs r) = Unit {0}
+NoRaise (requested j r bs) = Unit {0}
+NoRaise (taken j r) = Unit {0}
+
+-- the head is registered, and the book has places for all that is not in it
+pub record Ready (i : ℕ) (w : World) : Type 0 where
+  pub held : Held i w
+  pub place : IsPlace (placeFor i w)
+  pub room : length (accepted (w .log)) ≤ length (handedOut i (w .log)) + 64
+
+pub goes-on : {i : ℕ} {w v : World} {x : Event} → Step i w x v → NoRaise x → Held i v → Ready i w → Ready i v
+goes-on (raise e Raised after n c) k t y = absurd k
+goes-on (raise e EntryInvalid after n c) k t y = record { held = t; place = y .place; room = rw append-nil (y .room) }
+goes-on (raise e QueueFull after n c) k t y = record { held = t; place = y .place; room = rw append-nil (y .room) }
+goes-on (answer f r after target written sizes c) k t y = record { held = t; place = y .place; room = y .room }
+goes-on (headReads o bs r after d c) k t y = record { held = t; place = y .place; room = y .room }
+goes-on {i} {w} (register j r after c) k t y =
+    record { held = t; place = rw (c .box .accounts i) (register-stays i (boxOf (w .box)) (y .place) j r); room = y .room }
+goes-on {i} {w} (boxReads o bs r after d c) k t y =
+    record { held = t; place = rw (c .box .accounts i) (read-stays i (boxOf (w .box)) (y .place) bs r); room = y .room }
+goes-on (request j f r target written six c) k t y = record { held = t; place = y .place; room = y .room }
+goes-on {i} {w} (takes j r after c) k t y =
+    record {
+      held = t;
+      place = rw (c .box .accounts i) (take-stays i (boxOf (w .box)) (y .place) j r);
+      room = simp length-append (omega (arith, y .room));
+    }
+
+pub quiet-raises-not : (i : ℕ) (x : Event) → Quiet i x → NoRaise x
+quiet-raises-not i (raised e Raised) k = k
+quiet-raises-not i (raised e EntryInvalid) k = tt
+quiet-raises-not i (raised e QueueFull) k = tt
+quiet-raises-not i (answered r bs) k = tt
+quiet-raises-not i (headRead o bs r) k = tt
+quiet-raises-not i (registered j r) k = tt
+quiet-raises-not i (boxRead o bs r) k = tt
+quiet-raises-not i (requested j r bs) k = tt
+quiet-raises-not i (taken j r) k = tt
+
+-- ---- quiet calls
+
+-- only an answer changes the head
+abbrev pub headAfter : Event → Head → Head
+headAfter (raised e r) h = h
+headAfter (answered r bs) h = afterAnswer r h
+headAfter (headRead o bs r) h = h
+headAfter (registered j r) h = h
+headAfter (boxRead o bs r) h = h
+headAfter (requested j r bs) h = h
+headAfter (taken j r) h = h
+
+-- the head but for its opening, EA, and the frames sent but for those that say what both hold
+pub record Calm (i : ℕ) (x : Event) (w v : World) : Type 0 where
+  pub head : headIn v ≡ headAfter x (headIn w)
+  pub bit : eaOf (placeFor i v) ≡ eaOf (placeFor i w)
+  pub answers : (p : ℕ) (a : List ℕ) → getElem? (answersSent (v .log)) p ≡ some a
+      → (getElem? (answersSent (w .log)) p ≡ some a) ⊎ Says a (headIn v)
+  pub requests : (q : ℕ) (f : List ℕ) → getElem? (requestsSent (v .log)) q ≡ some f
+      → (getElem? (requestsSent (w .log)) q ≡ some f) ⊎ ((x : Bool) → heardIn i (readFrame f) ≡ heard.Ea x → x ≡ eaOf (placeFor i w))
+
+-- a Take leaves EA
+with-bit : (i j : ℕ) (p : Account) (b : Box) → p .ea ≡ eaOf (b .accounts j) → eaOf (withAccount j p b .accounts i) ≡ eaOf (b .accounts i)
+with-bit i j p b e =
+    either (eqb i j) (λ here. let same : i ≡ j = eqb-true i j here in rw (here, same) e) (λ away. rw away)
+
+taken-bit : (o : Option Account) → withoutFirst o .ea ≡ eaOf o
+taken-bit none = refl
+taken-bit (some p) = refl
+
+take-bit : (i j : ℕ) (b : Box) (r : TakeAnswer) → eaOf (afterTake r j b .accounts i) ≡ eaOf (b .accounts i)
+take-bit i j b (taking.Taken e) = with-bit i j _ b (taken-bit (b .accounts j))
+take-bit i j b taking.NotRegistered = refl
+take-bit i j b taking.NothingBooked = refl
+
+pub calm : {i : ℕ} {w v : World} {x : Event} → Held i w → Step i w x v → Quiet i x → Calm i x w v
+calm {i} {w} t (raise e Raised after n c) k = absurd k
+calm {i} {w} t (raise e EntryInvalid after n c) k =
+    record { head = c .head; bit = refl; answers = λ p a y. inl y; requests = λ q f y. inl y }
+calm {i} {w} t (raise e QueueFull after n c) k =
+    record { head = c .head; bit = refl; answers = λ p a y. inl y; requests = λ q f y. inl y }
+calm {i} {w} t (answer f (write.Refused e) after target written sizes c) k =
+    record { head = c .head; bit = refl; answers = λ p a y. inl (rw append-nil at y); requests = λ q f y. inl y }
+calm {i} {w} t (answer f (write.Written n) after target written sizes c) k =
+    record {
+      head = c .head;
+      bit = refl;
+      answers = λ p a y.
+          elim (at-snoc (answersSent (w .log)) (take n written) a p y) [
+            | inl z ↦ inl (z .1)
+            | inr z ↦ inr (rw (c .head, ← (z .1)) (answer-says t f n after target written sizes c))
+          ];
+      requests = λ q f y. inl y;
+    }
+calm {i} {w} t (headReads foreign bs r after d c) k =
+    record {
+      head = head-now t bs r after c ∙ unheard i (readFrame bs) (headIn w) d;
+      bit = refl;
+      answers = λ p a y. inl y;
+      requests = λ q f y. inl y;
+    }
+calm {i} {w} t (headReads (sent q) bs r after d c) k =
+    record {
+      head = head-now t bs r after c ∙ rw k;
+      bit = refl;
+      answers = λ p a y. inl y;
+      requests = λ q f y. inl y;
+    }
+calm {i} {w} t (register j r after c) k =
+    record {
+      head = refl;
+      bit = rw (c .box .accounts i) (register-same i j (boxOf (w .box)) r (c .answer) .0);
+      answers = λ p a y. inl y;
+      requests = λ q f y. inl y;
+    }
+calm {i} {w} t (boxReads foreign bs r after d c) k =
+    record {
+      head = refl;
+      bit = rw (c .box .accounts i, read-elsewhere i bs (boxOf (w .box)) r d);
+      answers = λ p a y. inl y;
+      requests = λ q f y. inl y;
+    }
+calm {i} {w} t (boxReads (sent p) bs r after d c) k = absurd k
+calm {i} {w} t (request j f requesting.NotRegistered target written six c) k =
+    record { head = refl; bit = refl; answers = λ p a y. inl y; requests = λ q f y. inl (rw append-nil at y) }
+calm {i} {w} t (request j f (requesting.Refused e) target written six c) k =
+    record { head = refl; bit = refl; answers = λ p a y. inl y; requests = λ q f y. inl (rw append-nil at y) }
+calm {i} {w} t (request j f (requesting.Written n) target written six c) k =
+    record {
+      head = refl;
+      bit = refl;
+      answers = λ p a y. inl y;
+      requests = λ q g y.
+          elim (at-snoc (requestsSent (w .log)) (take n written) g q y) [
+            | inl z ↦ inl (z .1)
+            | inr z ↦ inr (rw (← (z .1)) (request-says t j f n target written six c))
+          ];
+    }
+calm {i} {w} t (takes j r after c) k =
+    record {
+      head = refl;
+      bit = rw (c .box .accounts i) (take-bit i j (boxOf (w .box)) r);
+      answers = λ p a y. inl y;
+      requests = λ q f y. inl y;
+    }
+
+-- ---- many calls
+
+module _ {i : ℕ} (P : World → Type 0) where
+  -- what every quiet call and every repeat keeps
+  pub quietly : {Repeat : Event → Type 0} → ((w v : World) (x : Event) → Step i w x v → Quiet i x → P w → P v)
+      → ((w v : World) (x : Event) → Step i w x v → Repeat x → P w → P v)
+      → {w v : World} → Quietly i Repeat w v → P w → P v
+  quietly f g still y = y
+  quietly f g (next l s k) y = f _ _ _ s k (quietly f g l y)
+  quietly f g (again l s k) y = g _ _ _ s k (quietly f g l y)
+
+  pub no-repeat : (w v : World) (x : Event) → Step i w x v → NoRepeat x → P w → P v
+  no-repeat w v x s k y = absurd k

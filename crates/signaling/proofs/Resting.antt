@@ -1,0 +1,138 @@
+-- What quiet calls, and repeats among them, leave of a head: it is as it was, or its answer has opened a batch.
+-- Assumes nothing.
+use Prim.Native.Nat.{ℕ}
+use mathlib.Core.Bool.{Bool}
+use mathlib.Core.Path.{_≡_, refl, ap, _∙_}
+use mathlib.Core.Logic.{_⊎_, inl, inr}
+use mathlib.Core.List.{List, [], _∷_, _++_}
+use lib.ListN.{take-append-drop}
+use Rattle.section.specs.declared.WriteAnswer.the-variants as write
+use Rattle.codec.specs.Frame.{readFrame}
+use Rattle.error_entry.specs.declared.ErrorEntry.{ErrorEntry}
+use Rattle.reporter.specs.Rules.{Head, opened, heardIn, eaAnswer, afterRead}
+use Rattle.reporter.specs.declared.ReadAnswer.{ReadAnswer}
+use Rattle.reporter.specs.declared.acknowledge.Heard.the-variants as heard
+use Rattle.signaling.specs.Calls.{Origin, sent, Event, raised, answered, headRead, registered, boxRead, requested, taken, World, Step, headReads}
+use Rattle.signaling.specs.Exchanges.{Quiet, NoRepeat, RequestAgain, Quietly}
+use Rattle.signaling.proofs.Facts.{beq-same, beq-not}
+use Rattle.signaling.proofs.Invariant.{headIn, Held}
+use Rattle.signaling.proofs.Quiet.{Ready, goes-on, quiet-raises-not, headAfter, calm, quietly, no-repeat}
+use Rattle.signaling.proofs.Steps.{head-now, keeps}
+
+-- ---- the head's opening, by cases of the two lists; a head is the record of its fields
+
+open-twice : (i : ℕ) (en : Bool) (b w : List ErrorEntry)
+    → opened (opened (record { id = i; en = en; batch = b; waiting = w })) ≡ opened (record { id = i; en = en; batch = b; waiting = w })
+unfolding opened
+open-twice i en [] [] = refl
+open-twice i en [] (x ∷ w) = refl
+open-twice i en (x ∷ b) w = refl
+
+-- an opened head has nothing more to open
+pub opened-twice : (h : Head) → opened (opened h) ≡ opened h
+opened-twice h = open-twice (h .id) (h .en) (h .batch) (h .waiting)
+
+abbrev pub entries : Head → List ErrorEntry
+entries h = h .batch ++ h .waiting
+
+open-entries : (i : ℕ) (en : Bool) (b w : List ErrorEntry) → entries (opened (record { id = i; en = en; batch = b; waiting = w })) ≡ b ++ w
+unfolding opened
+open-entries i en [] [] = refl
+open-entries i en [] (x ∷ w) = take-append-drop 4 (x ∷ w)
+open-entries i en (x ∷ b) w = refl
+
+-- opening moves none
+opened-entries : (h : Head) → entries (opened h) ≡ entries h
+opened-entries h = open-entries (h .id) (h .en) (h .batch) (h .waiting)
+
+-- ---- the head's reading
+
+-- a request that carries this bit
+pub head-hears : {i : ℕ} {w v : World} {o : Origin} {bs : List ℕ} {r : ReadAnswer} {x : Bool} → heardIn i (readFrame bs) ≡ heard.Ea x
+    → Held i w
+    → Step i w (headRead o bs r) v
+    → headIn v ≡ afterRead (eaAnswer x (headIn w)) (headIn w)
+head-hears me t (headReads o bs r after d c) = head-now t bs r after c ∙ rw me
+
+-- a head with no open batch
+abbrev pub shut : Head → Head
+shut h = record { id = h .id; en = h .en; batch = []; waiting = h .waiting }
+
+closed-by : (i : ℕ) (en : Bool) (b w : List ErrorEntry)
+    → afterRead (eaAnswer en (record { id = i; en = en; batch = b; waiting = w })) (record { id = i; en = en; batch = b; waiting = w })
+    ≡ record { id = i; en = en; batch = []; waiting = w }
+unfolding eaAnswer
+closed-by i en [] w = refl
+closed-by i en (x ∷ b) w = rw (beq-same en)
+
+-- a request that carries EN leaves no batch open
+pub closed : (h : Head) → afterRead (eaAnswer (h .en) h) h ≡ shut h
+closed h = closed-by (h .id) (h .en) (h .batch) (h .waiting)
+
+kept-by : (i : ℕ) (en : Bool) (w : List ErrorEntry)
+    → afterRead (eaAnswer en (opened (record { id = i; en = en; batch = []; waiting = w })))
+    (opened (record { id = i; en = en; batch = []; waiting = w }))
+    ≡ opened (record { id = i; en = en; batch = []; waiting = w })
+unfolding opened eaAnswer
+kept-by i en [] = refl
+kept-by i en (x ∷ w) = rw (beq-not en)
+
+-- and one from before the next batch opened does not close that
+kept : (h : Head) → afterRead (eaAnswer (h .en) (opened (shut h))) (opened (shut h)) ≡ opened (shut h)
+kept h = kept-by (h .id) (h .en) (h .waiting)
+
+-- ---- a head at rest
+
+pub quiet-ready : {i : ℕ} {w v : World} {x : Event} → Step i w x v → Quiet i x → Ready i w → Ready i v
+quiet-ready {i} {x} s k y = goes-on s (quiet-raises-not i x k) (keeps (y .held) s) y
+
+-- only an answer changes the head
+pub opens-or-not : (x : Event) (h : Head) → (headAfter x h ≡ h) ⊎ (headAfter x h ≡ opened h)
+opens-or-not (raised e r) h = inl refl
+opens-or-not (answered (write.Written n) bs) h = inr refl
+opens-or-not (answered (write.Refused e) bs) h = inl refl
+opens-or-not (headRead o bs r) h = inl refl
+opens-or-not (registered j r) h = inl refl
+opens-or-not (boxRead o bs r) h = inl refl
+opens-or-not (requested j r bs) h = inl refl
+opens-or-not (taken j r) h = inl refl
+
+pub record Resting (i : ℕ) (h : Head) (w : World) : Type 0 where
+  pub ready : Ready i w
+  pub head : (headIn w ≡ h) ⊎ (headIn w ≡ opened h)
+
+pub resting-entries : {i : ℕ} {h : Head} {w : World} → Resting i h w → entries (headIn w) ≡ entries h
+resting-entries {h} y = elim (y .head) [ inl e ↦ ap entries e | inr e ↦ ap entries e ∙ opened-entries h ]
+
+module _ {i : ℕ} {h : Head} where
+  quiet-rests : (w v : World) (x : Event) → Step i w x v → Quiet i x → Resting i h w → Resting i h v
+  quiet-rests w v x s k y =
+      let now = calm (y .ready .held) s k .head in
+      record {
+        ready = quiet-ready s k (y .ready);
+        head = elim (opens-or-not x (headIn w)) [
+          | inl same ↦ elim (y .head) [ inl e ↦ inl (now ∙ same ∙ e) | inr e ↦ inr (now ∙ same ∙ e) ]
+          | inr opens ↦
+              elim (y .head) [
+                | inl e ↦ inr (now ∙ opens ∙ ap opened e)
+                | inr e ↦ inr (now ∙ opens ∙ ap opened e ∙ opened-twice h)
+              ]
+        ];
+      }
+
+  pub rests : {w v : World} → Quietly i NoRepeat w v → Resting i h w → Resting i h v
+  rests = quietly (Resting i h) quiet-rests (no-repeat (Resting i h))
+
+-- the request that closed the batch closes nothing more
+module _ {i : ℕ} (h : Head) {q : ℕ} {bs : List ℕ} (me : heardIn i (readFrame bs) ≡ heard.Ea (h .en)) where
+  again-rests : (w v : World) (x : Event) → Step i w x v → RequestAgain q bs x → Resting i (shut h) w → Resting i (shut h) v
+  again-rests w v x s k y =
+      let read : Step i w (headRead (sent q) bs (k .0)) v = rw (k .1) at s in
+      let now = head-hears me (y .ready .held) read in
+      record {
+        ready = goes-on read tt (keeps (y .ready .held) s) (y .ready);
+        head = elim (y .head) [ inl e ↦ inl (now ∙ rw e (closed (shut h))) | inr e ↦ inr (now ∙ rw e (kept h)) ];
+      }
+
+  pub rests-again : {w v : World} → Quietly i (RequestAgain q bs) w v → Resting i (shut h) w → Resting i (shut h) v
+  rests-again = quietly (Resting i (shut h)) quiet-rests again-rests

@@ -1,0 +1,201 @@
+-- Every call keeps the invariant.
+-- Assumes nothing.
+use Prim.Native.Nat.{ℕ}
+use mathlib.Core.Bool.{Bool}
+use mathlib.Core.Path.{_≡_, refl, ap, _∙_}
+use mathlib.Core.List.{List, [], _∷_, append-nil}
+use mathlib.Core.Option.{Option, none, some}
+use native.Mathlib.Omega.{arith}
+use lib.ListN.{length, take, drop}
+use lib.Dec.{eqb}
+use borrow.Author.Tests.{eqb-true, eqb-false, eq-eqb}
+use Rattle.section.specs.declared.WriteAnswer.{WriteAnswer}
+use Rattle.section.specs.declared.WriteAnswer.the-variants as write
+use Rattle.codec.specs.Frame.{readFrame}
+use Rattle.reporter.specs.Calls as reporter
+use Rattle.reporter.specs.Layout.{headOf}
+use Rattle.reporter.specs.Rules.{Head, freshHead, opened, answerFrame, afterAnswer, heardIn, heardAnswer, afterRead}
+use Rattle.reporter.specs.declared.AnswerFields.{AnswerFields}
+use Rattle.reporter.specs.declared.ReadAnswer.{ReadAnswer}
+use Rattle.reporter.specs.declared.acknowledge.Heard.the-variants as heard
+use Rattle.collector.specs.Calls as collector
+use Rattle.collector.specs.Layout.{boxOf, accountOf}
+use Rattle.collector.specs.Rules.{Account, statusPayload, readAnswer, requestFrame}
+use Rattle.collector.specs.declared.ReadAnswer.{ReadAnswer as BoxReadAnswer}
+use Rattle.collector.specs.declared.ReadAnswer.the-variants as box
+use Rattle.collector.specs.declared.RequestAnswer.{RequestAnswer}
+use Rattle.collector.specs.declared.RequestAnswer.the-variants as requesting
+use Rattle.collector.specs.declared.RequestFields.{RequestFields}
+use Rattle.collector.specs.declared.TakeAnswer.{TakeAnswer}
+use Rattle.collector.specs.declared.TakeAnswer.the-variants as taking
+use Rattle.signaling.specs.Calls.{Origin, sent, foreign, Event, answered, headRead, boxRead, requested, taken, requestsSent, answersSent, headAt, boxAt, Delivered, AnswerSizes, node, World, Step, raise, answer, headReads, register, boxReads, request, takes, Run, fresh, call}
+use Rattle.signaling.proofs.Facts.{either, beq-false, at-lt}
+use Rattle.signaling.proofs.Frames.{Says, answer-reads}
+use Rattle.signaling.proofs.Invariant.{enSaid, batchSaid, past, eaOf, bookOf, Inv, headIn, placeFor, Held}
+use Rattle.signaling.proofs.Head.{raise-keeps, opened-keeps, answer-written, head-reads}
+use Rattle.signaling.proofs.Box.{box-passes, box-books, request-sends, take-moves}
+use Rattle.signaling.proofs.Calls.{written-frame, unheard, requested-frame, request-here, request-else, why-booked, read-elsewhere, read-here, register-same, take-elsewhere, why-taken}
+
+module _ {i : ℕ} {w : World} (t : Held i w) where
+  abbrev h : Head
+  h = headIn w
+
+  abbrev o : Option Account
+  o = placeFor i w
+
+  -- ---- the head's calls
+
+  -- what is sent is an answer of the head as it opened
+  pub answer-says : (f : AnswerFields) (n : ℕ) (after target written : List ℕ) → AnswerSizes f
+      → reporter.Answers f (write.Written n) (w .head) after target written → Says (take n written) (opened (headIn w))
+  answer-says f n after target written sizes c =
+      let bs = answerFrame f (opened h) in
+      let octets : take n written ≡ bs = rw (c .writes .holds) (written-frame bs target n (c .writes .answer)) in
+      rw octets (answer-reads f (opened h) sizes (opened-keeps (t .inv) .batch))
+
+  answer-keeps : (f : AnswerFields) (r : WriteAnswer) (after target written : List ℕ) → AnswerSizes f
+      → reporter.Answers f r (w .head) after target written
+      → Inv i (headOf after) (eaOf o) (bookOf o) (past i (answered r written ∷ w .log))
+  answer-keeps f (write.Refused e) after target written sizes c = rw (c .head, append-nil) (t .inv)
+  answer-keeps f (write.Written n) after target written sizes c =
+      rw (c .head, ← (t .head)) (answer-written (t .inv) (take n written) (answer-says f n after target written sizes c))
+
+  pub head-now : (bs : List ℕ) (r : ReadAnswer) (after : List ℕ) → reporter.Reads bs r (w .head) after
+      → headOf after ≡ afterRead (heardAnswer (heardIn i (readFrame bs)) (headIn w)) (headIn w)
+  head-now bs r after c =
+      c .head ∙ ap (λ (x : ReadAnswer). afterRead x h) (c .answer ∙ ap (λ (k : ℕ). heardAnswer (heardIn k (readFrame bs)) h) (t .inv .id))
+
+  head-read-keeps : (from : Origin) (bs : List ℕ) (r : ReadAnswer) (after : List ℕ)
+      → Delivered 240 from bs (requestsSent (w .log)) (headAt (w .log))
+      → reporter.Reads bs r (w .head) after
+      → Inv i (headOf after) (eaOf o) (bookOf o) (past i (headRead from bs r ∷ w .log))
+  head-read-keeps foreign bs r after d c = rw (head-now bs r after c, unheard i (readFrame bs) h d) (t .inv)
+  head-read-keeps (sent q) bs r after d c = rw (head-now bs r after c) (head-reads (t .inv) q bs (d .0) (d .1) _ refl)
+
+  -- ---- the box's calls
+
+  books : (p : ℕ) (bs after : List ℕ) → Delivered i (sent p) bs (answersSent (w .log)) (boxAt (w .log))
+      → collector.Reads bs box.Booked (w .box) after
+      → Inv i h (eaOf (accountOf after i)) (bookOf (accountOf after i)) (past i (boxRead (sent p) bs box.Booked ∷ w .log))
+  unfolding readAnswer enSaid batchSaid
+  books p bs after d c =
+      let me = t .inv .source p bs (d .1) in
+      let y = why-booked (statusPayload bs) o (rw me at (c .answer)) in
+      let inv : Inv i h (y .place .ea) (y .place .book) (past i (w .log)) = rw (y .known) at (t .inv) in
+      rw (c .box .accounts i, read-here i bs (boxOf (w .box)) me, y .known)
+      (box-books inv p bs (d .0) (d .1) (beq-false _ _ (y .fresh)) (y .room))
+
+  box-read-keeps : (from : Origin) (bs : List ℕ) (r : BoxReadAnswer) (after : List ℕ)
+      → Delivered i from bs (answersSent (w .log)) (boxAt (w .log))
+      → collector.Reads bs r (w .box) after
+      → Inv i h (eaOf (accountOf after i)) (bookOf (accountOf after i)) (past i (boxRead from bs r ∷ w .log))
+  box-read-keeps foreign bs r after d c = rw (c .box .accounts i, read-elsewhere i bs (boxOf (w .box)) r d) (t .inv)
+  box-read-keeps (sent p) bs box.Booked after d c = books p bs after d c
+  box-read-keeps (sent p) bs box.Known after d c = rw (c .box .accounts i) (box-passes (t .inv) p bs (d .0) (d .1))
+  box-read-keeps (sent p) bs (box.Refused e) after d c = rw (c .box .accounts i) (box-passes (t .inv) p bs (d .0) (d .1))
+  box-read-keeps (sent p) bs box.NotStatusResponse after d c = rw (c .box .accounts i) (box-passes (t .inv) p bs (d .0) (d .1))
+  box-read-keeps (sent p) bs box.NotRegistered after d c = rw (c .box .accounts i) (box-passes (t .inv) p bs (d .0) (d .1))
+  box-read-keeps (sent p) bs box.BookFull after d c = rw (c .box .accounts i) (box-passes (t .inv) p bs (d .0) (d .1))
+
+  -- what is sent tells the head EA, if it tells it anything
+  pub request-says : (j : ℕ) (f : RequestFields) (n : ℕ) (target written : List ℕ) → length (f .«source_mac» .0) ≡ 6
+      → collector.Requests (node j) f (requesting.Written n) (w .box) target written
+      → (x : Bool) → heardIn i (readFrame (take n written)) ≡ heard.Ea x → x ≡ eaOf (placeFor i w)
+  request-says j f n target written six c x me =
+      let y = requested-frame j f (accountOf (w .box) j) target n (c .answer) in
+      let ea = y .place .ea in
+      let octets : take n written ≡ requestFrame j f ea = rw (c .holds) (y .octets) in
+      let mine : heardIn i (readFrame (requestFrame j f ea)) ≡ heard.Ea x = rw octets at me in
+      either (eqb j i)
+      (λ here.
+      let same : j ≡ i = eqb-true j i here in
+      let place : o ≡ some (y .place) = rw (← same) (y .known) in
+      rw place (cc (request-here i j f ea six same, mine)))
+      (λ away. cc (request-else i j f ea six (eqb-false j i away), mine))
+
+  request-keeps : (j : ℕ) (f : RequestFields) (r : RequestAnswer) (target written : List ℕ) → length (f .«source_mac» .0) ≡ 6
+      → collector.Requests (node j) f r (w .box) target written
+      → Inv i h (eaOf o) (bookOf o) (past i (requested j r written ∷ w .log))
+  request-keeps j f requesting.NotRegistered target written six c = rw append-nil (t .inv)
+  request-keeps j f (requesting.Refused e) target written six c = rw append-nil (t .inv)
+  request-keeps j f (requesting.Written n) target written six c =
+      request-sends (t .inv) (take n written) (request-says j f n target written six c)
+
+  take-here : (r : TakeAnswer) (after : List ℕ) → collector.Takes (node i) r (w .box) after
+      → Inv i h (eaOf (accountOf after i)) (bookOf (accountOf after i)) (past i (taken i r ∷ w .log))
+  take-here taking.NotRegistered after c = rw (c .box .accounts i, eq-eqb i i refl, append-nil) (t .inv)
+  take-here taking.NothingBooked after c = rw (c .box .accounts i, eq-eqb i i refl, append-nil) (t .inv)
+  take-here (taking.Taken e) after c =
+      let y = why-taken e o (c .answer) in
+      let inv : Inv i h (y .place .ea) (y .place .book) (past i (w .log)) = rw (y .known) at (t .inv) in
+      rw (c .box .accounts i, eq-eqb i i refl, y .known) (take-moves inv e (drop 1 (y .place .book)) (y .first))
+
+  take-keeps : (j : ℕ) (r : TakeAnswer) (after : List ℕ) → collector.Takes (node j) r (w .box) after
+      → Inv i h (eaOf (accountOf after i)) (bookOf (accountOf after i)) (past i (taken j r ∷ w .log))
+  take-keeps j r after c =
+      either (eqb j i)
+      (λ here. let same : j ≡ i = eqb-true j i here in rw same (take-here r after (rw same at c)))
+      (λ away. rw (c .box .accounts i, take-elsewhere i j (boxOf (w .box)) r away, away, append-nil) (t .inv))
+
+-- ---- every call
+
+pub keeps : {i : ℕ} {w v : World} {x : Event} → Held i w → Step i w x v → Held i v
+keeps {i} {w} t (raise e r after n c) =
+    record {
+      head = cc (c .head, c .answer, t .head);
+      inv = rw (c .head) (raise-keeps (t .inv) e r (c .answer) n);
+    }
+keeps {i} {w} t (answer f r after target written sizes c) =
+    record { head = c .head ∙ ap (afterAnswer r) (t .head); inv = answer-keeps t f r after target written sizes c }
+keeps {i} {w} t (headReads from bs r after d c) =
+    record {
+      head = head-now t bs r after c ∙ ap (λ (h : Head). afterRead (heardAnswer (heardIn i (readFrame bs)) h) h) (t .head);
+      inv = head-read-keeps t from bs r after d c;
+    }
+keeps {i} {w} t (register j r after c) =
+    let y = register-same i j (boxOf (w .box)) r (c .answer) in
+    record { head = t .head; inv = rw (c .box .accounts i, y .0, y .1) (t .inv) }
+keeps {i} {w} t (boxReads from bs r after d c) = record { head = t .head; inv = box-read-keeps t from bs r after d c }
+keeps {i} {w} t (request j f r target written six c) = record { head = t .head; inv = request-keeps t j f r target written six c }
+keeps {i} {w} t (takes j r after c) = record { head = t .head; inv = take-keeps t j r after c }
+
+-- ---- the start
+
+starts : {i : ℕ} {h : List ℕ} {b : List ℕ} → headOf h ≡ freshHead i → accountOf b i ≡ none
+    → Held i (record { head = h; box = b; log = [] })
+starts {i} eh eb =
+    record {
+      head = eh;
+      inv = rw (eh, eb)
+          (record {
+            id = refl;
+            batch = tt;
+            waiting = tt;
+            source = λ p a e. absurd (omega (arith, at-lt [] a p e));
+            answers = record {
+              old = λ p a hp e lt. absurd (omega (arith, at-lt [] a p e));
+              new = λ p a hp e le. absurd (omega (arith, at-lt [] a p e));
+              carry = λ p a hp e le ne. absurd (omega (arith, at-lt [] a p e));
+              past = λ e. omega arith;
+              range = omega arith;
+              given = omega arith;
+            };
+            turned = 0;
+            requests = record {
+              old = λ q f x hq e me lt. absurd (omega (arith, at-lt [] f q e));
+              new = λ q f x hq e me le. absurd (omega (arith, at-lt [] f q e));
+              closed = λ e. omega arith;
+              unread = λ e. omega arith;
+              range = omega arith;
+              given = omega arith;
+            };
+            idle = λ e. refl;
+            since = refl;
+            total = refl;
+            room = omega arith;
+          });
+    }
+
+pub held : {i : ℕ} {w : World} → Run i w → Held i w
+held {i} (fresh before head box m f) = starts (m .head refl) (f .box .accounts i)
+held (call r s) = keeps (held r) s

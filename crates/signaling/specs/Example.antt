@@ -1,0 +1,85 @@
+-- What Demand3 and Progress ask for can be met: a list of calls with a loss and a repeat that books two batches, and two exchanges.
+-- Assumes nothing.
+use Prim.Native.Nat.{ℕ}
+use mathlib.Core.Bool.{true, false}
+use mathlib.Core.Path.{_≡_}
+use mathlib.Core.List.{List, [], _∷_, _++_}
+use mathlib.Core.Option.{some}
+use lib.ListN.{length}
+use Rattle.types.specs.declared.error_mode.ErrorEntryMode.{ErrorEntryMode}
+use Rattle.types.specs.declared.error_mode.ErrorEntryMode.the-variants.{ErrorActive, ErrorCleared, EventOccurred}
+use Rattle.error_entry.specs.declared.ErrorEntry.{ErrorEntry}
+use Rattle.reporter.specs.Layout.{headOf}
+use Rattle.reporter.specs.declared.ReadAnswer.{ReadAnswer}
+use Rattle.reporter.specs.declared.ReadAnswer.the-variants as head
+use Rattle.collector.specs.Layout.{accountOf}
+use Rattle.collector.specs.declared.ReadAnswer.{ReadAnswer as BoxReadAnswer}
+use Rattle.collector.specs.declared.ReadAnswer.the-variants as box
+use Rattle.signaling.specs.Calls.{Origin, sent, raised, answered, headRead, registered, boxRead, requested, taken, Log, accepted, answersSent, requestsSent, isBooked, ruled, World, Run, Drained}
+use Rattle.signaling.specs.Exchanges.{pending, Exchanges, Room}
+
+abbrev pub entry : ErrorEntryMode → ℕ → ErrorEntry
+entry mode code =
+    record {
+      «entry_type» = record { «is_status_entry» = false; «send_to_queue» = true; mode = mode; profile = 2 };
+      «error_code» = code;
+      timestamp = record { seconds = 1; nanoseconds = 500 };
+      «additional_information» = 0;
+    }
+
+-- of every mode that an entry has
+abbrev pub five : List ErrorEntry
+five =
+    entry ErrorActive 0x8161 ∷ entry ErrorCleared 0x8162 ∷ entry EventOccurred 0x8163 ∷ entry ErrorActive 0x8164 ∷ entry ErrorCleared 0x8165
+    ∷ []
+
+-- what the box was given and said, the oldest first
+abbrev pub boxReadings : Log → List (Origin × BoxReadAnswer)
+boxReadings [] = []
+boxReadings (raised e r ∷ l) = boxReadings l
+boxReadings (answered r bs ∷ l) = boxReadings l
+boxReadings (headRead o bs r ∷ l) = boxReadings l
+boxReadings (registered j r ∷ l) = boxReadings l
+boxReadings (boxRead o bs r ∷ l) = boxReadings l ++ ((o, r) ∷ [])
+boxReadings (requested j r bs ∷ l) = boxReadings l
+boxReadings (taken j r ∷ l) = boxReadings l
+
+-- what the head was given and said, the oldest first
+abbrev pub headReadings : Log → List (Origin × ReadAnswer)
+headReadings [] = []
+headReadings (raised e r ∷ l) = headReadings l
+headReadings (answered r bs ∷ l) = headReadings l
+headReadings (headRead o bs r ∷ l) = headReadings l ++ ((o, r) ∷ [])
+headReadings (registered j r ∷ l) = headReadings l
+headReadings (boxRead o bs r ∷ l) = headReadings l
+headReadings (requested j r bs ∷ l) = headReadings l
+headReadings (taken j r ∷ l) = headReadings l
+
+-- a head with ID 7 and the box
+pub record LossAndRepeat : Type 0 where
+  pub w : World
+  pub run : Run 7 w
+  pub entries : accepted (w .log) ≡ five
+  -- of the three answers the first is lost; the second is read twice, booked and then known; the third is booked
+  pub answers : length (answersSent (w .log)) ≡ 3
+  pub boxes : boxReadings (w .log) ≡ (sent 1, box.Booked) ∷ (sent 1, box.Known) ∷ (sent 2, box.Booked) ∷ []
+  -- either batch is closed by its request
+  pub requests : length (requestsSent (w .log)) ≡ 2
+  pub heads : headReadings (w .log) ≡ (sent 0, head.Closed) ∷ (sent 1, head.Closed) ∷ []
+  -- all is booked, and nothing is left at the head
+  pub place : accountOf (w .box) 7 ≡ some (record { ea = false; book = five })
+  pub rest : ruled 7 (w .log) ≡ record { id = 7; en = false; batch = []; waiting = [] }
+  pub state : headOf (w .head) ≡ ruled 7 (w .log)
+  pub booked : isBooked 7 (w .log) ≡ true
+  -- Takes hand out each once, in order
+  pub drained : Drained 7 (w .box) five
+
+-- the same entries are closed by two exchanges
+pub record TwoExchanges : Type 0 where
+  pub w : World
+  pub v : World
+  pub run : Run 7 w
+  pub room : Room 7 w
+  pub waiting : pending 7 w ≡ five
+  pub exchanges : Exchanges 7 2 w v
+  pub closed : pending 7 v ≡ []

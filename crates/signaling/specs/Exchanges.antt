@@ -1,0 +1,109 @@
+-- The w exchanges: 01's bound on how long a backlog lasts.
+-- Assumes nothing.
+use Prim.Native.Nat.{ℕ, suc, _+_, _-_, _≤_}
+use mathlib.Core.Bool.{Bool}
+use mathlib.Core.Path.{_≡_}
+use mathlib.Core.List.{List, [], _++_}
+use mathlib.Core.Option.{some}
+use lib.ListN.{length}
+use Rattle.section.specs.declared.WriteAnswer.the-variants as write
+use Rattle.codec.specs.Frame.{readFrame}
+use Rattle.error_entry.specs.declared.ErrorEntry.{ErrorEntry}
+use Rattle.reporter.specs.Rules.{heardIn}
+use Rattle.reporter.specs.declared.RaiseAnswer.the-variants.{Raised, EntryInvalid, QueueFull}
+use Rattle.reporter.specs.declared.ReadAnswer.{ReadAnswer}
+use Rattle.reporter.specs.declared.acknowledge.Heard.the-variants as heard
+use Rattle.collector.specs.Layout.{accountOf}
+use Rattle.collector.specs.Rules.{Account}
+use Rattle.collector.specs.declared.ReadAnswer.{ReadAnswer as BoxReadAnswer}
+use Rattle.collector.specs.declared.RequestAnswer.the-variants as requesting
+use Rattle.signaling.specs.Calls.{sent, foreign, Event, raised, answered, headRead, registered, boxRead, requested, taken, answersSent, requestsSent, ruled, unbooked, World, Step, Run}
+
+-- "w entries (waiting and open)"
+abbrev pub pending : ℕ → World → List ErrorEntry
+pending i w = ruled i (w .log) .batch ++ ruled i (w .log) .waiting
+
+-- "nothing raised meanwhile": a Raise that is refused raises nothing. "No answer or request of theirs read outside an exchange":
+-- requests for other heads, and what comes from elsewhere, may be read. All else may be called.
+abbrev pub Quiet : ℕ → Event → Type 0
+Quiet i (raised e Raised) = ⊥
+Quiet i (raised e EntryInvalid) = Unit {0}
+Quiet i (raised e QueueFull) = Unit {0}
+Quiet i (answered r bs) = Unit {0}
+Quiet i (headRead (sent q) bs r) = heardIn i (readFrame bs) ≡ heard.Nothing
+Quiet i (headRead foreign bs r) = Unit {0}
+Quiet i (registered j r) = Unit {0}
+Quiet i (boxRead (sent p) bs r) = ⊥
+Quiet i (boxRead foreign bs r) = Unit {0}
+Quiet i (requested j r bs) = Unit {0}
+Quiet i (taken j r) = Unit {0}
+
+-- "On the line a repeat arrives before any later frame of the same sender": the frame that was read last is read once more
+abbrev pub AnswerAgain : ℕ → List ℕ → Event → Type 0
+AnswerAgain p bs x = (r : BoxReadAnswer) × (x ≡ boxRead (sent p) bs r)
+
+abbrev pub RequestAgain : ℕ → List ℕ → Event → Type 0
+RequestAgain q bs x = (r : ReadAnswer) × (x ≡ headRead (sent q) bs r)
+
+abbrev pub NoRepeat : Event → Type 0
+NoRepeat x = ⊥
+
+-- quiet calls, and repeats among them
+pub data Quietly (i : ℕ) (Repeat : Event → Type 0) : World → World → Type 0 where
+  still : {w : World} → Quietly i Repeat w w
+  next : {w v u : World} {x : Event} → Quietly i Repeat w v → Step i v x u → Quiet i x → Quietly i Repeat w u
+  again : {w v u : World} {x : Event} → Quietly i Repeat w v → Step i v x u → Repeat x → Quietly i Repeat w u
+
+-- "one answer read by the box, then its next request read by that head". "Nothing in transit between the two at the start or whenever
+-- either writes": the answer that the box reads was sent since the exchange began, and the request that the head reads was sent
+-- since the box read. 01 asks for more than this, so all of its exchanges are among these.
+pub record Exchange (i : ℕ) (w v : World) : Type 0 where
+  pub length₁ : ℕ
+  pub answer : List ℕ
+  pub w₁ : World
+  pub answers : Step i w (answered (write.Written length₁) answer) w₁
+  pub w₂ : World
+  pub quiet₁ : Quietly i NoRepeat w₁ w₂
+  pub p : ℕ
+  pub answerRead : List ℕ
+  pub boxSays : BoxReadAnswer
+  pub w₃ : World
+  pub boxReads : Step i w₂ (boxRead (sent p) answerRead boxSays) w₃
+  pub newAnswer : length (answersSent (w .log)) ≤ p
+  pub w₄ : World
+  -- nothing in transit "whenever either writes": repeats of the answer come before the box writes
+  pub quiet₂ : Quietly i (AnswerAgain p answerRead) w₃ w₄
+  pub length₂ : ℕ
+  pub request : List ℕ
+  pub w₅ : World
+  pub requests : Step i w₄ (requested i (requesting.Written length₂) request) w₅
+  pub w₆ : World
+  pub quiet₃ : Quietly i NoRepeat w₅ w₆
+  pub q : ℕ
+  pub requestRead : List ℕ
+  pub headSays : ReadAnswer
+  pub w₇ : World
+  pub headReads : Step i w₆ (headRead (sent q) requestRead headSays) w₇
+  pub newRequest : length (requestsSent (w₄ .log)) ≤ q
+  pub ea : Bool
+  pub mine : heardIn i (readFrame requestRead) ≡ heard.Ea ea
+  -- and repeats of the request before the head writes again
+  pub quiet₄ : Quietly i (RequestAgain q requestRead) w₇ v
+
+-- n exchanges, with quiet calls before, between and behind them
+pub data Exchanges (i : ℕ) : ℕ → World → World → Type 0 where
+  done : {w v : World} → Quietly i NoRepeat w v → Exchanges i 0 w v
+  more : {n : ℕ} {w t u v : World} → Quietly i NoRepeat w t → Exchange i t u → Exchanges i n u v → Exchanges i (suc n) w v
+
+-- "With free places for them": for those that are not booked yet. 01's conditions need the head to be registered: it is the "registered
+-- heads" that have a book, and the answer of any other is refused with 11 and closes nothing.
+pub record Room (i : ℕ) (w : World) : Type 0 where
+  pub account : Account
+  pub registered : accountOf (w .box) i ≡ some account
+  pub free : length (account .book) + length (unbooked i (w .log) ++ ruled i (w .log) .waiting) ≤ 64
+
+pub record Progress : Type 0 where
+  -- each exchange closes one entry at least, while there is one
+  pub closes : (i n : ℕ) (w v : World) → Run i w → Room i w → Exchanges i n w v → length (pending i v) ≤ length (pending i w) - n
+  -- "w entries are closed after at most w exchanges"
+  pub closed : (i n : ℕ) (w v : World) → Run i w → Room i w → Exchanges i n w v → length (pending i w) ≤ n → pending i v ≡ []
