@@ -4,7 +4,7 @@ use Prim.Native.Nat.{ℕ, _+_, _≤_}
 use mathlib.Core.Bool.{Bool}
 use mathlib.Core.Path.{_≡_, refl, _∙_}
 use mathlib.Core.Logic.{_⊎_, inl, inr}
-use mathlib.Core.List.{List, append-nil}
+use mathlib.Core.List.{List, [], append-nil}
 use mathlib.Core.Option.{Option, none, some}
 use native.Mathlib.Omega.{arith}
 use lib.ListN.{length, take, getElem?, length-append}
@@ -12,7 +12,9 @@ use lib.Dec.{eqb}
 use borrow.Author.Tests.{eqb-true}
 use Rattle.section.specs.declared.WriteAnswer.the-variants as write
 use Rattle.codec.specs.Frame.{readFrame}
-use Rattle.reporter.specs.Rules.{Head, afterAnswer, heardIn}
+use Rattle.error_entry.specs.declared.ErrorEntry.{ErrorEntry}
+use Rattle.reporter.specs.Rules.{Head, afterRaise, afterAnswer, heardIn}
+use Rattle.reporter.specs.declared.RaiseAnswer.{RaiseAnswer}
 use Rattle.reporter.specs.declared.RaiseAnswer.the-variants.{Raised, EntryInvalid, QueueFull}
 use Rattle.reporter.specs.declared.acknowledge.Heard.the-variants as heard
 use Rattle.collector.specs.Layout.{boxOf}
@@ -26,10 +28,10 @@ use Rattle.collector.specs.declared.TakeAnswer.{TakeAnswer}
 use Rattle.collector.specs.declared.TakeAnswer.the-variants as taking
 use Rattle.collector.specs.declared.reading.Heard.{Heard as BoxHeard}
 use Rattle.collector.specs.declared.reading.Heard.the-variants as boxHears
-use Rattle.signaling.specs.Calls.{sent, foreign, Event, raised, answered, headRead, registered, boxRead, requested, taken, accepted, handedOut, answersSent, requestsSent, World, Step, raise, answer, headReads, register, boxReads, request, takes}
+use Rattle.signaling.specs.Calls.{sent, foreign, Event, raised, answered, headRead, registered, boxRead, requested, taken, acceptedBy, accepted, handedOut, answersSent, requestsSent, World, Step, raise, answer, headReads, register, boxReads, request, takes}
 use Rattle.signaling.specs.Exchanges.{Quiet, NoRepeat, Quietly, still, next, again}
 use Rattle.signaling.proofs.Calls.{unheard, read-elsewhere, register-same}
-use Rattle.signaling.proofs.Facts.{either, at-snoc}
+use Rattle.signaling.proofs.Facts.{clash, either, at-snoc}
 use Rattle.signaling.proofs.Frames.{Says}
 use Rattle.signaling.proofs.Invariant.{eaOf, headIn, placeFor, Held}
 use Rattle.signaling.proofs.Steps.{answer-says, head-now, request-says}
@@ -69,9 +71,7 @@ module _ (i : ℕ) (b : Box) (is : IsPlace (b .accounts i)) where
   take-stays j taking.NothingBooked = is
 
 abbrev pub NoRaise : Event → Type 0
-NoRaise (raised e Raised) = ⊥
-NoRaise (raised e EntryInvalid) = Unit {0}
-NoRaise (raised e QueueFull) = Unit {0}
+NoRaise (raised e r) = acceptedBy r e ≡ []
 NoRaise (answered r bs) = Unit {0}
 NoRaise (headRead o bs r) = Unit {0}
 NoRaise (registered j r) = Unit {0}
@@ -86,9 +86,7 @@ pub record Ready (i : ℕ) (w : World) : Type 0 where
   pub room : length (accepted (w .log)) ≤ length (handedOut i (w .log)) + 64
 
 pub goes-on : {i : ℕ} {w v : World} {x : Event} → Step i w x v → NoRaise x → Held i v → Ready i w → Ready i v
-goes-on (raise e Raised after n c) k t y = absurd k
-goes-on (raise e EntryInvalid after n c) k t y = record { held = t; place = y .place; room = rw append-nil (y .room) }
-goes-on (raise e QueueFull after n c) k t y = record { held = t; place = y .place; room = rw append-nil (y .room) }
+goes-on (raise e r after n c) k t y = record { held = t; place = y .place; room = rw (k, append-nil) (y .room) }
 goes-on (answer f r after target written sizes c) k t y = record { held = t; place = y .place; room = y .room }
 goes-on (headReads o bs r after d c) k t y = record { held = t; place = y .place; room = y .room }
 goes-on {i} {w} (register j r after c) k t y =
@@ -104,9 +102,9 @@ goes-on {i} {w} (takes j r after c) k t y =
     }
 
 pub quiet-raises-not : (i : ℕ) (x : Event) → Quiet i x → NoRaise x
-quiet-raises-not i (raised e Raised) k = k
-quiet-raises-not i (raised e EntryInvalid) k = tt
-quiet-raises-not i (raised e QueueFull) k = tt
+quiet-raises-not i (raised e Raised) k = absurd (omega arith)
+quiet-raises-not i (raised e EntryInvalid) k = refl
+quiet-raises-not i (raised e QueueFull) k = refl
 quiet-raises-not i (answered r bs) k = tt
 quiet-raises-not i (headRead o bs r) k = tt
 quiet-raises-not i (registered j r) k = tt
@@ -149,12 +147,20 @@ take-bit i j b (taking.Taken e) = with-bit i j _ b (taken-bit (b .accounts j))
 take-bit i j b taking.NotRegistered = refl
 take-bit i j b taking.NothingBooked = refl
 
+-- a Raise that is refused leaves the head
+not-raised : (e : ErrorEntry) (r : RaiseAnswer) (h : Head) → acceptedBy r e ≡ [] → afterRaise r e h ≡ h
+not-raised e Raised h k = clash cc
+not-raised e EntryInvalid h k = refl
+not-raised e QueueFull h k = refl
+
 pub calm : {i : ℕ} {w v : World} {x : Event} → Held i w → Step i w x v → Quiet i x → Calm i x w v
-calm {i} {w} t (raise e Raised after n c) k = absurd k
-calm {i} {w} t (raise e EntryInvalid after n c) k =
-    record { head = c .head; bit = refl; answers = λ p a y. inl y; requests = λ q f y. inl y }
-calm {i} {w} t (raise e QueueFull after n c) k =
-    record { head = c .head; bit = refl; answers = λ p a y. inl y; requests = λ q f y. inl y }
+calm {i} {w} t (raise e r after n c) k =
+    record {
+      head = c .head ∙ not-raised e r (headIn w) (quiet-raises-not i (raised e r) k);
+      bit = refl;
+      answers = λ p a y. inl y;
+      requests = λ q f y. inl y;
+    }
 calm {i} {w} t (answer f (write.Refused e) after target written sizes c) k =
     record { head = c .head; bit = refl; answers = λ p a y. inl (rw append-nil at y); requests = λ q f y. inl y }
 calm {i} {w} t (answer f (write.Written n) after target written sizes c) k =
