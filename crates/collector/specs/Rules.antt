@@ -69,6 +69,10 @@ withAccount i p b = record { accounts = λ j. pick (eqb j i) (some p) (b .accoun
 
 -- ---- registering
 
+abbrev pub isRegistered : Option Account → Bool
+isRegistered none = false
+isRegistered (some p) = true
+
 -- 14, then 15: "four registered"
 abbrev pub registerVacant : Option Account → ℕ → RegisterAnswer
 registerVacant (some p) vacant = IdRegistered

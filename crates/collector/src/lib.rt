@@ -6,6 +6,8 @@
 ghost use mathlib.Core.Path.{_≡_};
 ghost use lib.ListN.{replicate};
 ghost use Rattle.collector.specs.Calls.{Fresh, Registers, Reads, Requests, Takes};
+ghost use Rattle.collector.specs.Layout.{accountOf};
+ghost use Rattle.collector.specs.Rules.{isRegistered};
 
 mod asking;
 mod book;
@@ -110,6 +112,13 @@ pub fn register(state: &mut Collector, id: NodeId) -> RegisterAnswer
     }
     place_node(state, k, id.0);
     RegisterAnswer::Registered
+}
+
+// Whether a node is registered.
+pub fn is_registered(state: &Collector, id: NodeId) -> bool
+    ensures { λ r. ⌜ r ≡ isRegistered (accountOf (now (state .entry)) (id .0)) ⌝ }
+{
+    slot(state, id.0) < NODES
 }
 
 // Reads a frame: the batch of a registered node's StatusResponse goes into its book, whole, unless it is there already.

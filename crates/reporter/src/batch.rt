@@ -38,7 +38,7 @@ fn opens(state: &Reporter) -> bool
 }
 
 // How many entries an answer carries.
-fn carried(state: &Reporter) -> u8
+pub fn carried(state: &Reporter) -> u8
     ensures { λ r. ⌜ (r ≡ carriedIn (now (state .entry))) × (r ≤ 4) ⌝ }
 {
     if !opens(state) {

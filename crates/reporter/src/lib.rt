@@ -4,7 +4,10 @@
 //
 // Its state is octets that the caller lends. What they mean is told in specs/Layout.antt; every pattern means something.
 ghost use mathlib.Core.Path.{_≡_};
+ghost use lib.ListN.{length};
 ghost use Rattle.reporter.specs.Calls.{Makes, Raises, Answers, Reads};
+ghost use Rattle.reporter.specs.Layout.{headOf};
+ghost use Rattle.reporter.specs.Rules.{opened, answerLength};
 
 mod acknowledge;
 mod batch;
@@ -14,6 +17,7 @@ use acknowledge::Heard;
 use acknowledge::acknowledge;
 use acknowledge::hear;
 use batch::answer_frame;
+use batch::carried;
 use batch::open_batch;
 use error_entry::ErrorEntry;
 use records::RECORD_LEN;
@@ -115,6 +119,14 @@ pub fn answer(state: &mut Reporter, fields: AnswerFields, target: &mut [u8]) -> 
         }
         WriteAnswer::Refused(e) => WriteAnswer::Refused(e),
     }
+}
+
+// How many octets the next answer takes.
+pub fn answer_len(state: &Reporter) -> usize
+    ensures { λ r. ⌜ r ≡ answerLength (length (opened (headOf (now (state .entry))) .batch)) ⌝ }
+{
+    let n = carried(state) as usize;
+    if n == 0 { 60 } else { 52 + 20 * n }
 }
 
 // Reads a frame: a PReq to this node or an SoA with it as target, from the managing node, gives EA.

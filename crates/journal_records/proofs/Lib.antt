@@ -1,0 +1,10 @@
+pub mod TextLaws
+pub mod RecordLaws
+pub mod StepLaws
+pub mod LineLaws
+pub mod ListLaws
+pub mod Views
+pub mod Steps
+pub mod PartLaws
+pub mod InParts
+pub mod ReadBack

@@ -1,0 +1,34 @@
+-- Calls one after the other print the listing, however the journal is cut into parts.
+-- Assumes nothing.
+use Prim.Native.Nat.{ℕ, _≤_, _<_}
+use mathlib.Core.Bool.{Bool, true, false}
+use mathlib.Core.Logic.{_⊎_}
+use mathlib.Core.Path.{_≡_}
+use mathlib.Core.List.{List, [], _++_}
+use lib.ListN.{length, take, drop}
+use Rattle.journal_records.specs.Listing.{listing}
+use Rattle.journal_records.specs.Parts.{Lists, textFrom, needed}
+use Rattle.journal_records.specs.declared.listing.Part.{Part}
+use Rattle.journal_records.specs.declared.listing.Phase.{Phase}
+use Rattle.journal_records.specs.declared.listing.Phase.the-variants.{Header, Over}
+
+-- Calls of `list_part` until the phase is `Over`. The octets that are not yet consumed are s ++ rest at each: s is lent, of any
+-- length, and rest is what the input still holds, nothing where `last` says so. `text` is what the calls print in all.
+pub data Run : Phase → List ℕ → List ℕ → Type 0 where
+  over : {left : List ℕ} → Run Over left []
+  call : {p : Phase} {s rest : List ℕ} {last : Bool} {r : Part} {out after text : List ℕ} → Lists p s last r out after
+      → (last ≡ true → rest ≡ []) → Run (r .phase) (drop (r .consumed) s ++ rest) text
+      → Run p (s ++ rest) (take (r .written) after ++ text)
+
+pub record ListsInParts : Type 0 where
+  -- one call prints the start of the text that is due, and leaves the rest due
+  pub text : {p : Phase} {s : List ℕ} {last : Bool} {r : Part} {out after : List ℕ} → Lists p s last r out after → (rest : List ℕ)
+      → (last ≡ true → rest ≡ [])
+      → textFrom p (s ++ rest) ≡ take (r .written) after ++ textFrom (r .phase) (drop (r .consumed) s ++ rest)
+  -- and stays within what it was lent
+  pub within : {p : Phase} {s : List ℕ} {last : Bool} {r : Part} {out after : List ℕ} → Lists p s last r out after
+      → (r .consumed ≤ length s) × (r .written ≤ length out) × (length after ≡ length out)
+  -- with room for a line, a call consumes something, or it is over, or more octets have to come
+  pub progress : {p : Phase} {s : List ℕ} {last : Bool} {r : Part} {out after : List ℕ} → Lists p s last r out after → 55 ≤ length out
+      → (0 < r .consumed) ⊎ ((r .phase ≡ Over) ⊎ ((last ≡ false) × (length s < needed p)))
+  pub listed : {input text : List ℕ} → Run Header input text → text ≡ listing input

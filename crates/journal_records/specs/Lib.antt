@@ -1,0 +1,6 @@
+pub mod InParts
+pub mod Listing
+pub mod Parts
+pub mod ReadBack
+pub mod Record
+pub mod Text

@@ -1,0 +1,71 @@
+-- Records that are written are listed with their fields.
+-- Assumes nothing.
+use Prim.Native.Nat.{ℕ, _%_, _^_, _<_}
+use mathlib.Core.Bool.{true}
+use mathlib.Core.Path.{_≡_}
+use mathlib.Core.List.{List, [], _∷_, _++_}
+use Rattle.error_entry.specs.declared.ErrorEntry.{ErrorEntry}
+use Rattle.journal_records.specs.Listing.{version1, headerLine, fieldsLine, listing}
+use Rattle.journal_records.specs.Record.{recordBytes, validRecord}
+
+-- a node ID with an entry
+pub record Recorded : Type 0 where
+  pub node : ℕ
+  pub entry : ErrorEntry
+
+-- one that is written, of numbers of their widths; a profile may have more than its 12 bits
+pub record Writable (x : Recorded) : Type 0 where
+  pub valid : validRecord (x .node) (x .entry) ≡ true
+  pub code : x .entry .«error_code» < 2 ^ 16
+  pub seconds : x .entry .timestamp .seconds < 2 ^ 32
+  pub nanoseconds : x .entry .timestamp .nanoseconds < 2 ^ 32
+  pub information : x .entry .«additional_information» < 2 ^ 64
+
+abbrev pub EachWritable : List Recorded → Type 0
+EachWritable [] = Unit {0}
+EachWritable (x ∷ xs) = Writable x × EachWritable xs
+
+abbrev pub recordsBytes : List Recorded → List ℕ
+recordsBytes [] = []
+recordsBytes (x ∷ xs) = recordBytes (x .node) (x .entry) ++ recordsBytes xs
+
+-- the entry as it is written: the profile masked to 12 bits
+abbrev pub masked : ErrorEntry → ErrorEntry
+masked e =
+    record {
+      «entry_type» =
+          record {
+            «is_status_entry» = e .«entry_type» .«is_status_entry»;
+            «send_to_queue» = e .«entry_type» .«send_to_queue»;
+            mode = e .«entry_type» .mode;
+            profile = e .«entry_type» .profile % 4096;
+          };
+      «error_code» = e .«error_code»;
+      timestamp = e .timestamp;
+      «additional_information» = e .«additional_information»;
+    }
+
+abbrev pub fieldsLines : List Recorded → List ℕ
+fieldsLines [] = []
+fieldsLines (x ∷ xs) = fieldsLine (x .node) (masked (x .entry)) ++ fieldsLines xs
+
+-- `PLB` and version 1, which the caller writes
+abbrev pub journalStart : List ℕ
+journalStart = 80 ∷ 76 ∷ 66 ∷ 1 ∷ 0 ∷ []
+
+-- ---- 01's example
+
+abbrev pub exampleOctets : List ℕ
+exampleOctets =
+    80 ∷ 76 ∷ 66 ∷ 1 ∷ 0 ∷ 7 ∷ 2 ∷ 80 ∷ 52 ∷ 18 ∷ 5 ∷ 0 ∷ 0 ∷ 0 ∷ 6 ∷ 0 ∷ 0 ∷ 0
+    ∷ 0 ∷ 0 ∷ 0 ∷ 0 ∷ 0 ∷ 0 ∷ 0 ∷ 0 ∷ []
+
+-- `node code mode profile sec nsec info`, then `7 1234 1 2 5 6 0000000000000000`
+abbrev pub exampleLines : List ℕ
+exampleLines =
+    110 ∷ 111 ∷ 100 ∷ 101 ∷ 32 ∷ 99 ∷ 111 ∷ 100 ∷ 101 ∷ 32 ∷ 109 ∷ 111 ∷ 100 ∷ 101 ∷ 32 ∷ 112 ∷ 114 ∷ 111 ∷ 102 ∷ 105 ∷ 108 ∷ 101 ∷ 32 ∷ 115 ∷ 101 ∷ 99 ∷ 32 ∷ 110 ∷ 115 ∷ 101 ∷ 99 ∷ 32 ∷ 105 ∷ 110 ∷ 102 ∷ 111 ∷ 10
+    ∷ 55 ∷ 32 ∷ 49 ∷ 50 ∷ 51 ∷ 52 ∷ 32 ∷ 49 ∷ 32 ∷ 50 ∷ 32 ∷ 53 ∷ 32 ∷ 54 ∷ 32 ∷ 48 ∷ 48 ∷ 48 ∷ 48 ∷ 48 ∷ 48 ∷ 48 ∷ 48 ∷ 48 ∷ 48 ∷ 48 ∷ 48 ∷ 48 ∷ 48 ∷ 48 ∷ 48 ∷ 10 ∷ []
+
+pub record RecordsReadBack : Type 0 where
+  pub records : (xs : List Recorded) → EachWritable xs → listing (journalStart ++ recordsBytes xs) ≡ headerLine version1 ++ fieldsLines xs
+  pub example : listing exampleOctets ≡ exampleLines

@@ -1,0 +1,56 @@
+// The journal that booked error entries are kept in (01, "Journal"): writing its records, and listing them as text.
+ghost use mathlib.Core.Path.{_≡_};
+ghost use Rattle.journal_records.specs.Record.{WritesRecord, validRecord};
+
+pub mod listing;
+mod text;
+
+use error_entry::ErrorEntry;
+use types::C_ADR_MAX_CN_NODE_ID;
+use types::NodeId;
+use types::error_mode::ErrorEntryMode;
+
+// The octets of a record: the node ID, and the entry's 20.
+pub const RECORD_LEN: usize = 21;
+
+pub enum JournalAnswer {
+    Written(usize),
+    BufferTooShort,
+    // The entry's mode is that of a terminator, or the ID is not that of a controlled node.
+    RecordInvalid,
+}
+
+// Writes one record, if it fits and is one that listing takes.
+pub fn write(node: NodeId, entry: ErrorEntry, target: &mut [u8]) -> JournalAnswer
+    ensures { λ r. ⌜ WritesRecord node entry r (now (target .entry)) (now (target .exit)) ⌝ }
+{
+    if target.len() < RECORD_LEN {
+        return JournalAnswer::BufferTooShort;
+    }
+    if !valid(node, entry) {
+        return JournalAnswer::RecordInvalid;
+    }
+    entry.put(&mut target[1..]);
+    target[0] = node.0;
+    JournalAnswer::Written(RECORD_LEN)
+}
+
+// Whether a record holds an entry of a controlled node.
+fn valid(node: NodeId, entry: ErrorEntry) -> bool
+    ensures { λ r. ⌜ r ≡ validRecord (node .0) entry ⌝ }
+{
+    let entry_type = entry.entry_type;
+    let mode = entry_type.mode;
+    if node.0 < 1 {
+        return false;
+    }
+    if C_ADR_MAX_CN_NODE_ID < node.0 {
+        return false;
+    }
+    match mode {
+        ErrorEntryMode::Terminator => false,
+        ErrorEntryMode::ErrorActive => true,
+        ErrorEntryMode::ErrorCleared => true,
+        ErrorEntryMode::EventOccurred => true,
+    }
+}

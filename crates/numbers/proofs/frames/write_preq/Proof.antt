@@ -1,0 +1,14 @@
+-- `frames::write_preq` meets its contract.
+-- Assumes nothing.
+use borrow.Author.Needs.{needs}
+use Rattle.numbers.proofs.frames.write_preq.Statement.{statement}
+use Rattle.numbers.proofs.frames.write_preq.Tie as tie
+
+returns : tie.Need-returns
+returns c =
+    let s = c .before .before in
+    rw (s .before .before .before .before .new .ensures) at (s .serialize-frame .ensures)
+
+pub write-preq-spec : {M : Type 1} → statement M
+write-preq-spec =
+    tie.close (tie.spec (search needs) (search needs) (search needs) returns)

@@ -1,0 +1,16 @@
+-- Entries that are given as their octets.
+-- Assumes nothing.
+use Prim.Native.Nat.{ℕ, zero, suc, _/_}
+use mathlib.Core.List.{List, [], _∷_}
+use lib.ListN.{length, drop}
+use Rattle.error_entry.specs.Entry.{entryOf}
+use Rattle.error_entry.specs.declared.ErrorEntry.{ErrorEntry}
+
+-- n entries of 20 octets each
+abbrev pub entriesOf : ℕ → List ℕ → List ErrorEntry
+entriesOf zero s = []
+entriesOf (suc n) s = entryOf s ∷ entriesOf n (drop 20 s)
+
+-- the entries whose octets are s; a rest under 20 octets is left aside
+abbrev pub entriesGiven : List ℕ → List ErrorEntry
+entriesGiven s = entriesOf (length s / 20) s

@@ -1,0 +1,4 @@
+pub mod Answers
+pub mod Copied
+pub mod Frames
+pub mod Values

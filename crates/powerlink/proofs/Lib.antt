@@ -1,0 +1,4 @@
+mod Collectors
+mod Readers
+mod Reporters
+mod Writers

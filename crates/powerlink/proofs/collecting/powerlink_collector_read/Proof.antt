@@ -1,0 +1,57 @@
+-- `collecting::powerlink_collector_read` meets its contract.
+-- Assumes nothing.
+use borrow.Author.Needs.{needs}
+use mathlib.Core.Path.{_∙_}
+use Rattle.powerlink.proofs.Collectors.{reads-told}
+use Rattle.powerlink.proofs.collecting.powerlink_collector_read.Statement.{statement}
+use Rattle.powerlink.proofs.collecting.powerlink_collector_read.Tie as tie
+
+returns : tie.Need-returns
+returns c =
+    let e = c .before .before .before in
+    let q = e .e .given .1 in
+    reads-told _ _ _ _ _ _ _ _ _ (e .before .before .read .ensures) (c .refusal .ensures .0 ∙ rw q) (rw q) (c .refusal .ensures .1 ∙ rw q)
+
+returns-2 : tie.Need-returns-2
+returns-2 c =
+    let q = c .enum-told .given .1 in
+    reads-told _ _ _ _ _ _ _ _ _ (c .before .before .read .ensures) (rw q) (rw q) (rw q)
+
+returns-3 : tie.Need-returns-3
+returns-3 c =
+    let q = c .enum-told2 .given .1 in
+    reads-told _ _ _ _ _ _ _ _ _ (c .before .before .read .ensures) (rw q) (rw q) (rw q)
+
+returns-4 : tie.Need-returns-4
+returns-4 c =
+    let q = c .enum-told3 .given .1 in
+    reads-told _ _ _ _ _ _ _ _ _ (c .before .before .read .ensures) (rw q) (rw q) (rw q)
+
+returns-5 : tie.Need-returns-5
+returns-5 c =
+    let q = c .enum-told4 .given .1 in
+    reads-told _ _ _ _ _ _ _ _ _ (c .before .before .read .ensures) (rw q) (rw q) (rw q)
+
+returns-6 : tie.Need-returns-6
+returns-6 c =
+    let q = c .enum-told5 .given .1 in
+    reads-told _ _ _ _ _ _ _ _ _ (c .before .before .read .ensures) (rw q) (rw q) (rw q)
+
+pub powerlink-collector-read-spec : {M : Type 1} → statement M
+powerlink-collector-read-spec =
+    tie.close
+    (tie.spec
+    (search needs)
+    (search needs)
+    (search needs)
+    (search needs)
+    (search needs)
+    (search needs)
+    (search needs)
+    (search needs)
+    returns
+    returns-2
+    returns-3
+    returns-4
+    returns-5
+    returns-6)

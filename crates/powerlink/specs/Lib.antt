@@ -1,0 +1,5 @@
+pub mod Collecting
+pub mod Given
+pub mod Reading
+pub mod Reporting
+pub mod Writing

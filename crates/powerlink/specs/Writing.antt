@@ -1,0 +1,68 @@
+-- What a writer leaves to a caller in C: the cause's number, the target, the length, and the octet of a code that names nothing.
+-- Assumes nothing.
+use Prim.Native.Nat.{ℕ}
+use mathlib.Core.Path.{_≡_}
+use mathlib.Core.List.{List}
+use lib.ListN.{length}
+use Rattle.types.specs.declared.hal.PowerlinkError.{PowerlinkError}
+use Rattle.types.specs.declared.hal.PowerlinkError.the-variants.{InvalidMessageType, InvalidNmtState, InvalidServiceId, InvalidRequestedServiceId}
+use Rattle.types.specs.declared.message_type.MessageType.{MessageType}
+use Rattle.types.specs.declared.message_type.MessageTypeAnswer.{MessageTypeAnswer}
+use Rattle.types.specs.declared.message_type.MessageTypeAnswer.the-variants as message
+use Rattle.types.specs.declared.requested_service.RequestedServiceId.{RequestedServiceId}
+use Rattle.types.specs.declared.requested_service.RequestedServiceIdAnswer.{RequestedServiceIdAnswer}
+use Rattle.types.specs.declared.requested_service.RequestedServiceIdAnswer.the-variants as query
+use Rattle.types.specs.declared.service.ServiceId.{ServiceId}
+use Rattle.types.specs.declared.service.ServiceIdAnswer.{ServiceIdAnswer}
+use Rattle.types.specs.declared.service.ServiceIdAnswer.the-variants as service
+use Rattle.types.specs.declared.states.NmtState.{NmtState}
+use Rattle.types.specs.declared.states.NmtStateAnswer.{NmtStateAnswer}
+use Rattle.types.specs.declared.states.NmtStateAnswer.the-variants as state
+use Rattle.section.specs.Write.{writeAnswer, writeCause, overwritten}
+use Rattle.section.specs.declared.WriteAnswer.{WriteAnswer}
+use Rattle.numbers.specs.Answers.{lengthAfter, octetAfter, unnamedAnswer}
+
+-- r is the number of what writing bs comes to, t′ what the target t then holds, and n′ the length that is told where n stood
+pub record WritesTo (bs : List ℕ) (r : ℕ) (t t′ : List ℕ) (n n′ : ℕ) : Type 0 where
+  pub cause : r ≡ writeCause (writeAnswer bs t) .number
+  pub target : t′ ≡ overwritten bs t
+  pub written : n′ ≡ lengthAfter (writeAnswer bs t) n
+
+-- ---- codes that may name nothing
+
+-- the octets to write; or how many they would be, and why they are none
+pub data Coded : Type 0 where
+  octets : List ℕ → Coded
+  unnamed : ℕ → PowerlinkError → Coded
+
+abbrev pub codedAnswer : Coded → List ℕ → WriteAnswer
+codedAnswer (octets bs) target = writeAnswer bs target
+codedAnswer (unnamed n e) target = unnamedAnswer n e (length target)
+
+abbrev pub codedTarget : Coded → List ℕ → List ℕ
+codedTarget (octets bs) target = overwritten bs target
+codedTarget (unnamed n e) target = target
+
+-- where n octets are needed: what follows a code that names something, or the error of one that does not
+abbrev pub typed : ℕ → MessageTypeAnswer → (MessageType → Coded) → Coded
+typed n (message.Unknown b) next = unnamed n (InvalidMessageType b)
+typed n (message.Known m) next = next m
+
+abbrev pub stated : ℕ → NmtStateAnswer → (NmtState → Coded) → Coded
+stated n (state.Unknown b) next = unnamed n (InvalidNmtState b)
+stated n (state.Known s) next = next s
+
+abbrev pub served : ℕ → ServiceIdAnswer → (ServiceId → Coded) → Coded
+served n (service.Unknown b) next = unnamed n (InvalidServiceId b)
+served n (service.Known s) next = next s
+
+abbrev pub requested : ℕ → RequestedServiceIdAnswer → (RequestedServiceId → Coded) → Coded
+requested n (query.Unknown b) next = unnamed n (InvalidRequestedServiceId b)
+requested n (query.Known s) next = next s
+
+-- as `WritesTo`, with the octet o′ that is told where o stood
+pub record WritesCoded (w : Coded) (r : ℕ) (t t′ : List ℕ) (n n′ o o′ : ℕ) : Type 0 where
+  pub cause : r ≡ writeCause (codedAnswer w t) .number
+  pub target : t′ ≡ codedTarget w t
+  pub written : n′ ≡ lengthAfter (codedAnswer w t) n
+  pub octet : o′ ≡ octetAfter (codedAnswer w t) o

@@ -1,0 +1,213 @@
+// Writing whole frames, as each kind's `new` makes them.
+ghost use Rattle.powerlink.specs.Given.{time, socFlagsGiven, newSoCFrame, preqFlagsGiven, newPReqFrame, presFlagsGiven, newPResWriting, soaFlagsGiven, newSoAWriting, newASndWriting};
+ghost use Rattle.powerlink.specs.Writing.{WritesTo, WritesCoded};
+use control::soa::SoAFlags;
+use control::soc::SocFlags;
+use numbers::answers::padded_len;
+use numbers::answers::unnamed;
+use numbers::answers::written_or;
+use numbers::frames::write_asnd;
+use numbers::frames::write_preq;
+use numbers::frames::write_pres;
+use numbers::frames::write_soa;
+use numbers::frames::write_soc;
+use poll::preq::PReqFlags;
+use poll::pres::PResFlags;
+use types::EPLVersion;
+use types::NodeId;
+use types::basic::MacAddress;
+use types::common::NetTime;
+use types::common::RelativeTime;
+use types::hal::PowerlinkError;
+use types::mapping::PDOVersion;
+use types::poll_flags::PRFlag;
+use types::poll_flags::RSFlag;
+use types::requested_service::RequestedServiceId;
+use types::requested_service::RequestedServiceIdAnswer;
+use types::service::ServiceId;
+use types::service::ServiceIdAnswer;
+use types::states::NmtState;
+use types::states::NmtStateAnswer;
+
+#[no_mangle]
+pub extern "C" fn powerlink_new_soc(
+    source_mac: &[u8; 6],
+    mc: bool,
+    ps: bool,
+    seconds: u32,
+    nanoseconds: u32,
+    relative_time: u64,
+    target: &mut [u8],
+    written: &mut usize,
+) -> u8
+    ensures { λ r. ⌜ WritesTo (newSoCFrame (now («source_mac» .entry)) (socFlagsGiven mc ps) (time seconds nanoseconds) «relative_time») r (now (target .entry)) (now (target .exit)) (now (written .entry)) (now (written .exit)) ⌝ }
+{
+    let answer = write_soc(
+        MacAddress(*source_mac),
+        SocFlags { mc, ps },
+        NetTime {
+            seconds,
+            nanoseconds,
+        },
+        RelativeTime(relative_time),
+        target,
+    );
+    written_or(answer, written)
+}
+
+#[no_mangle]
+pub extern "C" fn powerlink_new_preq(
+    source_mac: &[u8; 6],
+    dest_mac: &[u8; 6],
+    target_node: u8,
+    ms: bool,
+    ea: bool,
+    rd: bool,
+    pdo_version: u8,
+    payload: &[u8],
+    target: &mut [u8],
+    written: &mut usize,
+) -> u8
+    ensures { λ r. ⌜ WritesTo (newPReqFrame (now («source_mac» .entry)) (now («dest_mac» .entry)) «target_node» (preqFlagsGiven ms ea rd) «pdo_version» (now (payload .entry))) r (now (target .entry)) (now (target .exit)) (now (written .entry)) (now (written .exit)) ⌝ }
+{
+    let answer = write_preq(
+        MacAddress(*source_mac),
+        MacAddress(*dest_mac),
+        NodeId(target_node),
+        PReqFlags { ms, ea, rd },
+        PDOVersion(pdo_version),
+        payload,
+        target,
+    );
+    written_or(answer, written)
+}
+
+#[no_mangle]
+pub extern "C" fn powerlink_new_pres(
+    source_mac: &[u8; 6],
+    source: u8,
+    state: u8,
+    ms: bool,
+    en: bool,
+    rd: bool,
+    pr: u8,
+    rs: u8,
+    pdo_version: u8,
+    payload: &[u8],
+    target: &mut [u8],
+    written: &mut usize,
+    octet: &mut u8,
+) -> u8
+    ensures { λ r. ⌜ WritesCoded (newPResWriting (now («source_mac» .entry)) source state (presFlagsGiven ms en rd pr rs) «pdo_version» (now (payload .entry))) r (now (target .entry)) (now (target .exit)) (now (written .entry)) (now (written .exit)) (now (octet .entry)) (now (octet .exit)) ⌝ }
+{
+    match NmtState::from_u8(state) {
+        NmtStateAnswer::Unknown(b) => {
+            let needed = padded_len(60, 24 + payload.len());
+            unnamed(
+                PowerlinkError::InvalidNmtState(b),
+                needed,
+                target.len(),
+                octet,
+            )
+        }
+        NmtStateAnswer::Known(nmt_state) => {
+            let answer = write_pres(
+                MacAddress(*source_mac),
+                NodeId(source),
+                nmt_state,
+                PResFlags {
+                    ms,
+                    en,
+                    rd,
+                    pr: PRFlag::from_bits(pr),
+                    rs: RSFlag(rs),
+                },
+                PDOVersion(pdo_version),
+                payload,
+                target,
+            );
+            written_or(answer, written)
+        }
+    }
+}
+
+#[no_mangle]
+pub extern "C" fn powerlink_new_soa(
+    source_mac: &[u8; 6],
+    state: u8,
+    ea: bool,
+    er: bool,
+    requested_service: u8,
+    target_node: u8,
+    epl_version: u8,
+    target: &mut [u8],
+    written: &mut usize,
+    octet: &mut u8,
+) -> u8
+    ensures { λ r. ⌜ WritesCoded (newSoAWriting (now («source_mac» .entry)) state (soaFlagsGiven ea er) «requested_service» «target_node» «epl_version») r (now (target .entry)) (now (target .exit)) (now (written .entry)) (now (written .exit)) (now (octet .entry)) (now (octet .exit)) ⌝ }
+{
+    match NmtState::from_u8(state) {
+        NmtStateAnswer::Unknown(b) => {
+            unnamed(PowerlinkError::InvalidNmtState(b), 60, target.len(), octet)
+        }
+        NmtStateAnswer::Known(nmt_state) => match RequestedServiceId::from_u8(requested_service) {
+            RequestedServiceIdAnswer::Unknown(b) => unnamed(
+                PowerlinkError::InvalidRequestedServiceId(b),
+                60,
+                target.len(),
+                octet,
+            ),
+            RequestedServiceIdAnswer::Known(service) => {
+                let answer = write_soa(
+                    MacAddress(*source_mac),
+                    nmt_state,
+                    SoAFlags { ea, er },
+                    service,
+                    NodeId(target_node),
+                    EPLVersion(epl_version),
+                    target,
+                );
+                written_or(answer, written)
+            }
+        },
+    }
+}
+
+#[no_mangle]
+pub extern "C" fn powerlink_new_asnd(
+    source_mac: &[u8; 6],
+    dest_mac: &[u8; 6],
+    target_node: u8,
+    source: u8,
+    service: u8,
+    payload: &[u8],
+    target: &mut [u8],
+    written: &mut usize,
+    octet: &mut u8,
+) -> u8
+    ensures { λ r. ⌜ WritesCoded (newASndWriting (now («source_mac» .entry)) (now («dest_mac» .entry)) «target_node» source service (now (payload .entry))) r (now (target .entry)) (now (target .exit)) (now (written .entry)) (now (written .exit)) (now (octet .entry)) (now (octet .exit)) ⌝ }
+{
+    match ServiceId::from_u8(service) {
+        ServiceIdAnswer::Unknown(b) => {
+            let needed = padded_len(60, 18 + payload.len());
+            unnamed(
+                PowerlinkError::InvalidServiceId(b),
+                needed,
+                target.len(),
+                octet,
+            )
+        }
+        ServiceIdAnswer::Known(service_id) => {
+            let answer = write_asnd(
+                MacAddress(*source_mac),
+                MacAddress(*dest_mac),
+                NodeId(target_node),
+                NodeId(source),
+                service_id,
+                payload,
+                target,
+            );
+            written_or(answer, written)
+        }
+    }
+}

@@ -1,0 +1,189 @@
+// The payload of a StatusResponse: its front, its error field and its entries.
+ghost use Rattle.error_entry.specs.Entry.{entryBytes};
+ghost use Rattle.status_response.specs.BitField.{fieldOf, fieldBytes};
+ghost use Rattle.powerlink.specs.Given.{time, entryGiven, statusWriting};
+ghost use Rattle.powerlink.specs.Reading.{StatusRead, FieldRead, EntryRead, StepRead};
+ghost use Rattle.powerlink.specs.Writing.{WritesTo, WritesCoded};
+use error_entry::EntryType;
+use error_entry::ErrorEntry;
+use error_entry::ErrorEntryAnswer;
+use numbers::answers::refusal;
+use numbers::answers::unnamed;
+use numbers::answers::written_or;
+use numbers::copied::write_status;
+use numbers::values::entry_values;
+use numbers::values::status_values;
+use status_response::bit_field::ErrorFieldAnswer;
+use status_response::bit_field::StaticErrorBitField;
+use status_response::bit_field::field_at;
+use status_response::fields::StatusAnswer;
+use status_response::fields::StatusFields;
+use status_response::fields::deserialize;
+use status_response::walk::EntryStep;
+use status_response::walk::step_from;
+use types::common::NetTime;
+use types::error_mode::ErrorEntryMode;
+use types::hal::PowerlinkError;
+use types::poll_flags::PRFlag;
+use types::poll_flags::RSFlag;
+use types::states::NmtState;
+use types::states::NmtStateAnswer;
+
+// Reads what stands in front of the entries: en, ec, pr, rs and state, and the error field.
+#[no_mangle]
+pub extern "C" fn powerlink_deserialize_status(
+    payload: &[u8],
+    values: &mut [u64; 5],
+    field: &mut [u8; 8],
+    octet: &mut u8,
+) -> u8
+    ensures { λ r. ⌜ StatusRead (now (payload .entry)) r (now (values .entry)) (now (values .exit)) (now (field .entry)) (now (field .exit)) (now (octet .entry)) (now (octet .exit)) ⌝ }
+{
+    let read = deserialize(payload);
+    let bits = read.static_error_bit_field;
+    let answer = read.answer;
+    match answer {
+        StatusAnswer::Refused(e) => refusal(e, octet),
+        StatusAnswer::Status(f) => {
+            *values = status_values(f);
+            *field = bits.to_bytes();
+            0
+        }
+    }
+}
+
+#[no_mangle]
+pub extern "C" fn powerlink_deserialize_error_field(buffer: &[u8], field: &mut [u8; 8]) -> u8
+    ensures { λ r. ⌜ FieldRead (now (buffer .entry)) r (now (field .entry)) (now (field .exit)) ⌝ }
+{
+    let read = StaticErrorBitField::deserialize(buffer);
+    let bits = read.field;
+    let answer = read.answer;
+    match answer {
+        ErrorFieldAnswer::Refused(e) => e.number(),
+        ErrorFieldAnswer::Read => {
+            *field = bits.to_bytes();
+            0
+        }
+    }
+}
+
+// Reads one entry: status entry, send to queue, mode, profile, code, seconds, nanoseconds, information.
+#[no_mangle]
+pub extern "C" fn powerlink_deserialize_entry(buffer: &[u8], values: &mut [u64; 8]) -> u8
+    ensures { λ r. ⌜ EntryRead (now (buffer .entry)) r (now (values .entry)) (now (values .exit)) ⌝ }
+{
+    match ErrorEntry::deserialize(buffer) {
+        ErrorEntryAnswer::Refused(e) => e.number(),
+        ErrorEntryAnswer::Entry(e) => {
+            *values = entry_values(e);
+            0
+        }
+    }
+}
+
+// One step of the walk over the entries, the first of which is at offset 14. No entry ends at offset 0: it tells the end.
+#[no_mangle]
+pub extern "C" fn powerlink_entry_step(
+    payload: &[u8],
+    offset: usize,
+    values: &mut [u64; 8],
+    next: &mut usize,
+) -> u8
+    ensures { λ r. ⌜ StepRead (now (payload .entry)) offset r (now (values .entry)) (now (values .exit)) (now (next .exit)) ⌝ }
+{
+    match step_from(payload, offset) {
+        EntryStep::End => *next = 0,
+        EntryStep::Entry(e, after) => {
+            *values = entry_values(e);
+            *next = after;
+        }
+    }
+    0
+}
+
+#[no_mangle]
+pub extern "C" fn powerlink_serialize_entry(
+    status_entry: bool,
+    send_to_queue: bool,
+    mode: u8,
+    profile: u16,
+    code: u16,
+    seconds: u32,
+    nanoseconds: u32,
+    information: u64,
+    target: &mut [u8],
+    written: &mut usize,
+) -> u8
+    ensures { λ r. ⌜ WritesTo (entryBytes (entryGiven «status_entry» «send_to_queue» mode profile code (time seconds nanoseconds) information)) r (now (target .entry)) (now (target .exit)) (now (written .entry)) (now (written .exit)) ⌝ }
+{
+    let entry = ErrorEntry {
+        entry_type: EntryType {
+            is_status_entry: status_entry,
+            send_to_queue,
+            mode: ErrorEntryMode::from_bits(mode),
+            profile,
+        },
+        error_code: code,
+        timestamp: NetTime {
+            seconds,
+            nanoseconds,
+        },
+        additional_information: information,
+    };
+    let answer = entry.serialize(target);
+    written_or(answer, written)
+}
+
+#[no_mangle]
+pub extern "C" fn powerlink_serialize_error_field(
+    field: &[u8; 8],
+    target: &mut [u8],
+    written: &mut usize,
+) -> u8
+    ensures { λ r. ⌜ WritesTo (fieldBytes (fieldOf (now (field .entry)))) r (now (target .entry)) (now (target .exit)) (now (written .entry)) (now (written .exit)) ⌝ }
+{
+    let bits = field_at(field);
+    let answer = bits.serialize(target);
+    written_or(answer, written)
+}
+
+// Writes the payload of a StatusResponse. `entries` are the octets of the entries, 20 each; a rest is left aside.
+#[no_mangle]
+pub extern "C" fn powerlink_serialize_status(
+    en: bool,
+    ec: bool,
+    pr: u8,
+    rs: u8,
+    state: u8,
+    field: &[u8; 8],
+    entries: &[u8],
+    target: &mut [u8],
+    written: &mut usize,
+    octet: &mut u8,
+) -> u8
+    ensures { λ r. ⌜ WritesCoded (statusWriting en ec pr rs state (now (field .entry)) (now (entries .entry))) r (now (target .entry)) (now (target .exit)) (now (written .entry)) (now (written .exit)) (now (octet .entry)) (now (octet .exit)) ⌝ }
+{
+    match NmtState::from_u8(state) {
+        NmtStateAnswer::Unknown(b) => {
+            let needed = 34 + 20 * (entries.len() / 20);
+            unnamed(
+                PowerlinkError::InvalidNmtState(b),
+                needed,
+                target.len(),
+                octet,
+            )
+        }
+        NmtStateAnswer::Known(nmt_state) => {
+            let fields = StatusFields {
+                en_flag: en,
+                ec_flag: ec,
+                pr: PRFlag::from_bits(pr),
+                rs: RSFlag(rs),
+                nmt_state,
+            };
+            let answer = write_status(fields, field_at(field), entries, target);
+            written_or(answer, written)
+        }
+    }
+}

@@ -1,0 +1,213 @@
+// Writing sections: a frame of each kind without its Ethernet header.
+ghost use Rattle.control.specs.SoC.{socSection};
+ghost use Rattle.poll.specs.PReq.{preqSection};
+ghost use Rattle.powerlink.specs.Given.{socGiven, preqFlagsGiven, preqGiven, presFlagsGiven, presWriting, soaFlagsGiven, soaWriting, asndWriting};
+ghost use Rattle.powerlink.specs.Writing.{WritesTo, WritesCoded};
+use control::asnd::ASndFrame;
+use control::soa::SoAFlags;
+use control::soa::SoAFrame;
+use control::soc::SocFlags;
+use control::soc::SocFrame;
+use numbers::answers::padded_len;
+use numbers::answers::unnamed;
+use numbers::answers::written_or;
+use poll::preq::PReqFlags;
+use poll::preq::PReqFrame;
+use poll::pres::PResFlags;
+use poll::pres::PResFrame;
+use types::EPLVersion;
+use types::NodeId;
+use types::common::NetTime;
+use types::common::RelativeTime;
+use types::hal::PowerlinkError;
+use types::mapping::PDOVersion;
+use types::poll_flags::PRFlag;
+use types::poll_flags::RSFlag;
+use types::requested_service::RequestedServiceId;
+use types::requested_service::RequestedServiceIdAnswer;
+use types::service::ServiceId;
+use types::service::ServiceIdAnswer;
+use types::states::NmtState;
+use types::states::NmtStateAnswer;
+
+#[no_mangle]
+pub extern "C" fn powerlink_serialize_soc(
+    destination: u8,
+    source: u8,
+    mc: bool,
+    ps: bool,
+    seconds: u32,
+    nanoseconds: u32,
+    relative_time: u64,
+    target: &mut [u8],
+    written: &mut usize,
+) -> u8
+    ensures { λ r. ⌜ WritesTo (socSection (socGiven destination source mc ps seconds nanoseconds «relative_time»)) r (now (target .entry)) (now (target .exit)) (now (written .entry)) (now (written .exit)) ⌝ }
+{
+    let frame = SocFrame {
+        destination: NodeId(destination),
+        source: NodeId(source),
+        flags: SocFlags { mc, ps },
+        net_time: NetTime {
+            seconds,
+            nanoseconds,
+        },
+        relative_time: RelativeTime(relative_time),
+    };
+    let answer = frame.serialize(target);
+    written_or(answer, written)
+}
+
+#[no_mangle]
+pub extern "C" fn powerlink_serialize_preq(
+    destination: u8,
+    source: u8,
+    ms: bool,
+    ea: bool,
+    rd: bool,
+    pdo_version: u8,
+    payload_size: u16,
+    payload: &[u8],
+    target: &mut [u8],
+    written: &mut usize,
+) -> u8
+    ensures { λ r. ⌜ WritesTo (preqSection (preqGiven destination source (preqFlagsGiven ms ea rd) «pdo_version» «payload_size») (now (payload .entry))) r (now (target .entry)) (now (target .exit)) (now (written .entry)) (now (written .exit)) ⌝ }
+{
+    let frame = PReqFrame {
+        destination: NodeId(destination),
+        source: NodeId(source),
+        flags: PReqFlags { ms, ea, rd },
+        pdo_version: PDOVersion(pdo_version),
+        payload_size,
+    };
+    let answer = frame.serialize(payload, target);
+    written_or(answer, written)
+}
+
+#[no_mangle]
+pub extern "C" fn powerlink_serialize_pres(
+    destination: u8,
+    source: u8,
+    state: u8,
+    ms: bool,
+    en: bool,
+    rd: bool,
+    pr: u8,
+    rs: u8,
+    pdo_version: u8,
+    payload_size: u16,
+    payload: &[u8],
+    target: &mut [u8],
+    written: &mut usize,
+    octet: &mut u8,
+) -> u8
+    ensures { λ r. ⌜ WritesCoded (presWriting destination source state (presFlagsGiven ms en rd pr rs) «pdo_version» «payload_size» (now (payload .entry))) r (now (target .entry)) (now (target .exit)) (now (written .entry)) (now (written .exit)) (now (octet .entry)) (now (octet .exit)) ⌝ }
+{
+    match NmtState::from_u8(state) {
+        NmtStateAnswer::Unknown(b) => {
+            let needed = padded_len(46, 10 + payload.len());
+            unnamed(
+                PowerlinkError::InvalidNmtState(b),
+                needed,
+                target.len(),
+                octet,
+            )
+        }
+        NmtStateAnswer::Known(nmt_state) => {
+            let frame = PResFrame {
+                destination: NodeId(destination),
+                source: NodeId(source),
+                nmt_state,
+                flags: PResFlags {
+                    ms,
+                    en,
+                    rd,
+                    pr: PRFlag::from_bits(pr),
+                    rs: RSFlag(rs),
+                },
+                pdo_version: PDOVersion(pdo_version),
+                payload_size,
+            };
+            let answer = frame.serialize(payload, target);
+            written_or(answer, written)
+        }
+    }
+}
+
+#[no_mangle]
+pub extern "C" fn powerlink_serialize_soa(
+    destination: u8,
+    source: u8,
+    state: u8,
+    ea: bool,
+    er: bool,
+    requested_service: u8,
+    target_node: u8,
+    epl_version: u8,
+    target: &mut [u8],
+    written: &mut usize,
+    octet: &mut u8,
+) -> u8
+    ensures { λ r. ⌜ WritesCoded (soaWriting destination source state (soaFlagsGiven ea er) «requested_service» «target_node» «epl_version») r (now (target .entry)) (now (target .exit)) (now (written .entry)) (now (written .exit)) (now (octet .entry)) (now (octet .exit)) ⌝ }
+{
+    match NmtState::from_u8(state) {
+        NmtStateAnswer::Unknown(b) => {
+            unnamed(PowerlinkError::InvalidNmtState(b), 46, target.len(), octet)
+        }
+        NmtStateAnswer::Known(nmt_state) => match RequestedServiceId::from_u8(requested_service) {
+            RequestedServiceIdAnswer::Unknown(b) => unnamed(
+                PowerlinkError::InvalidRequestedServiceId(b),
+                46,
+                target.len(),
+                octet,
+            ),
+            RequestedServiceIdAnswer::Known(req_service_id) => {
+                let frame = SoAFrame {
+                    destination: NodeId(destination),
+                    source: NodeId(source),
+                    nmt_state,
+                    flags: SoAFlags { ea, er },
+                    req_service_id,
+                    target_node_id: NodeId(target_node),
+                    epl_version: EPLVersion(epl_version),
+                };
+                let answer = frame.serialize(target);
+                written_or(answer, written)
+            }
+        },
+    }
+}
+
+#[no_mangle]
+pub extern "C" fn powerlink_serialize_asnd(
+    destination: u8,
+    source: u8,
+    service: u8,
+    payload: &[u8],
+    target: &mut [u8],
+    written: &mut usize,
+    octet: &mut u8,
+) -> u8
+    ensures { λ r. ⌜ WritesCoded (asndWriting destination source service (now (payload .entry))) r (now (target .entry)) (now (target .exit)) (now (written .entry)) (now (written .exit)) (now (octet .entry)) (now (octet .exit)) ⌝ }
+{
+    match ServiceId::from_u8(service) {
+        ServiceIdAnswer::Unknown(b) => {
+            let needed = padded_len(46, 4 + payload.len());
+            unnamed(
+                PowerlinkError::InvalidServiceId(b),
+                needed,
+                target.len(),
+                octet,
+            )
+        }
+        ServiceIdAnswer::Known(service_id) => {
+            let frame = ASndFrame {
+                destination: NodeId(destination),
+                source: NodeId(source),
+                service_id,
+            };
+            let answer = frame.serialize(payload, target);
+            written_or(answer, written)
+        }
+    }
+}

@@ -1,0 +1,104 @@
+//! The managing node's side of error signaling (EPSG DS 301, 6.5): the box.
+use crate::codes::NmtState;
+use crate::ffi;
+use crate::frame::{ErrorEntry, MacAddress};
+use crate::numbers::broken;
+use crate::types::{EPLVersion, NodeId};
+use crate::Error;
+use std::fmt;
+
+/// The octets of a [`Collector`]'s state.
+pub const COLLECTOR_LEN: usize = 5184;
+
+/// The managing node's side of error signaling, the box. For each of up to four registered heads it
+/// keeps what it has acknowledged, and a book of up to 64 error entries.
+#[derive(PartialEq, Eq)]
+pub struct Collector(Box<[u8; COLLECTOR_LEN]>);
+
+/// What a request holds beside the node and EA.
+#[derive(Debug, Clone, Copy, PartialEq, Eq, Hash)]
+pub struct RequestFields {
+    /// Where the request comes from.
+    pub source_mac: MacAddress,
+    /// The state of the managing node.
+    pub nmt_state: NmtState,
+    /// The version of POWERLINK.
+    pub epl_version: EPLVersion,
+}
+
+/// What reading a frame comes to, for the box.
+#[derive(Debug, Clone, Copy, PartialEq, Eq, Hash)]
+pub enum Read {
+    /// The batch is new, and now in the book, whole.
+    Booked,
+    /// The batch was booked before, or there was none: nothing has changed.
+    Known,
+}
+
+impl Collector {
+    /// A fresh box: no head is registered.
+    pub fn new() -> Self {
+        let mut state = Box::new([0; COLLECTOR_LEN]);
+        ffi::collector_new(&mut state);
+        Collector(state)
+    }
+
+    /// Registers a head, with an empty book. Refused are an ID that is not one of 1 to 239 (13),
+    /// one that is registered (14) and a fifth head (15).
+    pub fn register(&mut self, id: NodeId) -> Result<(), Error> {
+        ffi::collector_register(&mut self.0, id)
+    }
+
+    /// Reads a frame: the batch of a registered head's StatusResponse goes into its book, whole,
+    /// unless it is there already. Refused are what [`deserialize_frame`](crate::deserialize_frame)
+    /// refuses (1 to 7), a frame that is no StatusResponse (10), one from a node that is not
+    /// registered (11), a payload under 14 octets (1) or with an unknown state (5), and a new batch
+    /// with more entries than the book has free places (12), which the head sends again.
+    pub fn read(&mut self, buffer: &[u8]) -> Result<Read, Error> {
+        Ok(match ffi::collector_read(&mut self.0, buffer)? {
+            0 => Read::Known,
+            1 => Read::Booked,
+            other => broken("outcome", other.into()),
+        })
+    }
+
+    /// Writes the SoA, a whole frame of 60 octets, that asks a head for its StatusResponse and
+    /// acknowledges what was booked. Refused are a head that is not registered (11), then a shorter
+    /// target (1).
+    pub fn request(
+        &self,
+        id: NodeId,
+        fields: &RequestFields,
+        target: &mut [u8],
+    ) -> Result<usize, Error> {
+        ffi::collector_request(&self.0, id, fields, target)
+    }
+
+    /// Hands out the oldest entry of a head's book; its place is used again. Refused are a head
+    /// that is not registered (11) and an empty book (16).
+    pub fn take(&mut self, id: NodeId) -> Result<ErrorEntry, Error> {
+        Ok(ErrorEntry::of(&ffi::collector_take(&mut self.0, id)?))
+    }
+
+    /// The octets of the state, to be kept.
+    pub fn as_bytes(&self) -> &[u8; COLLECTOR_LEN] {
+        &self.0
+    }
+
+    /// The box with these octets as state. Every pattern is a state.
+    pub fn from_bytes(octets: [u8; COLLECTOR_LEN]) -> Self {
+        Collector(Box::new(octets))
+    }
+}
+
+impl Default for Collector {
+    fn default() -> Self {
+        Collector::new()
+    }
+}
+
+impl fmt::Debug for Collector {
+    fn fmt(&self, f: &mut fmt::Formatter<'_>) -> fmt::Result {
+        f.debug_struct("Collector").finish_non_exhaustive()
+    }
+}

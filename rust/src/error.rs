@@ -1,0 +1,134 @@
+//! Why a call refuses.
+use std::fmt;
+
+/// Why a call refuses: one variant for each cause, in the order of their numbers. What stands in
+/// brackets is the octet that was found.
+#[derive(Debug, Clone, Copy, PartialEq, Eq, Hash)]
+#[non_exhaustive]
+pub enum Error {
+    /// 1: the input or the target is shorter than needed.
+    BufferTooShort,
+    /// 2: the EtherType is not that of POWERLINK, 88AB h.
+    InvalidEthernetFrame,
+    /// 3: nothing follows the Ethernet header, or a PRes is not to node 255.
+    InvalidPlFrame,
+    /// 4: the message type, the low seven bits of its octet, is none that is known.
+    InvalidMessageType(u8),
+    /// 5: the NMT state is none that is known.
+    InvalidNmtState(u8),
+    /// 6: the service of an ASnd is none that is known.
+    InvalidServiceId(u8),
+    /// 7: the service that an SoA requests is none that is known.
+    InvalidRequestedServiceId(u8),
+    /// 8: the raised entry has the mode of the terminator, or a profile above 4,095.
+    EntryInvalid,
+    /// 9: 16 entries are waiting already.
+    QueueFull,
+    /// 10: the frame is no StatusResponse.
+    NotStatusResponse,
+    /// 11: the node is not registered.
+    NotRegistered,
+    /// 12: the node's book has fewer free places than the batch has entries.
+    BookFull,
+    /// 13: the ID of a head is not one of 1 to 239.
+    IdOutOfRange,
+    /// 14: the node is registered already.
+    IdRegistered,
+    /// 15: four nodes are registered.
+    Full,
+    /// 16: no entry is booked.
+    NothingBooked,
+}
+
+impl Error {
+    /// The number of the cause, 1 to 16.
+    pub fn number(self) -> u8 {
+        match self {
+            Error::BufferTooShort => 1,
+            Error::InvalidEthernetFrame => 2,
+            Error::InvalidPlFrame => 3,
+            Error::InvalidMessageType(_) => 4,
+            Error::InvalidNmtState(_) => 5,
+            Error::InvalidServiceId(_) => 6,
+            Error::InvalidRequestedServiceId(_) => 7,
+            Error::EntryInvalid => 8,
+            Error::QueueFull => 9,
+            Error::NotStatusResponse => 10,
+            Error::NotRegistered => 11,
+            Error::BookFull => 12,
+            Error::IdOutOfRange => 13,
+            Error::IdRegistered => 14,
+            Error::Full => 15,
+            Error::NothingBooked => 16,
+        }
+    }
+
+    /// The octet that was found, of causes 4 to 7.
+    pub fn octet(self) -> Option<u8> {
+        match self {
+            Error::InvalidMessageType(octet)
+            | Error::InvalidNmtState(octet)
+            | Error::InvalidServiceId(octet)
+            | Error::InvalidRequestedServiceId(octet) => Some(octet),
+            _ => None,
+        }
+    }
+
+    /// What a call of the library answered, with the octet that it may have given.
+    pub(crate) fn check(cause: u8, octet: u8) -> Result<(), Error> {
+        Err(match cause {
+            0 => return Ok(()),
+            1 => Error::BufferTooShort,
+            2 => Error::InvalidEthernetFrame,
+            3 => Error::InvalidPlFrame,
+            4 => Error::InvalidMessageType(octet),
+            5 => Error::InvalidNmtState(octet),
+            6 => Error::InvalidServiceId(octet),
+            7 => Error::InvalidRequestedServiceId(octet),
+            8 => Error::EntryInvalid,
+            9 => Error::QueueFull,
+            10 => Error::NotStatusResponse,
+            11 => Error::NotRegistered,
+            12 => Error::BookFull,
+            13 => Error::IdOutOfRange,
+            14 => Error::IdRegistered,
+            15 => Error::Full,
+            16 => Error::NothingBooked,
+            _ => panic!("libpowerlink.a answers with {cause}, which is no cause"),
+        })
+    }
+}
+
+impl fmt::Display for Error {
+    fn fmt(&self, f: &mut fmt::Formatter<'_>) -> fmt::Result {
+        match self {
+            Error::BufferTooShort => write!(f, "input or target is shorter than needed"),
+            Error::InvalidEthernetFrame => write!(f, "EtherType is not POWERLINK's 0x88ab"),
+            Error::InvalidPlFrame => {
+                write!(
+                    f,
+                    "nothing follows the Ethernet header, or a PRes is not to node 255"
+                )
+            }
+            Error::InvalidMessageType(octet) => write!(f, "unknown message type {octet:#04x}"),
+            Error::InvalidNmtState(octet) => write!(f, "unknown NMT state {octet:#04x}"),
+            Error::InvalidServiceId(octet) => write!(f, "unknown service {octet:#04x}"),
+            Error::InvalidRequestedServiceId(octet) => {
+                write!(f, "unknown requested service {octet:#04x}")
+            }
+            Error::EntryInvalid => {
+                write!(f, "entry has the terminator's mode or a profile above 4095")
+            }
+            Error::QueueFull => write!(f, "16 entries are waiting already"),
+            Error::NotStatusResponse => write!(f, "frame is no StatusResponse"),
+            Error::NotRegistered => write!(f, "node is not registered"),
+            Error::BookFull => write!(f, "book has fewer free places than the batch has entries"),
+            Error::IdOutOfRange => write!(f, "node ID is not one of 1 to 239"),
+            Error::IdRegistered => write!(f, "node is registered already"),
+            Error::Full => write!(f, "four nodes are registered"),
+            Error::NothingBooked => write!(f, "no entry is booked"),
+        }
+    }
+}
+
+impl std::error::Error for Error {}

@@ -1,0 +1,131 @@
+//! Ethernet POWERLINK frames, and the error exchange between a controlled node (a *head*) and the
+//! managing node (the *box*): a safe wrapper over the static library `libpowerlink.a` of this
+//! repository.
+//!
+//! # Frames
+//!
+//! [`deserialize_frame`] reads a frame, from its Ethernet header on. Each kind ([`SocFrame`],
+//! [`PReqFrame`], [`PResFrame`], [`SoAFrame`], [`ASndFrame`]) has `new`, whose frame
+//! [`NewFrame::write_frame`] writes whole, and `serialize`, which writes the frame without its
+//! Ethernet header. Payloads are lent: reading gives a part of the caller's octets, and writing
+//! takes a slice.
+//!
+//! # The exchange
+//!
+//! A [`Reporter`] is a head's side: entries are raised, and answered batch by batch in
+//! StatusResponses until the box has acknowledged them. A [`Collector`] is the box's side: it books
+//! the entries of up to four heads and asks for more. Answers and requests may get lost, and may
+//! come late or twice.
+//!
+//! ```
+//! use powerlink::*;
+//!
+//! # fn main() -> Result<(), Error> {
+//! let mut head = Reporter::new(NodeId(7))?;
+//! let mut the_box = Collector::new();
+//! the_box.register(NodeId(7))?;
+//!
+//! let fault = ErrorEntry {
+//!     entry_type: EntryType {
+//!         is_status_entry: false,
+//!         send_to_queue: true,
+//!         mode: ErrorEntryMode::ErrorActive,
+//!         profile: 2,
+//!     },
+//!     error_code: 0x1234,
+//!     timestamp: NetTime { seconds: 5, nanoseconds: 6 },
+//!     additional_information: 0,
+//! };
+//! head.raise(&fault)?;
+//!
+//! // The head answers; the answer arrives twice, and is booked once.
+//! let fields = AnswerFields {
+//!     source_mac: MacAddress([2, 0, 0, 0, 0, 7]),
+//!     dest_mac: MacAddress(ASndFrame::MULTICAST),
+//!     ec_flag: false,
+//!     pr: PRFlag::PrioGenericRequest,
+//!     rs: RSFlag::new(0),
+//!     nmt_state: NmtState::NmtOperational,
+//!     static_error_bit_field: StaticErrorBitField::default(),
+//! };
+//! let mut line = [0; 132];
+//! let n = head.answer(&fields, &mut line)?;
+//! assert_eq!(the_box.read(&line[..n])?, Read::Booked);
+//! assert_eq!(the_box.read(&line[..n])?, Read::Known);
+//!
+//! // The box's next request acknowledges, and the head closes its batch.
+//! let fields = RequestFields {
+//!     source_mac: MacAddress([2, 0, 0, 0, 0, 240]),
+//!     nmt_state: NmtState::NmtOperational,
+//!     epl_version: EPLVersion(0x20),
+//! };
+//! let n = the_box.request(NodeId(7), &fields, &mut line)?;
+//! assert_eq!(head.read(&line[..n])?, Heard::Closed);
+//!
+//! assert_eq!(the_box.take(NodeId(7))?, fault);
+//! assert_eq!(the_box.take(NodeId(7)), Err(Error::NothingBooked));
+//! # Ok(())
+//! # }
+//! ```
+//!
+//! # Refusals
+//!
+//! Every call ends in its full answer or in an [`Error`], which has a number and, where a code was
+//! not known, the octet that was found. A refused call leaves target and state as they were.
+//! [`serialize_frame`], [`Frame::write_frame`] and [`StatusFields::serialize`] join several calls of
+//! the library here; of them this is tested, and not proved.
+//!
+//! # What is proved, and what is not
+//!
+//! Proved, for all inputs, is the Rattle source of the functions in `libpowerlink.a`
+//! (`crates/powerlink` and what it builds on): that each answers as its definitions in
+//! `crates/*/specs/` say, and that in the exchange no error is lost and none listed twice. **This
+//! wrapper is not proved**, only tested: the declarations of the functions in `src/ffi.rs`, the
+//! conversions between their numbers and the types here, the tables of codes, `new`, and what is
+//! plain Rust. Neither is the compiler that made the archive. What the theorem of the exchange asks
+//! of its surroundings (head and box start fresh together and keep their states, and a repeat
+//! arrives before any later frame of the same sender) is up to the caller.
+//!
+//! No call panics, unless the archive does not keep what its source promises, as one of another
+//! version may.
+//!
+//! # For readers of powerlink-rs
+//!
+//! Names and fields are those of powerlink-rs, with [`Error`] for `PowerlinkError`. What differs:
+//! the Ethernet header and the payload stand beside the frame ([`Frame`], [`NewFrame`]) and no more
+//! in it; `message_type` goes with the kind; `StatusResponsePayload` is [`StatusFields`] for
+//! writing and [`StatusResponse`] for reading, with an iterator over the entries. Where the
+//! behaviour differs is in `docs/DIFFERENCES.md`.
+#![deny(unsafe_code)]
+#![warn(missing_docs)]
+
+mod codes;
+mod collector;
+mod common;
+mod error;
+#[allow(unsafe_code)]
+mod ffi;
+mod frame;
+mod numbers;
+mod reporter;
+mod types;
+
+pub use codes::{
+    ErrorEntryMode, MessageType, NmtState, PRFlag, RSFlag, RequestedServiceId, ServiceId,
+};
+pub use collector::{Collector, Read, RequestFields, COLLECTOR_LEN};
+pub use common::{NetTime, RelativeTime};
+pub use error::Error;
+pub use frame::{
+    deserialize_eth_header, deserialize_frame, deserialize_pl_header, serialize_eth_header,
+    serialize_frame, serialize_pl_header, ASndFrame, EntryType, ErrorEntries, ErrorEntry,
+    EthernetHeader, Frame, MacAddress, NewFrame, PReqFlags, PReqFrame, PResFlags, PResFrame,
+    PlHeader, PowerlinkFrame, SoAFlags, SoAFrame, SocFlags, SocFrame, StaticErrorBitField,
+    StatusFields, StatusResponse,
+};
+pub use reporter::{AnswerFields, Heard, Reporter, REPORTER_LEN};
+pub use types::{
+    EPLVersion, NodeId, PDOVersion, C_ADR_BROADCAST_NODE_ID, C_ADR_MAX_CN_NODE_ID,
+    C_ADR_MN_DEF_NODE_ID, C_DLL_ETHERTYPE_EPL, C_DLL_MULTICAST_ASND, C_DLL_MULTICAST_PRES,
+    C_DLL_MULTICAST_SOA, C_DLL_MULTICAST_SOC,
+};
