@@ -1,0 +1,214 @@
+//! A sample of cases with the Rust's answers, for a program that replays it without Rust. Numbers are low octet first.
+//!
+//! The file: 4 octets `PLC1`, then 4 with the number of records, then the records. A record:
+//!
+//! | at | octets | |
+//! |---|---|---|
+//! | 0 | 2 | length of the record, these two counted |
+//! | 2 | 1 | call, 1 to 22 (SHAPES in case.rs, in this order) |
+//! | 3 | 1 | fill: what each octet of the target and of every out-parameter is before the call |
+//! | 4 | 2 | length of the target, 0 for calls that read |
+//! | 6 | 1 | cause |
+//! | 7 | 1 | what `octet` is after the call: the fill, unless the cause is 4 to 7 |
+//! | 8 | 2, 2, 2 | lengths of the octet inputs A, B, C, 0 where the call takes fewer |
+//! | 14 | 2 | length of the octets that come out, E |
+//! | 16 | 1 | how many numbers go in, N, 0 to 10 |
+//! | 17 | 1 | how many values come out, V, 0 to 16 |
+//! | 18 | 8 N | the numbers, in the order of the C function's parameters; flags are 0 or 1 |
+//! | 18 + 8 N | 8 V | the values |
+//! | 18 + 8 N + 8 V | | A, then B, then C, then E |
+//!
+//! A, B, C are the arrays and slices that go in, in the order of the C function's parameters. With a cause other than 0,
+//! V and E's length are 0: nothing has changed but `octet`. With cause 0: of a call that writes, V is 0, `written` is E's
+//! length, E are the first octets of the target, and the others are the fill. Of one that reads, the values are those of
+//! the array `values`; for deserialize_eth_header the one value is the EtherType, and E destination and source; for
+//! deserialize_status and deserialize_error_field E is the field; for entry_step the ninth value is `next`, and at the end
+//! of the list the other eight are as before, each octet the fill.
+use crate::case::*;
+use crate::random::*;
+use crate::theirs::Theirs;
+use std::collections::BTreeMap;
+use std::io::{self, Write};
+
+/// How many random cases of one call with one cause, or of one kind of frame.
+const EACH: usize = 90;
+/// Records are at most this long, so that a program can hold one whole.
+const MOST: usize = 4096;
+
+fn record(case: &Case, out: &Out) -> Vec<u8> {
+    let shape = case.shape();
+    let done = out.cause == 0;
+    let came: &[u8] = match (done, shape.writes) {
+        (false, _) => &[],
+        (true, Some(_)) => &out.target[..out.written],
+        (true, None) => &out.octets[..shape.octets],
+    };
+    let values = if done { shape.values } else { 0 };
+    let mut r = vec![0, 0, case.call as u8, case.fill];
+    let half = |r: &mut Vec<u8>, n: usize| r.extend(u16::try_from(n).unwrap().to_le_bytes());
+    half(&mut r, if shape.writes.is_some() { case.target } else { 0 });
+    r.extend([out.cause, out.octet]);
+    for i in 0..3 {
+        half(&mut r, if i < shape.bytes.len() { case.bytes[i].len() } else { 0 });
+    }
+    half(&mut r, came.len());
+    r.extend([shape.numbers.len() as u8, values as u8]);
+    for n in case.numbers[..shape.numbers.len()].iter().chain(&out.values[..values]) {
+        r.extend(n.to_le_bytes());
+    }
+    for octets in &case.bytes[..shape.bytes.len()] {
+        r.extend(octets);
+    }
+    r.extend(came);
+    let len = u16::try_from(r.len()).unwrap();
+    r[..2].copy_from_slice(&len.to_le_bytes());
+    r
+}
+
+/// What the quota is counted by: the call, its cause, and the kind of frame or whether a step finds an entry.
+fn key(case: &Case, out: &Out) -> (usize, u8, u64) {
+    let more = match (case.call, out.cause) {
+        (FRAME, 0) => out.values[0],
+        (STEP, _) => (out.values[8] != 0).into(),
+        _ => 0,
+    };
+    (case.call, out.cause, more)
+}
+
+fn make(r: &mut Random, case: &mut Case, call: usize, long: usize) {
+    case.call = call;
+    case.fill = r.octet();
+    match call {
+        FRAME => {
+            let mut s = Vec::new();
+            section(r, &mut s, long);
+            header(r, &mut case.bytes[0]);
+            case.bytes[0].extend_from_slice(&s);
+            if r.one_in(8) {
+                damage(r, &mut case.bytes[0]);
+            }
+        }
+        STATUS | STEP => {
+            status(r, &mut case.bytes[0], long);
+            let n = case.bytes[0].len();
+            case.numbers[0] = match r.below(4) {
+                0 => 14 + 20 * r.below(n / 20 + 2) as u64,
+                1 => r.number(Number::Offset),
+                _ => r.below(n + 2) as u64,
+            };
+        }
+        ETH | PL | FIELD | ENTRY => {
+            let n = if r.one_in(8) { length(r, 0) } else { r.below(34) };
+            octets(r, &mut case.bytes[0], n);
+        }
+        _ => writer(r, case, call, long),
+    }
+}
+
+/// Cases at limits: every message type; every octet as a code and every length up to 60 of every kind of frame; the
+/// trimmed sections; each writer with payloads and targets around what it needs, and with every code.
+fn limits(r: &mut Random, add: &mut impl FnMut(&Case)) {
+    let mut case = Case::new(FRAME);
+    let good = |kind: u8, len: usize| {
+        let mut f = vec![1, 0x11, 0x1E, 0, 0, 3, 2, 4, 6, 8, 10, 12, 0x88, 0xAB];
+        f.extend((0..len).map(|i| match (kind, i) {
+            (_, 0) => kind,
+            (4, 1) => 255,
+            (4 | 5, 3) => 0x1D,
+            (6, 3) => 2,
+            (5, 6) => 3,
+            (3 | 4, 8) => len.saturating_sub(11) as u8,
+            (3 | 4, 9) => 0,
+            _ => i as u8,
+        }));
+        f
+    };
+    for kind in [1, 3, 4, 5, 6] {
+        for len in 0..=60 {
+            case.bytes[0] = good(kind, len);
+            add(&case);
+        }
+    }
+    for b in 0..=255 {
+        for (kind, len, at) in [(1, 1, 0), (4, 10, 3), (5, 9, 6), (6, 4, 3)] {
+            case.bytes[0] = good(kind, len);
+            case.bytes[0][14 + at] = b;
+            add(&case);
+        }
+    }
+    for len in [45, 46, 47] {
+        for last in 3..len {
+            case.bytes[0] = good(6, len);
+            case.bytes[0][14 + last + 1..].fill(0);
+            add(&case);
+        }
+    }
+    for call in WRITE_SOC..=NEW_ASND {
+        writer(r, &mut case, call, 0);
+        let slice = case.shape().bytes.iter().position(|b| !matches!(b, Octets::Array(_)));
+        for len in [0, 1, 19, 20, 36, 37, 42, 43, 80, 1490, 1500] {
+            writer(r, &mut case, call, 0);
+            for (i, number) in case.shape().numbers.iter().enumerate().filter(|(_, n)| !n.codes().is_empty()) {
+                case.numbers[i] = r.one_of(number.codes()).into();
+            }
+            if let Some(i) = slice {
+                case.bytes[i].resize(len, 0);
+                r.fill(&mut case.bytes[i]);
+            }
+            let needed = case.needed();
+            for target in [needed - 1, needed, needed + 1] {
+                case.target = target;
+                add(&case);
+            }
+        }
+        for (i, _) in case.shape().numbers.iter().enumerate().filter(|(_, n)| !n.codes().is_empty()) {
+            if let Some(slice) = slice {
+                case.bytes[slice].clear();
+            }
+            case.target = case.needed();
+            let before = case.numbers[i];
+            for b in 0..=255 {
+                case.numbers[i] = b;
+                add(&case);
+            }
+            case.numbers[i] = before;
+        }
+    }
+}
+
+pub fn write(to: &mut impl Write) -> io::Result<()> {
+    let r = &mut Random(0x00C0_FFEE_0DDB_A11D);
+    let (mut theirs, mut out, mut case) = (Theirs::default(), Out::default(), Case::default());
+    let mut held: BTreeMap<_, usize> = BTreeMap::new();
+    let mut records = Vec::new();
+    let mut answer = |case: &Case| {
+        out.before(case);
+        theirs.answer(case, &mut out).expect("an answer of the Rust that no row lists");
+        (key(case, &out), record(case, &out))
+    };
+    limits(r, &mut |case| records.push(answer(case).1));
+    for call in 1..=CALLS {
+        for i in 0..40_000 {
+            make(r, &mut case, call, usize::from(i % 8 == 0));
+            let (key, octets) = answer(&case);
+            let count = held.entry(key).or_default();
+            if *count < EACH {
+                *count += 1;
+                records.push(octets);
+            }
+        }
+    }
+    for (shape, call) in SHAPES.iter().zip(1..) {
+        for cause in shape.causes {
+            assert!(held.keys().any(|(c, n, _)| (*c, n) == (call, cause)), "no case of {} with {cause}", shape.name);
+        }
+    }
+    assert!(records.iter().all(|octets| octets.len() <= MOST));
+    records.sort_by_key(|octets| octets[2]);
+    to.write_all(b"PLC1")?;
+    to.write_all(&(records.len() as u32).to_le_bytes())?;
+    for octets in records {
+        to.write_all(&octets)?;
+    }
+    to.flush()
+}
