@@ -2,8 +2,8 @@
  *
  * Every function answers with the number of a cause, or 0 (POWERLINK_DONE). Where the number is not 0, nothing that the
  * caller lent has changed, but for `octet`: with causes 4 to 7 it holds the octet that names nothing. Otherwise `octet`
- * stays as it was too. The causes are tested in the order: not registered (11), too short (1), then codes (4 to 7), unless
- * a function says otherwise.
+ * stays as it was too. Writers test in the order: not registered (11), too short (1), then codes (4 to 7). Readers say their
+ * order.
  *
  * No function allocates, keeps a pointer, calls back, or has a state of its own: a state is octets that the caller lends,
  * and any octets are one. No input is undefined, but for what C itself asks of the caller:
@@ -171,7 +171,9 @@ enum {
 
 /* ---- Reading */
 
-/* Reads a frame from its Ethernet header on. 1 to 7. `values`: 16 numbers, see above. */
+/* Reads a frame from its Ethernet header on. In this order: 1 (14 octets), 2, 3 (an empty section), 4, then the rules of the
+ * kind: SoC 1; PReq 1, and 1 for the payload; PRes 1, 3, 5, and 1 for the payload; SoA 1, 5, 7; ASnd 1, 6. `values`: 16
+ * numbers, see above. */
 uint8_t powerlink_deserialize_frame(
     const uint8_t *POWERLINK_RESTRICT buffer, size_t buffer_len,
     uint64_t *POWERLINK_RESTRICT values, uint8_t *POWERLINK_RESTRICT octet);
@@ -337,8 +339,8 @@ uint8_t powerlink_reporter_raise(
     bool status_entry, bool send_to_queue, uint8_t mode, uint16_t profile, uint16_t code,
     uint32_t seconds, uint32_t nanoseconds, uint64_t information);
 
-/* Writes a StatusResponse with the open batch. Where none is open and entries wait, the first four become it. 60 octets
- * without entries, else 52 and 20 for each. 1, 5. `field`: 8 octets. */
+/* Writes a StatusResponse with the open batch. Where none is open and entries wait, the first four, or all if fewer,
+ * become it. 60 octets without entries, else 52 and 20 for each. 1, 5. `field`: 8 octets. */
 uint8_t powerlink_reporter_answer(
     uint8_t *POWERLINK_RESTRICT state,
     const uint8_t *POWERLINK_RESTRICT source_mac, const uint8_t *POWERLINK_RESTRICT dest_mac,
@@ -346,8 +348,8 @@ uint8_t powerlink_reporter_answer(
     uint8_t *POWERLINK_RESTRICT target, size_t target_len, size_t *POWERLINK_RESTRICT written,
     uint8_t *POWERLINK_RESTRICT octet);
 
-/* Reads a frame: from the managing node, a PReq to this node or an SoA with it as target may acknowledge the open batch. 1
- * to 7. `outcome`: POWERLINK_IGNORED, _KEPT or _CLOSED. */
+/* Reads a frame: from the managing node, a PReq to this node or an SoA with it as target may acknowledge the open batch.
+ * The causes of powerlink_deserialize_frame. `outcome`: POWERLINK_IGNORED, _KEPT or _CLOSED. */
 uint8_t powerlink_reporter_read(
     uint8_t *POWERLINK_RESTRICT state,
     const uint8_t *POWERLINK_RESTRICT buffer, size_t buffer_len,
@@ -362,7 +364,8 @@ uint8_t powerlink_collector_new(uint8_t *POWERLINK_RESTRICT state);
 uint8_t powerlink_collector_register(uint8_t *POWERLINK_RESTRICT state, uint8_t id);
 
 /* Reads a frame: the batch of a registered node's StatusResponse goes into its book of 64 entries, whole, unless it is there
- * already. 1 to 7, 10, 11, then 1 and 5 of the StatusResponse, 12. `outcome`: POWERLINK_KNOWN or _BOOKED. */
+ * already. The causes of powerlink_deserialize_frame, 10, 11, then 1 and 5 of the StatusResponse, 12. `outcome`:
+ * POWERLINK_KNOWN or _BOOKED. */
 uint8_t powerlink_collector_read(
     uint8_t *POWERLINK_RESTRICT state,
     const uint8_t *POWERLINK_RESTRICT buffer, size_t buffer_len,

@@ -36,20 +36,22 @@ pub fn reading(run: &mut Run) {
     parts(run);
 }
 
-/// Every section of up to three octets, as a frame and, where it is not empty, as what a section begins with.
+/// Every section of up to three octets, as a frame; and as many octets for each other reader.
 fn sections(run: &mut Run, case: &mut Case) {
-    let pl = &mut Case::new(PL);
+    let mut alone = [PL, ETH, STATUS, FIELD, ENTRY].map(Case::new);
     for len in 0..=3 {
         frame(case, len, |_| 0);
-        pl.bytes[0].resize(len, 0);
+        alone.iter_mut().for_each(|other| other.bytes[0].resize(len, 0));
         for n in 0..1u32 << (8 * len) {
             let octets = n.to_le_bytes();
             case.bytes[0][14..].copy_from_slice(&octets[..len]);
             case.fill = octets[0].wrapping_add(0x55);
             run.check(case);
-            pl.bytes[0].copy_from_slice(&octets[..len]);
-            pl.fill = case.fill;
-            run.check(pl);
+            for other in &mut alone {
+                other.bytes[0].copy_from_slice(&octets[..len]);
+                other.fill = case.fill;
+                run.check(other);
+            }
         }
     }
 }

@@ -192,16 +192,19 @@ pub enum Boxed {
     Booked(Vec<[u64; 8]>),
 }
 
-/// A fresh box with one head reads a frame; then its book is taken to the end.
+/// A fresh box with one head reads a frame; then its book is taken to the end. A refusal must leave the box and `outcome`, and
+/// what is known must book nothing.
 pub fn boxed(id: u8, frame: &[u8]) -> Boxed {
     let mut state = [0u8; 5184];
     let (mut outcome, mut octet) = (0xFF, 0);
     unsafe {
         assert_eq!(powerlink_collector_new(state.as_mut_ptr()), 0);
         assert_eq!(powerlink_collector_register(state.as_mut_ptr(), id), 0);
+        let before = state;
         let cause =
             powerlink_collector_read(state.as_mut_ptr(), frame.as_ptr(), frame.len(), &mut outcome, &mut octet);
         if cause != 0 {
+            assert!(state == before && outcome == 0xFF, "a refusal changed the box or its outcome: {frame:02X?}");
             return Boxed::Refused(cause, octet);
         }
         let mut entries = Vec::new();
@@ -210,8 +213,9 @@ pub fn boxed(id: u8, frame: &[u8]) -> Boxed {
             entries.push(values);
         }
         match outcome {
-            0 => Boxed::Known,
-            _ => Boxed::Booked(entries),
+            0 if entries.is_empty() => Boxed::Known,
+            1 => Boxed::Booked(entries),
+            _ => panic!("outcome {outcome} with {} entries: {frame:02X?}", entries.len()),
         }
     }
 }
