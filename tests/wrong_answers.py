@@ -15,8 +15,6 @@ import pathlib
 import re
 import sys
 
-from sources import public_files
-
 GROUPS = 'wrong_answers_*.edit'
 WRONG = re.compile(r'^# wrong: (\S+) -- (\S.*)', re.M)
 TYPE = re.compile(r'impl(?:<[^>]*>)? (\w+)')
@@ -58,7 +56,7 @@ def answers(edit):
 
 def functions(source):
     """The public functions of a crate's folder src/, as MODULE::fn_name or MODULE::Type::fn_name."""
-    for path in public_files(source):
+    for path in sorted(source.rglob('*.rt')):
         module = [part for part in path.relative_to(source).with_suffix('').parts if part not in ('lib', 'mod')]
         owner = []
         for line in path.read_text(encoding='utf-8').splitlines():

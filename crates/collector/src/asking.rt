@@ -13,7 +13,7 @@ use types::NodeId;
 use types::requested_service::RequestedServiceId;
 
 // Writes the SoA to the node `id` with EA, if it fits.
-pub fn write_request(
+pub(crate) fn write_request(
     id: NodeId,
     fields: RequestFields,
     ea: bool,

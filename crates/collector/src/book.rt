@@ -16,7 +16,7 @@ use status_response::walk::EntryStep;
 use status_response::walk::step_from;
 
 // Hands out the oldest entry.
-pub fn take_first(state: &mut Collector, k: usize) -> ErrorEntry
+pub(crate) fn take_first(state: &mut Collector, k: usize) -> ErrorEntry
     requires { ⌜ (k < 4) × (0 < countIn (now state) k) ⌝ }
     ensures { λ r. ⌜ (r ≡ entryIn (now (state .entry)) k (startIn (now (state .entry)) k)) × (now (state .exit) ≡ takenBytes (now (state .entry)) k) ⌝ }
 {
@@ -29,7 +29,7 @@ pub fn take_first(state: &mut Collector, k: usize) -> ErrorEntry
 }
 
 // An entry joins the book, last.
-pub fn push(state: &mut Collector, k: usize, e: ErrorEntry)
+pub(crate) fn push(state: &mut Collector, k: usize, e: ErrorEntry)
     requires { ⌜ (k < 4) × (countIn (now state) k < 64) ⌝ }
     ensures { λ _. ⌜ (now (state .exit) ≡ pushedBytes (now (state .entry)) k e) × (countIn (now (state .exit)) k ≡ countIn (now (state .entry)) k + 1) ⌝ }
 {
@@ -40,7 +40,7 @@ pub fn push(state: &mut Collector, k: usize, e: ErrorEntry)
 }
 
 // How many entries a payload holds.
-pub fn count_entries(payload: &[u8]) -> usize
+pub(crate) fn count_entries(payload: &[u8]) -> usize
     ensures { λ r. ⌜ r ≡ length (statusEntries (now (payload .entry))) ⌝ }
 {
     let mut n = 0usize;
@@ -57,7 +57,7 @@ pub fn count_entries(payload: &[u8]) -> usize
 }
 
 // The first `n` entries of a payload join the book, in order.
-pub fn push_entries(state: &mut Collector, k: usize, payload: &[u8], n: usize)
+pub(crate) fn push_entries(state: &mut Collector, k: usize, payload: &[u8], n: usize)
     requires { ⌜ (k < 4) × (n ≤ length (statusEntries (now payload))) × (countIn (now state) k + n ≤ 64) ⌝ }
     ensures { λ _. ⌜ now (state .exit) ≡ pushedAll (now (state .entry)) k (take n (statusEntries (now (payload .entry)))) ⌝ }
 {

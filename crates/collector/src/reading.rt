@@ -31,7 +31,7 @@ pub enum Heard {
 }
 
 // A StatusResponse with its source, another frame, or none.
-pub fn hear(buffer: &[u8]) -> Heard
+pub(crate) fn hear(buffer: &[u8]) -> Heard
     ensures { λ r. ⌜ r ≡ heardIn (readFrame (now (buffer .entry))) ⌝ }
 {
     let read = deserialize_frame(buffer);
@@ -52,7 +52,7 @@ pub fn hear(buffer: &[u8]) -> Heard
 }
 
 // Reads the StatusResponse of the node `source`.
-pub fn read_status(state: &mut Collector, source: u8, payload: &[u8]) -> ReadAnswer
+pub(crate) fn read_status(state: &mut Collector, source: u8, payload: &[u8]) -> ReadAnswer
     ensures { λ r. ⌜ ReadsStatus source (now (payload .entry)) r (now (state .entry)) (now (state .exit)) × (length (now (state .entry)) ≡ 5184) ⌝ }
 {
     let k = slot(state, source);

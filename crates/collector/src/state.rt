@@ -14,7 +14,7 @@ use records::RECORD_LEN;
 pub const NODES: usize = 4;
 
 // The first block whose node ID is `id`, or 4. That the state has its length is known where it is lent as a slice.
-pub fn find(state: &Collector, id: u8) -> usize
+pub(crate) fn find(state: &Collector, id: u8) -> usize
     ensures { λ r. ⌜ (r ≡ findOf (now (state .entry)) id) × (r ≤ 4) × (length (now (state .entry)) ≡ 5184) ⌝ }
 {
     if byte_at(state, 0) == id {
@@ -33,7 +33,7 @@ pub fn find(state: &Collector, id: u8) -> usize
 }
 
 // The block of a registered node, or 4. No node has the ID 0.
-pub fn slot(state: &Collector, id: u8) -> usize
+pub(crate) fn slot(state: &Collector, id: u8) -> usize
     ensures { λ r. ⌜ (r ≡ slotOf (now (state .entry)) id) × (r ≤ 4) × (length (now (state .entry)) ≡ 5184) ⌝ }
 {
     let k = find(state, id);
@@ -43,21 +43,21 @@ pub fn slot(state: &Collector, id: u8) -> usize
     k
 }
 
-pub fn ea(state: &Collector, k: usize) -> bool
+pub(crate) fn ea(state: &Collector, k: usize) -> bool
     requires { ⌜ k < 4 ⌝ }
     ensures { λ r. ⌜ r ≡ eaIn (now (state .entry)) k ⌝ }
 {
     state[BLOCK_LEN * k + 1] % 2 == 1
 }
 
-pub fn start(state: &Collector, k: usize) -> u8
+pub(crate) fn start(state: &Collector, k: usize) -> u8
     requires { ⌜ k < 4 ⌝ }
     ensures { λ r. ⌜ (r ≡ startIn (now (state .entry)) k) × (r < 64) ⌝ }
 {
     state[BLOCK_LEN * k + 2] % 64
 }
 
-pub fn count(state: &Collector, k: usize) -> u8
+pub(crate) fn count(state: &Collector, k: usize) -> u8
     requires { ⌜ k < 4 ⌝ }
     ensures { λ r. ⌜ (r ≡ countIn (now (state .entry)) k) × (r ≤ 64) ⌝ }
 {
@@ -66,7 +66,7 @@ pub fn count(state: &Collector, k: usize) -> u8
 }
 
 // Where the record at a place of a book's ring begins.
-pub fn record_place(k: usize, place: u8) -> usize
+pub(crate) fn record_place(k: usize, place: u8) -> usize
     requires { ⌜ k < 4 ⌝ }
     ensures { λ r. ⌜ r ≡ recordPlace k place ⌝ }
 {
@@ -74,7 +74,7 @@ pub fn record_place(k: usize, place: u8) -> usize
 }
 
 // Gives block `k` to a node: EA 0 and an empty book.
-pub fn place_node(state: &mut Collector, k: usize, id: u8)
+pub(crate) fn place_node(state: &mut Collector, k: usize, id: u8)
     requires { ⌜ k < 4 ⌝ }
     ensures { λ _. ⌜ now (state .exit) ≡ placedBytes (now (state .entry)) k id ⌝ }
 {

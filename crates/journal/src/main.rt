@@ -1,5 +1,6 @@
 // Lists the journal that comes on standard input (01, "Journal"). What is listed, and when it is over, the calls of
-// `list_part` decide; here is only reading and writing. A message on standard error says if that fails.
+// `list_part` decide; here is reading, carrying over what they leave, and writing. A message on standard error says if
+// reading or writing fails.
 ghost use Prim.Native.Nat.{_+_, _≤_};
 ghost use mathlib.Core.Path.{_≡_};
 ghost use lib.ListN.{length};

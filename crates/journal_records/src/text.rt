@@ -56,7 +56,7 @@ fn put_hex(v: u64, k: usize, at: usize, out: &mut [u8])
 }
 
 // Writes a decimal column from place `at` on and what ends it, and answers the place after that.
-pub fn put_number(v: u32, end: u8, at: usize, out: &mut [u8]) -> usize
+pub(crate) fn put_number(v: u32, end: u8, at: usize, out: &mut [u8]) -> usize
     requires { ⌜ at ≤ 100 ⌝ }
     ensures { λ r. ⌜ Puts (decimal v ++ end ∷ []) at r (now (out .entry)) (now (out .exit)) × (r ≤ at + 11) ⌝ }
 {
@@ -76,7 +76,7 @@ fn put_code(v: u64, k: usize, end: u8, at: usize, out: &mut [u8]) -> usize
 }
 
 // Writes the line of a record to the front of `out`, and answers its length.
-pub fn put_line(node: NodeId, entry: ErrorEntry, out: &mut [u8]) -> usize
+pub(crate) fn put_line(node: NodeId, entry: ErrorEntry, out: &mut [u8]) -> usize
     ensures { λ r. ⌜ Puts (fieldsLine (node .0) entry) 0 r (now (out .entry)) (now (out .exit)) ⌝ }
 {
     let entry_type = entry.entry_type;

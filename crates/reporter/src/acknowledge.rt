@@ -48,7 +48,7 @@ fn hear_frame(id: u8, frame: PowerlinkFrame) -> Heard
 }
 
 // What octets tell node `id`.
-pub fn hear(id: u8, buffer: &[u8]) -> Heard
+pub(crate) fn hear(id: u8, buffer: &[u8]) -> Heard
     ensures { λ r. ⌜ r ≡ heardIn id (readFrame (now (buffer .entry))) ⌝ }
 {
     let read = deserialize_frame(buffer);
@@ -60,7 +60,7 @@ pub fn hear(id: u8, buffer: &[u8]) -> Heard
 }
 
 // Closes the open batch, if there is one and EA equals EN.
-pub fn acknowledge(state: &mut Reporter, ea: bool) -> ReadAnswer
+pub(crate) fn acknowledge(state: &mut Reporter, ea: bool) -> ReadAnswer
     ensures { λ r. ⌜ Acknowledges ea r (now (state .entry)) (now (state .exit)) ⌝ }
 {
     let n = open(state);

@@ -38,7 +38,7 @@ fn opens(state: &Reporter) -> bool
 }
 
 // How many entries an answer carries.
-pub fn carried(state: &Reporter) -> u8
+pub(crate) fn carried(state: &Reporter) -> u8
     ensures { λ r. ⌜ (r ≡ carriedIn (now (state .entry))) × (r ≤ 4) ⌝ }
 {
     if !opens(state) {
@@ -49,7 +49,7 @@ pub fn carried(state: &Reporter) -> u8
 }
 
 // The first waiting entries become the open batch, and EN flips, where an answer opens one.
-pub fn open_batch(state: &mut Reporter)
+pub(crate) fn open_batch(state: &mut Reporter)
     ensures { λ _. ⌜ (now (state .exit) ≡ openedBytes (now (state .entry))) × (length (now (state .entry)) ≡ reporterLength) ⌝ }
 {
     if !opens(state) {
@@ -105,7 +105,7 @@ fn put_payload(state: &Reporter, fields: AnswerFields, payload: &mut [u8; PAYLOA
 }
 
 // Writes the frame of an answer, if it fits.
-pub fn answer_frame(state: &Reporter, fields: AnswerFields, target: &mut [u8]) -> WriteAnswer
+pub(crate) fn answer_frame(state: &Reporter, fields: AnswerFields, target: &mut [u8]) -> WriteAnswer
     ensures { λ r. ⌜ Writes (answerFrame fields (opened (headOf (now (state .entry))))) r (now (target .entry)) (now (target .exit)) ⌝ }
 {
     let mut payload = [0u8; PAYLOAD_MAX];

@@ -12,41 +12,41 @@ use records::RECORD_LEN;
 use records::put;
 use types::error_mode::ErrorEntryMode;
 
-pub fn en(state: &Reporter) -> bool
+pub(crate) fn en(state: &Reporter) -> bool
     ensures { λ r. ⌜ r ≡ enOf (now (state .entry)) ⌝ }
 {
     state[1] % 2 == 1
 }
 
-pub fn start(state: &Reporter) -> u8
+pub(crate) fn start(state: &Reporter) -> u8
     ensures { λ r. ⌜ (r ≡ startOf (now (state .entry))) × (r < 20) ⌝ }
 {
     state[2] % 20
 }
 
 // How many entries are open. That the state has its length is told by lending it as a slice.
-pub fn open(state: &Reporter) -> u8
+pub(crate) fn open(state: &Reporter) -> u8
     ensures { λ r. ⌜ (r ≡ openOf (now (state .entry))) × (r ≤ 4) × (length (now (state .entry)) ≡ reporterLength) ⌝ }
 {
     let n = byte_at(state, 3);
     if n < 4 { n } else { 4 }
 }
 
-pub fn waiting(state: &Reporter) -> u8
+pub(crate) fn waiting(state: &Reporter) -> u8
     ensures { λ r. ⌜ (r ≡ waitingOf (now (state .entry))) × (r ≤ 16) ⌝ }
 {
     if state[4] < 16 { state[4] } else { 16 }
 }
 
 // Where the record at a place of the ring begins.
-pub fn record_place(place: u8) -> usize
+pub(crate) fn record_place(place: u8) -> usize
     ensures { λ r. ⌜ r ≡ recordPlace place ⌝ }
 {
     8 + RECORD_LEN * ((place % 20) as usize)
 }
 
 // Whether an entry may be raised.
-pub fn raisable(entry: ErrorEntry) -> bool
+pub(crate) fn raisable(entry: ErrorEntry) -> bool
     ensures { λ r. ⌜ r ≡ isRaisable entry ⌝ }
 {
     let entry_type = entry.entry_type;
@@ -61,7 +61,7 @@ pub fn raisable(entry: ErrorEntry) -> bool
 }
 
 // Puts an entry behind the waiting ones.
-pub fn push(state: &mut Reporter, entry: ErrorEntry)
+pub(crate) fn push(state: &mut Reporter, entry: ErrorEntry)
     requires { ⌜ waitingOf (now state) < 16 ⌝ }
     ensures { λ _. ⌜ (now (state .exit) ≡ raisedBytes entry (now (state .entry))) × (length (now (state .entry)) ≡ reporterLength) ⌝ }
 {
