@@ -1,4 +1,5 @@
 mod Collectors
+mod Journals
 mod Readers
 mod Reporters
 mod Writers

@@ -1,5 +1,6 @@
 pub mod Collecting
 pub mod Given
+pub mod Journal
 pub mod Reading
 pub mod Reporting
 pub mod Writing

@@ -29,6 +29,7 @@ use types::service::ServiceIdAnswer;
 use types::states::NmtState;
 use types::states::NmtStateAnswer;
 
+// SoC goes from the managing node to all, by its multicast address.
 #[no_mangle]
 pub extern "C" fn powerlink_new_soc(
     source_mac: &[u8; 6],
@@ -55,6 +56,7 @@ pub extern "C" fn powerlink_new_soc(
     written_or(answer, written)
 }
 
+// PReq goes from the managing node to one node, whose address the caller knows.
 #[no_mangle]
 pub extern "C" fn powerlink_new_preq(
     source_mac: &[u8; 6],
@@ -82,6 +84,7 @@ pub extern "C" fn powerlink_new_preq(
     written_or(answer, written)
 }
 
+// PRes goes from a node to all, by its multicast address: 1, then 5.
 #[no_mangle]
 pub extern "C" fn powerlink_new_pres(
     source_mac: &[u8; 6],
@@ -131,6 +134,7 @@ pub extern "C" fn powerlink_new_pres(
     }
 }
 
+// SoA goes from the managing node to all, by its multicast address: 1, then 5, then 7.
 #[no_mangle]
 pub extern "C" fn powerlink_new_soa(
     source_mac: &[u8; 6],
@@ -173,6 +177,7 @@ pub extern "C" fn powerlink_new_soa(
     }
 }
 
+// ASnd goes from any node to any, so that both addresses and both IDs are the caller's: 1, then 6.
 #[no_mangle]
 pub extern "C" fn powerlink_new_asnd(
     source_mac: &[u8; 6],

@@ -52,6 +52,7 @@ pub extern "C" fn powerlink_deserialize_status(
     }
 }
 
+// Reads the static error bit field (EPSG DS 301, 6.5.8.1) by itself.
 #[no_mangle]
 pub extern "C" fn powerlink_deserialize_error_field(buffer: &[u8], field: &mut [u8; 8]) -> u8
     ensures { λ r. ⌜ FieldRead (now (buffer .entry)) r (now (field .entry)) (now (field .exit)) ⌝ }
@@ -102,6 +103,7 @@ pub extern "C" fn powerlink_entry_step(
     0
 }
 
+// Writes one entry (EPSG DS 301, Table 94), a terminator too: the mode is in two bits, so that any number has one.
 #[no_mangle]
 pub extern "C" fn powerlink_serialize_entry(
     status_entry: bool,
@@ -135,6 +137,7 @@ pub extern "C" fn powerlink_serialize_entry(
     written_or(answer, written)
 }
 
+// Writes the static error bit field by itself.
 #[no_mangle]
 pub extern "C" fn powerlink_serialize_error_field(
     field: &[u8; 8],

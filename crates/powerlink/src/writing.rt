@@ -30,6 +30,7 @@ use types::service::ServiceIdAnswer;
 use types::states::NmtState;
 use types::states::NmtStateAnswer;
 
+// Start of Cycle (EPSG DS 301, 4.6.1.1.2).
 #[no_mangle]
 pub extern "C" fn powerlink_serialize_soc(
     destination: u8,
@@ -58,6 +59,7 @@ pub extern "C" fn powerlink_serialize_soc(
     written_or(answer, written)
 }
 
+// Poll Request (4.6.1.1.3). The payload size is the caller's, as powerlink-rs has it: a frame of any size can be made.
 #[no_mangle]
 pub extern "C" fn powerlink_serialize_preq(
     destination: u8,
@@ -84,6 +86,7 @@ pub extern "C" fn powerlink_serialize_preq(
     written_or(answer, written)
 }
 
+// Poll Response (4.6.1.1.4): 1, then 5.
 #[no_mangle]
 pub extern "C" fn powerlink_serialize_pres(
     destination: u8,
@@ -134,6 +137,7 @@ pub extern "C" fn powerlink_serialize_pres(
     }
 }
 
+// Start of Asynchronous (4.6.1.1.5): 1, then 5, then 7.
 #[no_mangle]
 pub extern "C" fn powerlink_serialize_soa(
     destination: u8,
@@ -178,6 +182,7 @@ pub extern "C" fn powerlink_serialize_soa(
     }
 }
 
+// Asynchronous Send (4.6.1.1.6): 1, then 6.
 #[no_mangle]
 pub extern "C" fn powerlink_serialize_asnd(
     destination: u8,

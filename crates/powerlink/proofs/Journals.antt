@@ -1,0 +1,32 @@
+-- What a caller who writes a record of the journal is told, from what the writer promises.
+-- Assumes nothing.
+use Prim.Native.Nat.{ℕ, _≤_, _<_}
+use mathlib.Core.Path.{_≡_, ap, _∙_}
+use mathlib.Core.List.{List}
+use lib.ListN.{length}
+use borrow.Author.Tests.{le-leb, lt-leb}
+use Rattle.types.specs.declared.error_mode.ErrorEntryMode.{ErrorEntryMode}
+use Rattle.types.specs.declared.error_mode.ErrorEntryModeAnswer.{ErrorEntryModeAnswer}
+use Rattle.types.specs.declared.error_mode.ErrorEntryModeAnswer.the-variants as mode
+use Rattle.error_entry.specs.declared.ErrorEntry.{ErrorEntry}
+use Rattle.journal_records.specs.Record.{recordBytes, journalCause, journalHolds, WritesRecord}
+use Rattle.journal_records.specs.declared.JournalAnswer.{JournalAnswer}
+use Rattle.powerlink.specs.Given.{node}
+use Rattle.powerlink.specs.Journal.{recordLength, RecordsBy}
+
+module _ (i : ℕ) (e : ErrorEntryMode → ErrorEntry) (m : ErrorEntryModeAnswer) (t : List ℕ) (n : ℕ) where
+  -- a mode that is none
+  pub records-short : (b : ℕ) → m ≡ mode.Unknown b → length t < 21 → RecordsBy i e m 1 t t n n
+  records-short b q h = let l = lt-leb 21 (length t) h in record { cause = rw (q, l); target = rw q; written = rw (q, l) }
+
+  pub records-none : (b : ℕ) → m ≡ mode.Unknown b → 21 ≤ length t → RecordsBy i e m 19 t t n n
+  records-none b q h = let l = le-leb 21 (length t) h in record { cause = rw (q, l); target = rw q; written = rw (q, l) }
+
+  pub records-told : (k : ErrorEntryMode) (a : JournalAnswer) (r : ℕ) (t′ : List ℕ) (n′ : ℕ) → m ≡ mode.Known k
+      → WritesRecord (node i) (e k) a t t′ → r ≡ journalCause a .number → n′ ≡ recordLength a n → RecordsBy i e m r t t′ n n′
+  records-told k a r t′ n′ q w er en =
+      record {
+        cause = er ∙ ap (λ (x : JournalAnswer). journalCause x .number) (w .answer) ∙ rw q;
+        target = w .holds ∙ ap (λ (x : JournalAnswer). journalHolds x (recordBytes i (e k)) t) (w .answer) ∙ rw q;
+        written = en ∙ ap (λ (x : JournalAnswer). recordLength x n) (w .answer) ∙ rw q;
+      }

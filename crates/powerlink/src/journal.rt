@@ -1,0 +1,63 @@
+// The journal of booked entries (01, "Journal").
+ghost use Rattle.powerlink.specs.Given.{time};
+ghost use Rattle.powerlink.specs.Journal.{JournalRecords};
+use error_entry::EntryType;
+use error_entry::ErrorEntry;
+use journal_records::JournalAnswer;
+use journal_records::RECORD_LEN;
+use journal_records::write;
+use types::NodeId;
+use types::common::NetTime;
+use types::error_mode::ErrorEntryMode;
+use types::error_mode::ErrorEntryModeAnswer;
+
+// Writes one record; mark and version are the caller's. A mode that is none is no record's: cause 19, after 1.
+#[no_mangle]
+pub extern "C" fn powerlink_journal_record(
+    id: u8,
+    status_entry: bool,
+    send_to_queue: bool,
+    mode: u8,
+    profile: u16,
+    code: u16,
+    seconds: u32,
+    nanoseconds: u32,
+    information: u64,
+    target: &mut [u8],
+    written: &mut usize,
+) -> u8
+    ensures { λ r. ⌜ JournalRecords id «status_entry» «send_to_queue» mode profile code (time seconds nanoseconds) information r (now (target .entry)) (now (target .exit)) (now (written .entry)) (now (written .exit)) ⌝ }
+{
+    match ErrorEntryMode::from_u8(mode) {
+        ErrorEntryModeAnswer::Unknown(_) => {
+            if target.len() < RECORD_LEN {
+                return 1;
+            }
+            19
+        }
+        ErrorEntryModeAnswer::Known(mode) => {
+            let entry = ErrorEntry {
+                entry_type: EntryType {
+                    is_status_entry: status_entry,
+                    send_to_queue,
+                    mode,
+                    profile,
+                },
+                error_code: code,
+                timestamp: NetTime {
+                    seconds,
+                    nanoseconds,
+                },
+                additional_information: information,
+            };
+            match write(NodeId(id), entry, target) {
+                JournalAnswer::Written(n) => {
+                    *written = n;
+                    0
+                }
+                JournalAnswer::BufferTooShort => 1,
+                JournalAnswer::RecordInvalid => 19,
+            }
+        }
+    }
+}
