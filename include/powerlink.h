@@ -1,16 +1,24 @@
-/* POWERLINK frames and error signaling (EPSG DS 301), proved: the functions of the archive libpowerlink.a.
+/* POWERLINK frames, error signaling (EPSG DS 301) and the journal of errors: the functions of the archive libpowerlink.a,
+ * each proved to answer as its definitions say. The archive is for x86-64 (ELF, System V calling convention) and calls
+ * nothing but `memset`.
  *
- * Every function answers with the number of a cause, or 0 (POWERLINK_DONE). Where the number is not 0, nothing that the
- * caller lent has changed, but for `octet`: with causes 4 to 7 it holds the octet that names nothing. Otherwise `octet`
- * stays as it was too. Writers test in the order: not registered (11), too short (1), then codes (4 to 7). Readers say their
- * order.
+ * Answers. Every function answers with the number of a cause, or 0 (POWERLINK_DONE). Its comment names the causes that it
+ * has, in the order in which they are tested: where several apply, the first one is the answer.
  *
- * No function allocates, keeps a pointer, calls back, or has a state of its own: a state is octets that the caller lends,
- * and any octets are one. No input is undefined, but for what C itself asks of the caller:
+ * Refusals. Where the answer is not 0, nothing that the caller lent has changed: no target, state, value or length. One
+ * exception: `octet`, where there is one, receives with causes 4 to 7 the octet that names nothing, and stays as it was
+ * with every other answer, 0 among them.
+ *
+ * Memory. No function allocates, keeps a pointer, calls back, or has a state of its own: a state is octets that the caller
+ * lends, and any octets are one. No input is undefined, but for what C itself asks of the caller:
  *  - no pointer is null, also where its length is 0;
- *  - a pointer with a length points to that many octets, and any other to as many elements as its comment says, or to one;
- *  - two buffers of which one is written do not overlap (`restrict`), and nobody else uses them during the call.
- * The archive calls nothing but `memset`. */
+ *  - a pointer followed by a length, `buffer` and `buffer_len`, points to that many octets; an array parameter to as many
+ *    elements as its declaration says; any other pointer to one object;
+ *  - two buffers of which one is written do not overlap (`restrict`): neither target, state, values nor out-parameters with
+ *    one another, nor any of them with what is read. Two that are only read may;
+ *  - nobody else writes to any of them during the call, or reads what is written.
+ *
+ * tests/header.py holds this file to the sources. */
 #ifndef POWERLINK_H
 #define POWERLINK_H
 
@@ -18,32 +26,61 @@
 #include <stddef.h>
 #include <stdint.h>
 
+/* C++ has neither `restrict` nor the smallest length of an array parameter; what they say holds there too. */
 #ifdef __cplusplus
 #define POWERLINK_RESTRICT
+#define POWERLINK_ARRAY(n) n
 extern "C" {
 #else
 #define POWERLINK_RESTRICT restrict
+#define POWERLINK_ARRAY(n) restrict static n
 #endif
 
-/* The octets of a reporter's and of a collector's state. */
+/* ---- Lengths in octets */
+
+/* The states of a reporter and of a collector. */
 #define POWERLINK_REPORTER_LEN 408
 #define POWERLINK_COLLECTOR_LEN 5184
 
-/* What arrays of values hold: powerlink_deserialize_frame, _pl_header, _status, and the three that give an entry. */
+/* An Ethernet address, an Ethernet header, an error field, and an entry. */
+#define POWERLINK_MAC_LEN 6
+#define POWERLINK_ETH_LEN 14
+#define POWERLINK_FIELD_LEN 8
+#define POWERLINK_ENTRY_LEN 20
+
+/* The longest answer of a reporter, and a collector's request. */
+#define POWERLINK_ANSWER_MAX 132
+#define POWERLINK_REQUEST_LEN 60
+
+/* What a journal begins with, and a record of it. */
+#define POWERLINK_JOURNAL_START_LEN 5
+#define POWERLINK_RECORD_LEN 21
+
+/* ---- Lengths in numbers: the values of a frame, of what every section begins with, of a StatusResponse's front, and of an
+ * entry */
 #define POWERLINK_FRAME_VALUES 16
 #define POWERLINK_PL_VALUES 3
 #define POWERLINK_STATUS_VALUES 5
 #define POWERLINK_ENTRY_VALUES 8
 
-/* An Ethernet address and an error field. */
-#define POWERLINK_MAC_LEN 6
-#define POWERLINK_FIELD_LEN 8
+/* ---- Addresses. The arrays are initializers: uint8_t soc[POWERLINK_MAC_LEN] = POWERLINK_MULTICAST_SOC; */
 
-/* The longest answer of a reporter, and the length of a collector's request. */
-#define POWERLINK_ANSWER_MAX 132
-#define POWERLINK_REQUEST_LEN 60
+#define POWERLINK_ETHER_TYPE 0x88AB
 
-/* Causes. */
+#define POWERLINK_MULTICAST_SOC {0x01, 0x11, 0x1E, 0x00, 0x00, 0x01}
+#define POWERLINK_MULTICAST_PRES {0x01, 0x11, 0x1E, 0x00, 0x00, 0x02}
+#define POWERLINK_MULTICAST_SOA {0x01, 0x11, 0x1E, 0x00, 0x00, 0x03}
+#define POWERLINK_MULTICAST_ASND {0x01, 0x11, 0x1E, 0x00, 0x00, 0x04}
+
+/* Node IDs: the largest of a controlled node, whose smallest is 1; the managing node; all nodes. */
+#define POWERLINK_MAX_CN_NODE 239
+#define POWERLINK_MN_NODE 240
+#define POWERLINK_BROADCAST_NODE 255
+
+/* What a journal begins with, an initializer too: `PLB`, then version 1, low octet first. Records follow. */
+#define POWERLINK_JOURNAL_START {0x50, 0x4C, 0x42, 0x01, 0x00}
+
+/* ---- Causes */
 enum {
     POWERLINK_DONE = 0,
     POWERLINK_TOO_SHORT = 1,               /* input or target shorter than needed */
@@ -61,8 +98,11 @@ enum {
     POWERLINK_ID_OUT_OF_RANGE = 13,        /* a controlled node's ID is 1 to 239 */
     POWERLINK_ID_REGISTERED = 14,
     POWERLINK_FOUR_REGISTERED = 15,
-    POWERLINK_NOTHING_BOOKED = 16
+    POWERLINK_NOTHING_BOOKED = 16,
+    POWERLINK_RECORD_INVALID = 19          /* a record has mode 0 or above 3, or an ID that is not 1 to 239 */
 };
+
+/* ---- Codes */
 
 /* Message types. */
 enum {
@@ -89,6 +129,43 @@ enum {
     POWERLINK_BASIC_ETHERNET = 0x1E
 };
 
+/* The services of an ASnd. */
+enum {
+    POWERLINK_IDENT_RESPONSE = 0x01,
+    POWERLINK_STATUS_RESPONSE = 0x02,
+    POWERLINK_NMT_REQUEST = 0x03,
+    POWERLINK_NMT_COMMAND = 0x04,
+    POWERLINK_SDO = 0x05,
+    POWERLINK_NMT_PUBLISH_TIME = 0x0B,
+    POWERLINK_NMT_PUBLISH_NMT_STATE = 0x0D,
+    POWERLINK_NMT_PUBLISH_NODE_STATE = 0x0E,
+    POWERLINK_NMT_PUBLISH_NODE_LIST = 0x0F,
+    POWERLINK_NMT_PUBLISH_EMERG_NEW = 0x10,
+    POWERLINK_NMT_PUBLISH_HEARTBEAT = 0x11,
+    POWERLINK_NMT_PUBLISH_ACTIVE_NODES = 0x12
+};
+
+/* The services that an SoA requests. */
+enum {
+    POWERLINK_NO_SERVICE = 0x00,
+    POWERLINK_IDENT_REQUEST = 0x01,
+    POWERLINK_STATUS_REQUEST = 0x02,
+    POWERLINK_NMT_REQUEST_INVITE = 0x03,
+    POWERLINK_UNSPECIFIED_INVITE = 0xFF
+};
+
+/* Priorities, pr. */
+enum {
+    POWERLINK_PRIO_LOW_1 = 0,
+    POWERLINK_PRIO_LOW_2 = 1,
+    POWERLINK_PRIO_LOW_3 = 2,
+    POWERLINK_PRIO_GENERIC_REQUEST = 3,
+    POWERLINK_PRIO_HIGH_1 = 4,
+    POWERLINK_PRIO_HIGH_2 = 5,
+    POWERLINK_PRIO_HIGH_3 = 6,
+    POWERLINK_PRIO_NMT_REQUEST = 7
+};
+
 /* The modes of an entry. */
 enum {
     POWERLINK_TERMINATOR = 0,
@@ -97,7 +174,9 @@ enum {
     POWERLINK_EVENT_OCCURRED = 3
 };
 
-/* Where the values of a frame stand. Flags are 0 or 1, states and services their codes; those not named are 0. */
+/* ---- Where values stand */
+
+/* The values of a frame. Flags are 0 or 1, states and services their codes; those not named are 0. */
 enum {
     POWERLINK_MESSAGE_TYPE = 0,
     POWERLINK_DESTINATION = 1,
@@ -136,7 +215,14 @@ enum {
     POWERLINK_ASND_SERVICE = 5
 };
 
-/* Where the values of a StatusResponse's front stand. */
+/* The values of what every section begins with. */
+enum {
+    POWERLINK_PL_MESSAGE_TYPE = 0,
+    POWERLINK_PL_DESTINATION = 1,
+    POWERLINK_PL_SOURCE = 2
+};
+
+/* The values of a StatusResponse's front. */
 enum {
     POWERLINK_STATUS_EN = 0,
     POWERLINK_STATUS_EC = 1,
@@ -145,7 +231,7 @@ enum {
     POWERLINK_STATUS_STATE = 4
 };
 
-/* Where the values of an entry stand. */
+/* The values of an entry. */
 enum {
     POWERLINK_ENTRY_STATUS_ENTRY = 0,
     POWERLINK_ENTRY_SEND_TO_QUEUE = 1,
@@ -157,80 +243,110 @@ enum {
     POWERLINK_ENTRY_INFORMATION = 7
 };
 
-/* The outcomes of powerlink_reporter_read and of powerlink_collector_read. */
+/* ---- Outcomes */
+
+/* Of powerlink_reporter_read. */
 enum {
     POWERLINK_IGNORED = 0, /* no EA for this node */
     POWERLINK_KEPT = 1,    /* EA was read, and closes nothing */
     POWERLINK_CLOSED = 2   /* the open batch is acknowledged */
 };
 
+/* Of powerlink_collector_read. */
 enum {
-    POWERLINK_KNOWN = 0, /* the batch was booked before */
-    POWERLINK_BOOKED = 1
+    POWERLINK_KNOWN = 0, /* EN equals EA: the batch was booked before, or none was sent */
+    POWERLINK_BOOKED = 1 /* the batch is in the book, and EA is changed */
 };
 
 /* ---- Reading */
 
-/* Reads a frame from its Ethernet header on. In this order: 1 (14 octets), 2, 3 (an empty section), 4, then the rules of the
- * kind: SoC 1; PReq 1, and 1 for the payload; PRes 1, 3, 5, and 1 for the payload; SoA 1, 5, 7; ASnd 1, 6. `values`: 16
- * numbers, see above. */
+/* Reads a frame, from its Ethernet header on. A payload lies in `buffer`, at values[POWERLINK_PAYLOAD_START], and has
+ * values[POWERLINK_PAYLOAD_LEN] octets; that of an ASnd whose section has exactly 46 octets has lost the zeros at its end,
+ * so that the payload of a StatusResponse is better taken from octet 18 to the frame's end.
+ * Tests: 1 (14 octets), 2, 3 (an empty section), 4, then those of the kind. SoC: 1 (22 octets of section). PReq: 1 (10), 1
+ * (the payload). PRes: 1 (10), 3, 5, 1 (the payload). SoA: 1 (9), 5, 7. ASnd: 1 (4), 6.
+ * Refused: nothing is written, but `octet` with 4 to 7. */
 uint8_t powerlink_deserialize_frame(
     const uint8_t *POWERLINK_RESTRICT buffer, size_t buffer_len,
-    uint64_t *POWERLINK_RESTRICT values, uint8_t *POWERLINK_RESTRICT octet);
+    uint64_t values[POWERLINK_ARRAY(POWERLINK_FRAME_VALUES)], uint8_t *POWERLINK_RESTRICT octet);
 
-/* Reads the 14 octets of an Ethernet header, whatever its EtherType. 1. `destination` and `source`: 6 octets each. */
+/* Reads the 14 octets of an Ethernet header, whatever its EtherType, into the two addresses and `ether_type`.
+ * Tests: 1. Refused: nothing is written. */
 uint8_t powerlink_deserialize_eth_header(
     const uint8_t *POWERLINK_RESTRICT buffer, size_t buffer_len,
-    uint8_t *POWERLINK_RESTRICT destination, uint8_t *POWERLINK_RESTRICT source,
+    uint8_t destination[POWERLINK_ARRAY(POWERLINK_MAC_LEN)], uint8_t source[POWERLINK_ARRAY(POWERLINK_MAC_LEN)],
     uint16_t *POWERLINK_RESTRICT ether_type);
 
-/* Reads the 3 octets that every section begins with. 1, 4. `values`: message type, destination, source. */
+/* Reads the 3 octets that every section begins with. The highest bit of the message type is left aside.
+ * Tests: 1, 4. Refused: nothing is written, but `octet` with 4. */
 uint8_t powerlink_deserialize_pl_header(
     const uint8_t *POWERLINK_RESTRICT buffer, size_t buffer_len,
-    uint64_t *POWERLINK_RESTRICT values, uint8_t *POWERLINK_RESTRICT octet);
+    uint64_t values[POWERLINK_ARRAY(POWERLINK_PL_VALUES)], uint8_t *POWERLINK_RESTRICT octet);
 
-/* Reads the 14 octets in front of the entries of a StatusResponse. 1, 5. `values`: 5 numbers; `field`: the 8 octets of the
- * error field. */
+/* Reads the 14 octets in front of the entries of a StatusResponse's payload: five values, and the 8 octets of the error
+ * field.
+ * Tests: 1, 5. Refused: nothing is written, but `octet` with 5. */
 uint8_t powerlink_deserialize_status(
     const uint8_t *POWERLINK_RESTRICT payload, size_t payload_len,
-    uint64_t *POWERLINK_RESTRICT values, uint8_t *POWERLINK_RESTRICT field,
+    uint64_t values[POWERLINK_ARRAY(POWERLINK_STATUS_VALUES)], uint8_t field[POWERLINK_ARRAY(POWERLINK_FIELD_LEN)],
     uint8_t *POWERLINK_RESTRICT octet);
 
-/* Reads the 8 octets of an error field. 1. */
+/* Reads the 8 octets of an error field.
+ * Tests: 1. Refused: nothing is written. */
 uint8_t powerlink_deserialize_error_field(
     const uint8_t *POWERLINK_RESTRICT buffer, size_t buffer_len,
-    uint8_t *POWERLINK_RESTRICT field);
+    uint8_t field[POWERLINK_ARRAY(POWERLINK_FIELD_LEN)]);
 
-/* Reads the 20 octets of an entry. 1. `values`: 8 numbers. */
+/* Reads the 20 octets of an entry, a terminator (mode 0) too.
+ * Tests: 1. Refused: nothing is written. */
 uint8_t powerlink_deserialize_entry(
     const uint8_t *POWERLINK_RESTRICT buffer, size_t buffer_len,
-    uint64_t *POWERLINK_RESTRICT values);
+    uint64_t values[POWERLINK_ARRAY(POWERLINK_ENTRY_VALUES)]);
 
-/* Finds the entry of a StatusResponse's payload at `offset`, the first being at 14. Always 0. Where there is one, `values`
- * receives it and `next` the offset after it; at the end of the list `values` stays as it was and `next` becomes 0. */
+/* Finds the entry of a StatusResponse's payload at `offset`, the first being at 14. Where there is one, `values` receives it
+ * and `next` the offset after it. At the end of the list, which is a terminator or under 20 octets, `values` stays as it was
+ * and `next` becomes 0.
+ * Refuses nothing: the answer is always 0. */
 uint8_t powerlink_entry_step(
     const uint8_t *POWERLINK_RESTRICT payload, size_t payload_len, size_t offset,
-    uint64_t *POWERLINK_RESTRICT values, size_t *POWERLINK_RESTRICT next);
+    uint64_t values[POWERLINK_ARRAY(POWERLINK_ENTRY_VALUES)], size_t *POWERLINK_RESTRICT next);
+
+/* ---- Writing
+ *
+ * `written` receives how many octets were written; those of the target behind them stay. `pr` counts modulo 8, and `rs`
+ * above 7 is 7. Cause 1 is tested before codes: with the length that is needed where every code names something. */
 
 /* ---- Writing sections: frames without their Ethernet header
  *
- * `written` receives how many octets were written; those of the target behind them stay. A section has at least 46 octets,
- * the last of them zeros. `pr` counts modulo 8, and `rs` above 7 is 7. */
+ * A section has at least 46 octets, the last of them zeros. A frame with any Ethernet header is its section behind that
+ * header. The section goes first, since it alone can be refused once there are 14 octets:
+ *
+ *     if (target_len < POWERLINK_ETH_LEN)
+ *         return POWERLINK_TOO_SHORT;
+ *     cause = powerlink_serialize_soc(.., target + POWERLINK_ETH_LEN, target_len - POWERLINK_ETH_LEN, &written);
+ *     if (cause == POWERLINK_DONE)
+ *         powerlink_serialize_eth_header(destination, source, ether_type, target, POWERLINK_ETH_LEN, &header);
+ *
+ * The frame then has header + written octets. */
 
-/* 1. */
+/* Writes the section of a SoC: 46 octets.
+ * Tests: 1. Refused: nothing is written. */
 uint8_t powerlink_serialize_soc(
     uint8_t destination, uint8_t source, bool mc, bool ps,
     uint32_t seconds, uint32_t nanoseconds, uint64_t relative_time,
     uint8_t *POWERLINK_RESTRICT target, size_t target_len, size_t *POWERLINK_RESTRICT written);
 
-/* 1. The payload size is written as given, equal to the payload's length or not. */
+/* Writes the section of a PReq: 10 octets and the payload, or 46. The payload size is written as given, equal to the
+ * payload's length or not.
+ * Tests: 1. Refused: nothing is written. */
 uint8_t powerlink_serialize_preq(
     uint8_t destination, uint8_t source, bool ms, bool ea, bool rd,
     uint8_t pdo_version, uint16_t payload_size,
     const uint8_t *POWERLINK_RESTRICT payload, size_t payload_len,
     uint8_t *POWERLINK_RESTRICT target, size_t target_len, size_t *POWERLINK_RESTRICT written);
 
-/* 1, 5. The payload size is written as given. */
+/* Writes the section of a PRes: 10 octets and the payload, or 46. Destination and payload size are written as given.
+ * Tests: 1, 5. Refused: nothing is written, but `octet` with 5. */
 uint8_t powerlink_serialize_pres(
     uint8_t destination, uint8_t source, uint8_t state, bool ms, bool en, bool rd,
     uint8_t pr, uint8_t rs, uint8_t pdo_version, uint16_t payload_size,
@@ -238,14 +354,16 @@ uint8_t powerlink_serialize_pres(
     uint8_t *POWERLINK_RESTRICT target, size_t target_len, size_t *POWERLINK_RESTRICT written,
     uint8_t *POWERLINK_RESTRICT octet);
 
-/* 1, 5, 7. */
+/* Writes the section of an SoA: 46 octets.
+ * Tests: 1, 5, 7. Refused: nothing is written, but `octet` with 5 and 7. */
 uint8_t powerlink_serialize_soa(
     uint8_t destination, uint8_t source, uint8_t state, bool ea, bool er,
     uint8_t requested_service, uint8_t target_node, uint8_t epl_version,
     uint8_t *POWERLINK_RESTRICT target, size_t target_len, size_t *POWERLINK_RESTRICT written,
     uint8_t *POWERLINK_RESTRICT octet);
 
-/* 1, 6. */
+/* Writes the section of an ASnd: 4 octets and the payload, or 46.
+ * Tests: 1, 6. Refused: nothing is written, but `octet` with 6. */
 uint8_t powerlink_serialize_asnd(
     uint8_t destination, uint8_t source, uint8_t service,
     const uint8_t *POWERLINK_RESTRICT payload, size_t payload_len,
@@ -254,133 +372,166 @@ uint8_t powerlink_serialize_asnd(
 
 /* ---- Writing parts */
 
-/* The 14 octets of an Ethernet header. 1. `destination` and `source`: 6 octets each. */
+/* Writes the 14 octets of an Ethernet header.
+ * Tests: 1. Refused: nothing is written. */
 uint8_t powerlink_serialize_eth_header(
-    const uint8_t *POWERLINK_RESTRICT destination, const uint8_t *POWERLINK_RESTRICT source,
-    uint16_t ether_type,
+    const uint8_t destination[POWERLINK_ARRAY(POWERLINK_MAC_LEN)],
+    const uint8_t source[POWERLINK_ARRAY(POWERLINK_MAC_LEN)], uint16_t ether_type,
     uint8_t *POWERLINK_RESTRICT target, size_t target_len, size_t *POWERLINK_RESTRICT written);
 
-/* The 3 octets that every section begins with. 1, 4. */
+/* Writes the 3 octets that every section begins with.
+ * Tests: 1, 4. Refused: nothing is written, but `octet` with 4. */
 uint8_t powerlink_serialize_pl_header(
     uint8_t message_type, uint8_t destination, uint8_t source,
     uint8_t *POWERLINK_RESTRICT target, size_t target_len, size_t *POWERLINK_RESTRICT written,
     uint8_t *POWERLINK_RESTRICT octet);
 
-/* The 20 octets of an entry. 1. The mode is in the two low bits of its number, and 12 bits of the profile are written. */
+/* Writes the 20 octets of an entry. The mode is in the two low bits of its number, and 12 bits of the profile are written.
+ * Tests: 1. Refused: nothing is written. */
 uint8_t powerlink_serialize_entry(
     bool status_entry, bool send_to_queue, uint8_t mode, uint16_t profile, uint16_t code,
     uint32_t seconds, uint32_t nanoseconds, uint64_t information,
     uint8_t *POWERLINK_RESTRICT target, size_t target_len, size_t *POWERLINK_RESTRICT written);
 
-/* The 8 octets of an error field. 1. */
+/* Writes the 8 octets of an error field.
+ * Tests: 1. Refused: nothing is written. */
 uint8_t powerlink_serialize_error_field(
-    const uint8_t *POWERLINK_RESTRICT field,
+    const uint8_t field[POWERLINK_ARRAY(POWERLINK_FIELD_LEN)],
     uint8_t *POWERLINK_RESTRICT target, size_t target_len, size_t *POWERLINK_RESTRICT written);
 
-/* The payload of a StatusResponse, with the 20 zeros that end its list. 1, 5. `field`: 8 octets. `entries`: the octets of
- * the entries, 20 each, as powerlink_serialize_entry writes them; a rest of under 20 octets is left aside. */
+/* Writes the payload of a StatusResponse: 14 octets, the entries, and the 20 zeros that end the list. `entries` are the
+ * octets of the entries, 20 each, as powerlink_serialize_entry writes them; a rest of under 20 octets is left aside.
+ * Tests: 1, 5. Refused: nothing is written, but `octet` with 5. */
 uint8_t powerlink_serialize_status(
     bool en, bool ec, uint8_t pr, uint8_t rs, uint8_t state,
-    const uint8_t *POWERLINK_RESTRICT field,
+    const uint8_t field[POWERLINK_ARRAY(POWERLINK_FIELD_LEN)],
     const uint8_t *POWERLINK_RESTRICT entries, size_t entries_len,
     uint8_t *POWERLINK_RESTRICT target, size_t target_len, size_t *POWERLINK_RESTRICT written,
     uint8_t *POWERLINK_RESTRICT octet);
 
 /* ---- Writing whole frames
  *
- * With the Ethernet header in front, at least 60 octets. Addresses are 6 octets each; where none is taken, it is the kind's
- * multicast address. SoC, PReq and SoA are from node 240, SoC, PRes and SoA to node 255. The payload size of PReq and PRes is
- * the payload's length modulo 65,536. */
+ * With the Ethernet header in front, at least 60 octets. Where no destination address is taken, it is the kind's multicast
+ * address. The payload size of PReq and PRes is the payload's length modulo 65,536. */
 
-/* 1. */
+/* Writes a SoC, 60 octets: from node 240 to node 255 and POWERLINK_MULTICAST_SOC.
+ * Tests: 1. Refused: nothing is written. */
 uint8_t powerlink_new_soc(
-    const uint8_t *POWERLINK_RESTRICT source_mac, bool mc, bool ps,
+    const uint8_t source_mac[POWERLINK_ARRAY(POWERLINK_MAC_LEN)], bool mc, bool ps,
     uint32_t seconds, uint32_t nanoseconds, uint64_t relative_time,
     uint8_t *POWERLINK_RESTRICT target, size_t target_len, size_t *POWERLINK_RESTRICT written);
 
-/* 1. */
+/* Writes a PReq, 24 octets and the payload, or 60: from node 240 to `target_node`.
+ * Tests: 1. Refused: nothing is written. */
 uint8_t powerlink_new_preq(
-    const uint8_t *POWERLINK_RESTRICT source_mac, const uint8_t *POWERLINK_RESTRICT dest_mac,
+    const uint8_t source_mac[POWERLINK_ARRAY(POWERLINK_MAC_LEN)],
+    const uint8_t dest_mac[POWERLINK_ARRAY(POWERLINK_MAC_LEN)],
     uint8_t target_node, bool ms, bool ea, bool rd, uint8_t pdo_version,
     const uint8_t *POWERLINK_RESTRICT payload, size_t payload_len,
     uint8_t *POWERLINK_RESTRICT target, size_t target_len, size_t *POWERLINK_RESTRICT written);
 
-/* 1, 5. */
+/* Writes a PRes, 24 octets and the payload, or 60: from `source` to node 255 and POWERLINK_MULTICAST_PRES.
+ * Tests: 1, 5. Refused: nothing is written, but `octet` with 5. */
 uint8_t powerlink_new_pres(
-    const uint8_t *POWERLINK_RESTRICT source_mac, uint8_t source, uint8_t state,
+    const uint8_t source_mac[POWERLINK_ARRAY(POWERLINK_MAC_LEN)], uint8_t source, uint8_t state,
     bool ms, bool en, bool rd, uint8_t pr, uint8_t rs, uint8_t pdo_version,
     const uint8_t *POWERLINK_RESTRICT payload, size_t payload_len,
     uint8_t *POWERLINK_RESTRICT target, size_t target_len, size_t *POWERLINK_RESTRICT written,
     uint8_t *POWERLINK_RESTRICT octet);
 
-/* 1, 5, 7. */
+/* Writes an SoA, 60 octets: from node 240 to node 255 and POWERLINK_MULTICAST_SOA; `target_node` is who may send.
+ * Tests: 1, 5, 7. Refused: nothing is written, but `octet` with 5 and 7. */
 uint8_t powerlink_new_soa(
-    const uint8_t *POWERLINK_RESTRICT source_mac, uint8_t state, bool ea, bool er,
+    const uint8_t source_mac[POWERLINK_ARRAY(POWERLINK_MAC_LEN)], uint8_t state, bool ea, bool er,
     uint8_t requested_service, uint8_t target_node, uint8_t epl_version,
     uint8_t *POWERLINK_RESTRICT target, size_t target_len, size_t *POWERLINK_RESTRICT written,
     uint8_t *POWERLINK_RESTRICT octet);
 
-/* 1, 6. */
+/* Writes an ASnd, 18 octets and the payload, or 60: from `source` to `target_node`.
+ * Tests: 1, 6. Refused: nothing is written, but `octet` with 6. */
 uint8_t powerlink_new_asnd(
-    const uint8_t *POWERLINK_RESTRICT source_mac, const uint8_t *POWERLINK_RESTRICT dest_mac,
+    const uint8_t source_mac[POWERLINK_ARRAY(POWERLINK_MAC_LEN)],
+    const uint8_t dest_mac[POWERLINK_ARRAY(POWERLINK_MAC_LEN)],
     uint8_t target_node, uint8_t source, uint8_t service,
     const uint8_t *POWERLINK_RESTRICT payload, size_t payload_len,
     uint8_t *POWERLINK_RESTRICT target, size_t target_len, size_t *POWERLINK_RESTRICT written,
     uint8_t *POWERLINK_RESTRICT octet);
 
-/* ---- A controlled node that reports errors: `state` is POWERLINK_REPORTER_LEN octets */
+/* ---- A controlled node that reports errors */
 
-/* Makes a fresh state for node `id`. 13. */
-uint8_t powerlink_reporter_new(uint8_t *POWERLINK_RESTRICT state, uint8_t id);
+/* Makes a fresh state for node `id`.
+ * Tests: 13. Refused: nothing is written. */
+uint8_t powerlink_reporter_new(uint8_t state[POWERLINK_ARRAY(POWERLINK_REPORTER_LEN)], uint8_t id);
 
-/* An entry joins the waiting ones, last. 8, 9. */
+/* An entry joins the waiting ones, last.
+ * Tests: 8, 9. Refused: nothing is written. */
 uint8_t powerlink_reporter_raise(
-    uint8_t *POWERLINK_RESTRICT state,
+    uint8_t state[POWERLINK_ARRAY(POWERLINK_REPORTER_LEN)],
     bool status_entry, bool send_to_queue, uint8_t mode, uint16_t profile, uint16_t code,
     uint32_t seconds, uint32_t nanoseconds, uint64_t information);
 
-/* Writes a StatusResponse with the open batch. Where none is open and entries wait, the first four, or all if fewer,
- * become it. 60 octets without entries, else 52 and 20 for each. 1, 5. `field`: 8 octets. */
+/* Writes a StatusResponse, a whole frame, with the open batch. Where none is open and entries wait, the first four, or all
+ * if fewer, become it. 60 octets without entries, else 52 and 20 for each.
+ * Tests: 1, 5. Refused: nothing is written and no batch opened, but `octet` with 5. */
 uint8_t powerlink_reporter_answer(
-    uint8_t *POWERLINK_RESTRICT state,
-    const uint8_t *POWERLINK_RESTRICT source_mac, const uint8_t *POWERLINK_RESTRICT dest_mac,
-    bool ec, uint8_t pr, uint8_t rs, uint8_t nmt_state, const uint8_t *POWERLINK_RESTRICT field,
+    uint8_t state[POWERLINK_ARRAY(POWERLINK_REPORTER_LEN)],
+    const uint8_t source_mac[POWERLINK_ARRAY(POWERLINK_MAC_LEN)],
+    const uint8_t dest_mac[POWERLINK_ARRAY(POWERLINK_MAC_LEN)],
+    bool ec, uint8_t pr, uint8_t rs, uint8_t nmt_state, const uint8_t field[POWERLINK_ARRAY(POWERLINK_FIELD_LEN)],
     uint8_t *POWERLINK_RESTRICT target, size_t target_len, size_t *POWERLINK_RESTRICT written,
     uint8_t *POWERLINK_RESTRICT octet);
 
 /* Reads a frame: from the managing node, a PReq to this node or an SoA with it as target may acknowledge the open batch.
- * The causes of powerlink_deserialize_frame. `outcome`: POWERLINK_IGNORED, _KEPT or _CLOSED. */
+ * `outcome`: POWERLINK_IGNORED, _KEPT or _CLOSED.
+ * Tests: those of powerlink_deserialize_frame. Refused: nothing is written, but `octet` with 4 to 7. */
 uint8_t powerlink_reporter_read(
-    uint8_t *POWERLINK_RESTRICT state,
+    uint8_t state[POWERLINK_ARRAY(POWERLINK_REPORTER_LEN)],
     const uint8_t *POWERLINK_RESTRICT buffer, size_t buffer_len,
     uint8_t *POWERLINK_RESTRICT outcome, uint8_t *POWERLINK_RESTRICT octet);
 
-/* ---- A managing node that collects errors: `state` is POWERLINK_COLLECTOR_LEN octets */
+/* ---- A managing node that collects errors */
 
-/* Makes a fresh state: no node is registered. Always 0. */
-uint8_t powerlink_collector_new(uint8_t *POWERLINK_RESTRICT state);
+/* Makes a fresh state: no node is registered. All zeros are one, too.
+ * Refuses nothing: the answer is always 0. */
+uint8_t powerlink_collector_new(uint8_t state[POWERLINK_ARRAY(POWERLINK_COLLECTOR_LEN)]);
 
-/* Gives node `id` one of four places. 13, 14, 15. */
-uint8_t powerlink_collector_register(uint8_t *POWERLINK_RESTRICT state, uint8_t id);
+/* Gives node `id` one of four places, with EA 0 and an empty book.
+ * Tests: 13, 14, 15. Refused: nothing is written. */
+uint8_t powerlink_collector_register(uint8_t state[POWERLINK_ARRAY(POWERLINK_COLLECTOR_LEN)], uint8_t id);
 
 /* Reads a frame: the batch of a registered node's StatusResponse goes into its book of 64 entries, whole, unless it is there
- * already. The causes of powerlink_deserialize_frame, 10, 11, then 1 and 5 of the StatusResponse, 12. `outcome`:
- * POWERLINK_KNOWN or _BOOKED. */
+ * already. `outcome`: POWERLINK_KNOWN or _BOOKED.
+ * Tests: those of powerlink_deserialize_frame, 10, 11, 1 and 5 of the StatusResponse, then 12, where the batch is not known.
+ * Refused: nothing is written, but `octet` with 4 to 7. */
 uint8_t powerlink_collector_read(
-    uint8_t *POWERLINK_RESTRICT state,
+    uint8_t state[POWERLINK_ARRAY(POWERLINK_COLLECTOR_LEN)],
     const uint8_t *POWERLINK_RESTRICT buffer, size_t buffer_len,
     uint8_t *POWERLINK_RESTRICT outcome, uint8_t *POWERLINK_RESTRICT octet);
 
-/* Writes the SoA that asks node `id` for its StatusResponse and acknowledges what is booked. 11, 1, 5. */
+/* Writes the SoA, 60 octets, that asks node `id` for its StatusResponse and acknowledges what is booked. `nmt_state` is
+ * that of the managing node.
+ * Tests: 11, 1, 5. Refused: nothing is written, but `octet` with 5. */
 uint8_t powerlink_collector_request(
-    const uint8_t *POWERLINK_RESTRICT state, uint8_t id,
-    const uint8_t *POWERLINK_RESTRICT source_mac, uint8_t nmt_state, uint8_t epl_version,
+    const uint8_t state[POWERLINK_ARRAY(POWERLINK_COLLECTOR_LEN)], uint8_t id,
+    const uint8_t source_mac[POWERLINK_ARRAY(POWERLINK_MAC_LEN)], uint8_t nmt_state, uint8_t epl_version,
     uint8_t *POWERLINK_RESTRICT target, size_t target_len, size_t *POWERLINK_RESTRICT written,
     uint8_t *POWERLINK_RESTRICT octet);
 
-/* Hands out the oldest entry of a node's book, whose place is used again. 11, 16. `values`: 8 numbers. */
+/* Hands out the oldest entry of a node's book, whose place is used again.
+ * Tests: 11, 16. Refused: nothing is written. */
 uint8_t powerlink_collector_take(
-    uint8_t *POWERLINK_RESTRICT state, uint8_t id, uint64_t *POWERLINK_RESTRICT values);
+    uint8_t state[POWERLINK_ARRAY(POWERLINK_COLLECTOR_LEN)], uint8_t id,
+    uint64_t values[POWERLINK_ARRAY(POWERLINK_ENTRY_VALUES)]);
+
+/* ---- The journal, which the program `journal` lists */
+
+/* Writes a record: `id` and the 20 octets of the entry, of whose profile 12 bits are written. The journal begins with
+ * POWERLINK_JOURNAL_START, which the caller writes.
+ * Tests: 1, 19. Refused: nothing is written. */
+uint8_t powerlink_journal_record(
+    uint8_t id, bool status_entry, bool send_to_queue, uint8_t mode, uint16_t profile, uint16_t code,
+    uint32_t seconds, uint32_t nanoseconds, uint64_t information,
+    uint8_t *POWERLINK_RESTRICT target, size_t target_len, size_t *POWERLINK_RESTRICT written);
 
 #ifdef __cplusplus
 }

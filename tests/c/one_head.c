@@ -1,12 +1,9 @@
 /* One head against one box, over a line that loses an answer and repeats a request: every answer of the library is
  * checked, and the story told. The exit status is 1 if anything is not as EPSG DS 301, 6.5, has it. */
 #include "powerlink.h"
+#include "want.h"
 
-#include <stdio.h>
-#include <stdlib.h>
-#include <string.h>
-
-enum { HEAD = 7, MN = 240, ALL = 255, STATUS_RESPONSE = 2, STATUS_REQUEST = 2 };
+enum { HEAD = 7, MN = POWERLINK_MN_NODE, ALL = POWERLINK_BROADCAST_NODE };
 
 static const uint8_t head_mac[POWERLINK_MAC_LEN] = {0x02, 0, 0, 0, 0, HEAD};
 static const uint8_t box_mac[POWERLINK_MAC_LEN] = {0x02, 0, 0, 0, 0, MN};
@@ -22,20 +19,6 @@ static uint8_t request[POWERLINK_REQUEST_LEN];
 static size_t request_len;
 
 static uint8_t octet = 0xEE;
-
-/* Holds a number to what it should be. */
-static void want(const char *what, uint64_t is, uint64_t should)
-{
-    if (is != should) {
-        printf("surprise: %s is %llu, not %llu\n", what, (unsigned long long)is, (unsigned long long)should);
-        exit(1);
-    }
-}
-
-static void want_octets(const char *what, const uint8_t *is, const uint8_t *should, size_t len)
-{
-    want(what, memcmp(is, should, len) != 0, 0);
-}
 
 /* Raises the entry with this code; its other fields follow from it. */
 static uint8_t raise(uint16_t code)
@@ -76,7 +59,7 @@ static void head_answers(unsigned entries, uint16_t first, unsigned en)
     want("message type", frame[POWERLINK_MESSAGE_TYPE], POWERLINK_ASND);
     want("destination", frame[POWERLINK_DESTINATION], ALL);
     want("source", frame[POWERLINK_SOURCE], HEAD);
-    want("service", frame[POWERLINK_ASND_SERVICE], STATUS_RESPONSE);
+    want("service", frame[POWERLINK_ASND_SERVICE], POWERLINK_STATUS_RESPONSE);
     want("the payload's start", frame[POWERLINK_PAYLOAD_START], 18);
 
     /* From there to the frame's end, as the box reads it: an answer without entries ends in zeros. */
@@ -121,7 +104,7 @@ static void box_requests(unsigned ea)
     want("source", frame[POWERLINK_SOURCE], MN);
     want("EA", frame[POWERLINK_SOA_EA], ea);
     want("ER", frame[POWERLINK_SOA_ER], 0);
-    want("requested service", frame[POWERLINK_SOA_REQUESTED_SERVICE], STATUS_REQUEST);
+    want("requested service", frame[POWERLINK_SOA_REQUESTED_SERVICE], POWERLINK_STATUS_REQUEST);
     want("target", frame[POWERLINK_SOA_TARGET], HEAD);
     want("EPL version", frame[POWERLINK_SOA_EPL_VERSION], 0x20);
     printf("box requests: EA %u\n", ea);

@@ -1,0 +1,303 @@
+"""include/powerlink.h says what the sources say. Run this at the repository's root.
+
+- Every exported function of crates/powerlink/src is declared, with the same parameters in the same order, and no other:
+  a lent slice is a pointer and a length, an array has its length, what is not `&mut` is const, and pointers are restrict.
+- Every declaration has a comment of its own, which names its causes.
+- Every constant has the value of its source, a `const` or a definition in specs/, and none is without a source; every
+  code, cause, outcome and place of a value has its constant.
+It prints a line for each fault.
+"""
+import functools
+import math
+import pathlib
+import re
+import sys
+
+CRATES = pathlib.Path('crates')
+HEADER = pathlib.Path('include/powerlink.h')
+
+# ---- the sources
+
+
+def text_of(*parts):
+    return CRATES.joinpath(*parts).read_text(encoding='utf-8')
+
+
+@functools.cache
+def code_of(crate):
+    """The Rattle of a crate, without comments."""
+    files = sorted(CRATES.joinpath(crate, 'src').rglob('*.rt'))
+    return re.sub(r'//[^\n]*', '', '\n'.join(path.read_text(encoding='utf-8') for path in files))
+
+
+def constant(crate, name):
+    """The value of a constant: numbers, or sums and products of numbers and constants, or an array of them."""
+    code = code_of(crate)
+    found = re.search(rf'\bconst {name}: [^=]*= ([^;]+);', code)
+    if not found:
+        owner = re.search(rf'^use (\w+)::(?:\w+::)*{name};', code, re.M)
+        return constant(owner[1], name)
+    if found[1].startswith('['):
+        return [value_of(crate, item) for item in found[1].strip('[]').split(',')]
+    return value_of(crate, found[1])
+
+
+def value_of(crate, text):
+    def factor(word):
+        return int(word, 0) if word[0].isdigit() else constant(crate, word)
+
+    return sum(math.prod(factor(word.strip()) for word in product.split('*')) for product in text.split('+'))
+
+
+def equations(text, function):
+    """The lines `function CASE .. = VALUE` of a definition by cases: the case without its module, and the value."""
+    return re.findall(rf'^{function} \(?(?:\w+\.)?(\w+)[^=\n]*= (.*)$', text, re.M)
+
+
+def items(text, left):
+    """What a definition lists: the texts between the ∷ of the list that stands after the line `left`."""
+    body = re.search(rf'^{left} =\s(.*?)∷ \[\]$', text, re.M | re.S)[1]
+    return [' '.join(item.split()) for item in body.split('∷')]
+
+
+# ---- the constants that the sources ask for
+
+
+def snake(name):
+    return re.sub(r'(?<=[a-z])(?=[A-Z0-9])|(?<=[A-Z])(?=[A-Z][a-z])', '_', name).upper()
+
+
+# Constants that the sources have under other names.
+CONSTANTS = {
+    'REPORTER_LEN': ('reporter', 'REPORTER_LEN'),
+    'COLLECTOR_LEN': ('collector', 'COLLECTOR_LEN'),
+    'ENTRY_LEN': ('records', 'RECORD_LEN'),
+    'RECORD_LEN': ('journal_records', 'RECORD_LEN'),
+    'JOURNAL_START_LEN': ('journal_records', 'HEADER_LEN'),
+    'ETHER_TYPE': ('types', 'C_DLL_ETHERTYPE_EPL'),
+    'MULTICAST_SOC': ('types', 'C_DLL_MULTICAST_SOC'),
+    'MULTICAST_PRES': ('types', 'C_DLL_MULTICAST_PRES'),
+    'MULTICAST_SOA': ('types', 'C_DLL_MULTICAST_SOA'),
+    'MULTICAST_ASND': ('types', 'C_DLL_MULTICAST_ASND'),
+    'MAX_CN_NODE': ('types', 'C_ADR_MAX_CN_NODE_ID'),
+    'MN_NODE': ('types', 'C_ADR_MN_DEF_NODE_ID'),
+    'BROADCAST_NODE': ('types', 'C_ADR_BROADCAST_NODE_ID'),
+}
+
+# Tables of codes, with the name of a constant for that of a variant.
+CODES = {
+    ('Messages', 'messageCode'): str.upper,
+    ('States', 'stateCode'): lambda name: re.sub('^NMT_(CS_)?', '', snake(name)),
+    ('Services', 'serviceCode'): snake,
+    ('RequestedServices', 'requestedCode'): snake,
+    ('PollFlags', 'priorityCode'): lambda name: 'PRIO_' + snake(name).removeprefix('PRIO_'),
+    ('Modes', 'modeCode'): snake,
+}
+
+# Causes: where their numbers are said, and those whose constant is not named as their variant is.
+CAUSES = [
+    ('types/specs/Causes.antt', 'causeOf'),
+    ('reporter/specs/Rules.antt', 'newCause'),
+    ('reporter/specs/Rules.antt', 'raiseCause'),
+    ('collector/specs/Rules.antt', 'registerCause'),
+    ('collector/specs/Rules.antt', 'readCause'),
+    ('collector/specs/Rules.antt', 'requestCause'),
+    ('collector/specs/Rules.antt', 'takeCause'),
+    ('journal_records/specs/Record.antt', 'journalCause'),
+]
+CAUSE_NAMES = {
+    'BufferTooShort': 'TOO_SHORT',
+    'InvalidEthernetFrame': 'NOT_POWERLINK',
+    'InvalidPlFrame': 'INVALID_FRAME',
+    'InvalidMessageType': 'UNKNOWN_MESSAGE',
+    'InvalidNmtState': 'UNKNOWN_STATE',
+    'InvalidServiceId': 'UNKNOWN_SERVICE',
+    'InvalidRequestedServiceId': 'UNKNOWN_REQUEST',
+    'Full': 'FOUR_REGISTERED',
+}
+
+# Lists of values: the definition, and what its constants begin with. What all kinds of frames share has no kind.
+VALUES = [
+    ('numbers/specs/Values.antt', r'socNumbers f p', 'SOC_'),
+    ('numbers/specs/Values.antt', r'preqNumbers f p', 'PREQ_'),
+    ('numbers/specs/Values.antt', r'presNumbers f p', 'PRES_'),
+    ('numbers/specs/Values.antt', r'soaNumbers f p', 'SOA_'),
+    ('numbers/specs/Values.antt', r'asndNumbers f p', 'ASND_'),
+    ('numbers/specs/Values.antt', r'statusNumbers f', 'STATUS_'),
+    ('numbers/specs/Values.antt', r'entryNumbers e', 'ENTRY_'),
+    ('powerlink/specs/Reading.antt', r'plAfter \(pl.Read h\) before', 'PL_'),
+]
+SHARED = ['MESSAGE_TYPE', 'DESTINATION', 'SOURCE', 'PAYLOAD_START', 'PAYLOAD_LEN']
+FIELD_NAMES = {
+    'start': 'PAYLOAD_START',
+    'len': 'PAYLOAD_LEN',
+    'nmt_state': 'STATE',
+    'req_service_id': 'REQUESTED_SERVICE',
+    'service_id': 'SERVICE',
+    'target_node_id': 'TARGET',
+    'is_status_entry': 'STATUS_ENTRY',
+    'error_code': 'CODE',
+    'additional_information': 'INFORMATION',
+    'en_flag': 'EN',
+    'ec_flag': 'EC',
+}
+
+
+def causes():
+    yield 'DONE', 0
+    for path, function in CAUSES:
+        for variant, value in equations(text_of(path), function):
+            if (found := re.match(r'row (\d+) ', value)) and int(found[1]):
+                yield CAUSE_NAMES.get(variant, snake(variant)), int(found[1])
+
+
+def places():
+    for path, left, prefix in VALUES:
+        for place, item in enumerate(items(text_of(path), left)):
+            if item == '0':
+                continue
+            named = [name for name in re.findall(r'\.«?(\w+)', item) if not name.isdigit()]
+            field = 'message_type' if item.startswith('messageCode') else named[-1]
+            name = FIELD_NAMES.get(field, field.upper())
+            frame = left.endswith(' p')
+            yield (name if frame and name in SHARED else prefix + name), place
+
+
+def lengths():
+    for name, (crate, source) in CONSTANTS.items():
+        yield name, constant(crate, source)
+    for (file, table), named in CODES.items():
+        for variant, value in equations(text_of('types', 'specs', f'{file}.antt'), table):
+            yield named(variant), int(value, 0)
+    header = re.search(r'^readFrame f =\s+need \(leb (\d+) ', text_of('codec/specs/Frame.antt'), re.M)
+    yield 'ETH_LEN', int(header[1])
+    request = re.search(r'length \(requestFrame .*\) ≡ (\d+)$', text_of('collector/specs/Calls.antt'), re.M)
+    yield 'REQUEST_LEN', int(request[1])
+    rules = text_of('reporter/specs/Rules.antt')
+    front, entry = re.search(r'^answerLength \(suc n\) = (\d+) \+ (\d+) \* suc n$', rules, re.M).groups()
+    batch = re.search(r'take (\d+) \(h \.waiting\)', rules)
+    yield 'ANSWER_MAX', int(front) + int(entry) * int(batch[1])
+    start = items(text_of('journal_records/specs/ReadBack.antt'), 'journalStart')
+    yield 'JOURNAL_START', [int(octet) for octet in start]
+
+
+def outcomes():
+    for file, function in [('Reporting', 'readOutcome'), ('Collecting', 'bookOutcome')]:
+        for variant, value in equations(text_of('powerlink', 'specs', f'{file}.antt'), function):
+            if value.isdigit():
+                yield snake(variant), int(value)
+
+
+# ---- the functions of the sources
+
+SCALARS = {'u8': 'uint8_t', 'u16': 'uint16_t', 'u32': 'uint32_t', 'u64': 'uint64_t', 'usize': 'size_t', 'bool': 'bool'}
+EXPORTED = re.compile(r'^(#\[no_mangle\]\n)?(?:pub )?extern "C" fn (\w+)\((.*?)\)\s*->\s*(\w+)', re.M | re.S)
+
+
+def as_c(name, kind, arrays):
+    """The parameters of C for one of Rattle."""
+    lent, mutable, inner = re.fullmatch(r'(&?)(mut )?(.+)', kind).groups()
+    if not lent:
+        return [f'{SCALARS[kind]} {name}']
+    const = '' if mutable else 'const '
+    inner = arrays.get(inner, inner)
+    if inner == '[u8]':
+        return [f'{const}uint8_t *restrict {name}', f'size_t {name}_len']
+    if array := re.fullmatch(r'\[(\w+); (\w+)\]', inner):
+        return [f'{const}{SCALARS[array[1]]} {name}[restrict static {array[2]}]']
+    return [f'{const}{SCALARS[inner]} *restrict {name}']
+
+
+def exported():
+    """Each exported function of the sources with its parameters in C and its result, and what is wrong with its head."""
+    arrays = {}
+    for crate in ('reporter', 'collector'):
+        for name, length in re.findall(r'^pub type (\w+) = \[u8; (\w+)\];', code_of(crate), re.M):
+            arrays[name] = f'[u8; {constant(crate, length)}]'
+    for mangled, name, parameters, result in EXPORTED.findall(code_of('powerlink')):
+        found = []
+        for parameter in filter(None, (' '.join(part.split()) for part in parameters.split(','))):
+            found += as_c(*parameter.split(': ', 1), arrays)
+        yield name, (SCALARS[result], found), bool(mangled)
+
+
+# ---- the header
+
+
+class Header:
+    """What the header says: its text, its constants, those that are lengths of arrays, and its functions."""
+
+    def __init__(self, text):
+        self.text = text
+        self.faults = []
+        self.constants = {}
+        bare = re.sub(r'/\*.*?\*/', '', text, flags=re.S)
+        defined = re.findall(r'^#define POWERLINK_(\w+) (\d\w*|\{.*\})$', bare, re.M)
+        counted = re.findall(r'^ +POWERLINK_(\w+) = (\w+),?\s*$', bare, re.M)
+        for name, value in defined + counted:
+            if name in self.constants:
+                self.faults.append(f'POWERLINK_{name} is there twice')
+            numbers = [int(number, 0) for number in value.strip('{}').split(',')]
+            self.constants[name] = numbers if value[0] == '{' else numbers[0]
+        self.used = set(re.findall(r'POWERLINK_ARRAY\(POWERLINK_(\w+)\)', bare))
+        declared = re.findall(r'^(\w+) (powerlink_\w+)\(([^;]*)\);', bare, re.M)
+        self.functions = {name: (result, self.parameters(inside)) for result, name, inside in declared}
+
+    def parameters(self, inside):
+        """The parameters of a declaration, with the macros as C has them and lengths as numbers."""
+        inside = inside.replace('POWERLINK_RESTRICT', 'restrict')
+        length = lambda found: f'restrict static {self.constants.get(found[1])}'
+        inside = re.sub(r'POWERLINK_ARRAY\(POWERLINK_(\w+)\)', length, inside)
+        return [' '.join(part.split()) for part in inside.split(',')]
+
+    def comment(self, name):
+        """The comment that ends right before a declaration."""
+        found = re.search(rf'/\*((?:(?!\*/).)*)\*/\s*\w+ {name}\(', self.text, re.S)
+        return found[1] if found else ''
+
+
+def function_faults(header):
+    there = {}
+    for name, signature, mangled in exported():
+        there[name] = signature
+        if not mangled:
+            yield f'{name} is exported without #[no_mangle]'
+        if name not in header.functions:
+            yield f'{name} is not declared'
+        elif header.functions[name] != signature:
+            ours, theirs = header.functions[name], signature
+            yield f'{name} is declared as {ours[0]} ({", ".join(ours[1])}), and is {theirs[0]} ({", ".join(theirs[1])})'
+    for name in header.functions:
+        if name not in there:
+            yield f'{name} is declared, and not in the sources'
+        if not re.search(r'Tests: |Refuses nothing', header.comment(name)):
+            yield f'{name} has no comment of its own that names its causes'
+
+
+def constant_faults(header):
+    wanted = {}
+    for name, value in [*causes(), *lengths(), *places(), *outcomes()]:
+        if wanted.setdefault(name, value) != value:
+            yield f'POWERLINK_{name} would be {wanted[name]} and {value}'
+        if name not in header.constants:
+            yield f'POWERLINK_{name} is not there: {value}'
+        elif header.constants[name] != value:
+            yield f'POWERLINK_{name} is {header.constants[name]}, and in the sources {value}'
+    for name in header.constants:
+        if name not in wanted and name not in header.used:
+            yield f'POWERLINK_{name} has no source'
+    for line in ('#define POWERLINK_RESTRICT restrict', '#define POWERLINK_ARRAY(n) restrict static n'):
+        if f'\n{line}\n' not in header.text:
+            yield f'the header lacks: {line}'
+
+
+def main():
+    header = Header(HEADER.read_text(encoding='utf-8'))
+    found = list(dict.fromkeys([*header.faults, *function_faults(header), *constant_faults(header)]))
+    functions, constants = len(header.functions), len(header.constants)
+    print('\n'.join(found) or f'powerlink.h: {functions} functions and {constants} constants are those of the sources')
+    return 1 if found else 0
+
+
+if __name__ == '__main__':
+    sys.exit(main())
