@@ -65,9 +65,9 @@ impl Line {
         }
         for _ in 0..fate.times() {
             let heard = match self.head.read(&frame[..n])? {
-                Heard::Closed => "closes its batch",
-                Heard::Kept => "keeps what it has",
-                Heard::Ignored => "ignores it",
+                ReporterRead::Closed => "closes its batch",
+                ReporterRead::Kept => "keeps what it has",
+                ReporterRead::Ignored => "ignores it",
             };
             println!("head:     reads it and {heard}");
         }
@@ -99,8 +99,8 @@ impl Line {
         }
         for _ in 0..fate.times() {
             let read = match self.the_box.read(&frame[..n])? {
-                Read::Booked => "books it",
-                Read::Known => "knows it already",
+                CollectorRead::Booked => "books it",
+                CollectorRead::Known => "knows it already",
             };
             println!("box:      reads it and {read}");
         }

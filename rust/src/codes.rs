@@ -1,5 +1,6 @@
 //! Codes: what an octet, or bits of one, stand for.
 use crate::Error;
+use core::fmt;
 
 /// An enum whose values are the codes of one octet, read with `TryFrom` and written with `as u8`.
 macro_rules! codes {
@@ -53,7 +54,8 @@ codes! {
 
 codes! {
     /// The NMT states (EPSG DS 301, Appendix 3.6). A state of both kinds of node has one name and
-    /// one code.
+    /// one code. They are ordered by their codes.
+    #[derive(PartialOrd, Ord, Default)]
     pub enum NmtState or InvalidNmtState {
         /// `NMT_GS_OFF`.
         NmtGsOff = 0x00,
@@ -66,6 +68,7 @@ codes! {
         /// `NMT_GS_RESET_CONFIGURATION`.
         NmtGsResetConfiguration = 0x79,
         /// `NMT_CS_NOT_ACTIVE` and `NMT_MS_NOT_ACTIVE`.
+        #[default]
         NmtNotActive = 0x1C,
         /// `NMT_CS_PRE_OPERATIONAL_1` and `NMT_MS_PRE_OPERATIONAL_1`.
         NmtPreOperational1 = 0x1D,
@@ -168,6 +171,19 @@ impl PRFlag {
     }
 }
 
+/// As [`PRFlag::from_bits`], so that `try_from` masks as that of powerlink-rs does.
+impl From<u8> for PRFlag {
+    fn from(octet: u8) -> Self {
+        PRFlag::from_bits(octet)
+    }
+}
+
+impl From<PRFlag> for u8 {
+    fn from(priority: PRFlag) -> u8 {
+        priority as u8
+    }
+}
+
 /// How many requests wait at a node, 0 to 7 (EPSG DS 301, 4.2.4.1.2.2).
 #[derive(Debug, Clone, Copy, PartialEq, Eq, PartialOrd, Ord, Hash, Default)]
 pub struct RSFlag(u8);
@@ -209,3 +225,33 @@ impl ErrorEntryMode {
         }
     }
 }
+
+impl TryFrom<u8> for ErrorEntryMode {
+    type Error = UnknownMode;
+
+    /// The mode with this number, which is 0 to 3.
+    fn try_from(number: u8) -> Result<Self, UnknownMode> {
+        match number {
+            0..=3 => Ok(ErrorEntryMode::from_bits(number)),
+            _ => Err(UnknownMode(number)),
+        }
+    }
+}
+
+impl From<ErrorEntryMode> for u8 {
+    fn from(mode: ErrorEntryMode) -> u8 {
+        mode as u8
+    }
+}
+
+/// A number above 3, which is no mode's.
+#[derive(Debug, Clone, Copy, PartialEq, Eq, Hash)]
+pub struct UnknownMode(pub u8);
+
+impl fmt::Display for UnknownMode {
+    fn fmt(&self, f: &mut fmt::Formatter<'_>) -> fmt::Result {
+        write!(f, "unknown mode {}", self.0)
+    }
+}
+
+impl core::error::Error for UnknownMode {}

@@ -5,7 +5,8 @@ use crate::frame::{ErrorEntry, MacAddress};
 use crate::numbers::broken;
 use crate::types::{EPLVersion, NodeId};
 use crate::Error;
-use std::fmt;
+use alloc::boxed::Box;
+use core::fmt;
 
 /// The octets of a [`Collector`]'s state.
 pub const COLLECTOR_LEN: usize = 5184;
@@ -26,12 +27,16 @@ pub struct RequestFields {
     pub epl_version: EPLVersion,
 }
 
-/// What reading a frame comes to, for the box.
+/// What reading a frame comes to, for the box. An answer's bit EN, exception new, changes with each
+/// batch; the box's bit EA, exception acknowledge, is the EN of the last batch that it has booked,
+/// and goes to the head with every [request](Collector::request).
 #[derive(Debug, Clone, Copy, PartialEq, Eq, Hash)]
-pub enum Read {
-    /// The batch is new, and now in the book, whole.
+pub enum CollectorRead {
+    /// EN differs from EA: the batch is new. Its entries are in the book now, all of them, in their
+    /// order, and EA is EN, so that the next request acknowledges the batch.
     Booked,
-    /// The batch was booked before, or there was none: nothing has changed.
+    /// EN equals EA: the batch was booked before, and this is a repeat of it, or no batch was sent
+    /// yet. Nothing has changed.
     Known,
 }
 
@@ -54,10 +59,10 @@ impl Collector {
     /// refuses (1 to 7), a frame that is no StatusResponse (10), one from a node that is not
     /// registered (11), a payload under 14 octets (1) or with an unknown state (5), and a new batch
     /// with more entries than the book has free places (12), which the head sends again.
-    pub fn read(&mut self, buffer: &[u8]) -> Result<Read, Error> {
+    pub fn read(&mut self, buffer: &[u8]) -> Result<CollectorRead, Error> {
         Ok(match ffi::collector_read(&mut self.0, buffer)? {
-            0 => Read::Known,
-            1 => Read::Booked,
+            0 => CollectorRead::Known,
+            1 => CollectorRead::Booked,
             other => broken("outcome", other.into()),
         })
     }

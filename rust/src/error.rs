@@ -1,5 +1,7 @@
 //! Why a call refuses.
-use std::fmt;
+use core::array::TryFromSliceError;
+use core::convert::Infallible;
+use core::fmt;
 
 /// Why a call refuses: one variant for each cause, in the order of their numbers. What stands in
 /// brackets is the octet that was found.
@@ -38,10 +40,12 @@ pub enum Error {
     Full,
     /// 16: no entry is booked.
     NothingBooked,
+    /// 19: the record has the mode of the terminator, or an ID that is not one of 1 to 239.
+    RecordInvalid,
 }
 
 impl Error {
-    /// The number of the cause, 1 to 16.
+    /// The number of the cause: 1 to 16, or 19. (17 and 18 are those of a journal that is listed.)
     pub fn number(self) -> u8 {
         match self {
             Error::BufferTooShort => 1,
@@ -60,6 +64,7 @@ impl Error {
             Error::IdRegistered => 14,
             Error::Full => 15,
             Error::NothingBooked => 16,
+            Error::RecordInvalid => 19,
         }
     }
 
@@ -94,6 +99,7 @@ impl Error {
             14 => Error::IdRegistered,
             15 => Error::Full,
             16 => Error::NothingBooked,
+            19 => Error::RecordInvalid,
             _ => panic!("libpowerlink.a answers with {cause}, which is no cause"),
         })
     }
@@ -127,8 +133,28 @@ impl fmt::Display for Error {
             Error::IdRegistered => write!(f, "node is registered already"),
             Error::Full => write!(f, "four nodes are registered"),
             Error::NothingBooked => write!(f, "no entry is booked"),
+            Error::RecordInvalid => {
+                write!(
+                    f,
+                    "record has the terminator's mode or a node ID that is not one of 1 to 239"
+                )
+            }
         }
     }
 }
 
-impl std::error::Error for Error {}
+impl core::error::Error for Error {}
+
+/// A slice that is not as long as an array: cause 1, as in powerlink-rs.
+impl From<TryFromSliceError> for Error {
+    fn from(_: TryFromSliceError) -> Self {
+        Error::BufferTooShort
+    }
+}
+
+/// What cannot fail, as [`PRFlag::try_from`](crate::PRFlag), goes with `?` too.
+impl From<Infallible> for Error {
+    fn from(never: Infallible) -> Self {
+        match never {}
+    }
+}

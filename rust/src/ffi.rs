@@ -309,6 +309,21 @@ extern "C" {
         id: u8,
         values: &mut [u64; 8],
     ) -> u8;
+
+    fn powerlink_journal_record(
+        id: u8,
+        status_entry: bool,
+        send_to_queue: bool,
+        mode: u8,
+        profile: u16,
+        code: u16,
+        seconds: u32,
+        nanoseconds: u32,
+        information: u64,
+        target: *mut u8,
+        target_len: usize,
+        written: &mut usize,
+    ) -> u8;
 }
 
 /// Makes a call that writes and gives an octet where it refuses.
@@ -783,5 +798,26 @@ pub fn collector_request(
 pub fn collector_take(state: &mut [u8; COLLECTOR_LEN], id: NodeId) -> Result<[u64; 8], Error> {
     reading([0; 8], |values, _| unsafe {
         powerlink_collector_take(state, id.0, values)
+    })
+}
+
+// The journal.
+
+pub fn journal_record(id: NodeId, entry: &ErrorEntry, target: &mut [u8]) -> Result<usize, Error> {
+    writing(|written, _| unsafe {
+        powerlink_journal_record(
+            id.0,
+            entry.entry_type.is_status_entry,
+            entry.entry_type.send_to_queue,
+            entry.entry_type.mode as u8,
+            entry.entry_type.profile,
+            entry.error_code,
+            entry.timestamp.seconds,
+            entry.timestamp.nanoseconds,
+            entry.additional_information,
+            target.as_mut_ptr(),
+            target.len(),
+            written,
+        )
     })
 }

@@ -1,6 +1,7 @@
-//! Ethernet POWERLINK frames, and the error exchange between a controlled node (a *head*) and the
-//! managing node (the *box*): a safe wrapper over the static library `libpowerlink.a` of this
-//! repository.
+//! Ethernet POWERLINK frames, the error exchange between a controlled node (a *head*) and the
+//! managing node (the *box*), and the journal of what was booked: a safe wrapper over the static
+//! library `libpowerlink.a` of this repository. It needs no standard library, but an allocator, for
+//! a [`Collector`]'s state and for [`StatusFields::serialize`]; the archive is for x86-64.
 //!
 //! # Frames
 //!
@@ -50,8 +51,8 @@
 //! };
 //! let mut line = [0; 132];
 //! let n = head.answer(&fields, &mut line)?;
-//! assert_eq!(the_box.read(&line[..n])?, Read::Booked);
-//! assert_eq!(the_box.read(&line[..n])?, Read::Known);
+//! assert_eq!(the_box.read(&line[..n])?, CollectorRead::Booked);
+//! assert_eq!(the_box.read(&line[..n])?, CollectorRead::Known);
 //!
 //! // The box's next request acknowledges, and the head closes its batch.
 //! let fields = RequestFields {
@@ -60,13 +61,15 @@
 //!     epl_version: EPLVersion(0x20),
 //! };
 //! let n = the_box.request(NodeId(7), &fields, &mut line)?;
-//! assert_eq!(head.read(&line[..n])?, Heard::Closed);
+//! assert_eq!(head.read(&line[..n])?, ReporterRead::Closed);
 //!
 //! assert_eq!(the_box.take(NodeId(7))?, fault);
 //! assert_eq!(the_box.take(NodeId(7)), Err(Error::NothingBooked));
 //! # Ok(())
 //! # }
 //! ```
+//!
+//! What the box hands out goes into a [`journal`].
 //!
 //! # Refusals
 //!
@@ -94,10 +97,17 @@
 //! Names and fields are those of powerlink-rs, with [`Error`] for `PowerlinkError`. What differs:
 //! the Ethernet header and the payload stand beside the frame ([`Frame`], [`NewFrame`]) and no more
 //! in it; `message_type` goes with the kind; `StatusResponsePayload` is [`StatusFields`] for
-//! writing and [`StatusResponse`] for reading, with an iterator over the entries. Where the
-//! behaviour differs is in `docs/DIFFERENCES.md`.
+//! writing and [`StatusResponse`] for reading, with an iterator over the entries. `Codec` and
+//! `CodecHelpers` are methods and functions here. `PRFlag::try_from` and `EntryType::from_u16`
+//! cannot fail, and say so; a mode that is none is [`UnknownMode`], and a node ID [`NodeIdError`],
+//! neither of which is an [`Error`]. Not here are the sums of `NetTime` and `RelativeTime`,
+//! `PayloadSize`, the mapping of PDOs, `from_u8_with_context`, whose context changes nothing, and
+//! what leads to the state machines. Where the behaviour differs is in `docs/DIFFERENCES.md`.
+#![no_std]
 #![deny(unsafe_code)]
 #![warn(missing_docs)]
+
+extern crate alloc;
 
 mod codes;
 mod collector;
@@ -106,14 +116,16 @@ mod error;
 #[allow(unsafe_code)]
 mod ffi;
 mod frame;
+pub mod journal;
 mod numbers;
 mod reporter;
 mod types;
 
 pub use codes::{
     ErrorEntryMode, MessageType, NmtState, PRFlag, RSFlag, RequestedServiceId, ServiceId,
+    UnknownMode,
 };
-pub use collector::{Collector, Read, RequestFields, COLLECTOR_LEN};
+pub use collector::{Collector, CollectorRead, RequestFields, COLLECTOR_LEN};
 pub use common::{NetTime, RelativeTime};
 pub use error::Error;
 pub use frame::{
@@ -123,9 +135,9 @@ pub use frame::{
     PlHeader, PowerlinkFrame, SoAFlags, SoAFrame, SocFlags, SocFrame, StaticErrorBitField,
     StatusFields, StatusResponse,
 };
-pub use reporter::{AnswerFields, Heard, Reporter, REPORTER_LEN};
+pub use reporter::{AnswerFields, Reporter, ReporterRead, REPORTER_LEN};
 pub use types::{
-    EPLVersion, NodeId, PDOVersion, C_ADR_BROADCAST_NODE_ID, C_ADR_MAX_CN_NODE_ID,
+    EPLVersion, NodeId, NodeIdError, PDOVersion, C_ADR_BROADCAST_NODE_ID, C_ADR_MAX_CN_NODE_ID,
     C_ADR_MN_DEF_NODE_ID, C_DLL_ETHERTYPE_EPL, C_DLL_MULTICAST_ASND, C_DLL_MULTICAST_PRES,
     C_DLL_MULTICAST_SOA, C_DLL_MULTICAST_SOC,
 };

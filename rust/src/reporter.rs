@@ -5,7 +5,7 @@ use crate::frame::{ErrorEntry, MacAddress, StaticErrorBitField};
 use crate::numbers::broken;
 use crate::types::NodeId;
 use crate::Error;
-use std::fmt;
+use core::fmt;
 
 /// The octets of a [`Reporter`]'s state.
 pub const REPORTER_LEN: usize = 408;
@@ -41,7 +41,7 @@ pub struct AnswerFields {
 
 /// What reading a frame comes to, for a head.
 #[derive(Debug, Clone, Copy, PartialEq, Eq, Hash)]
-pub enum Heard {
+pub enum ReporterRead {
     /// The open batch is acknowledged, and closed.
     Closed,
     /// The frame holds EA for this node, which closes nothing.
@@ -73,11 +73,11 @@ impl Reporter {
 
     /// Reads a frame: a PReq to this node or an SoA with it as target, from the managing node,
     /// holds EA. Refuses what [`deserialize_frame`](crate::deserialize_frame) refuses (1 to 7).
-    pub fn read(&mut self, buffer: &[u8]) -> Result<Heard, Error> {
+    pub fn read(&mut self, buffer: &[u8]) -> Result<ReporterRead, Error> {
         Ok(match ffi::reporter_read(&mut self.0, buffer)? {
-            0 => Heard::Ignored,
-            1 => Heard::Kept,
-            2 => Heard::Closed,
+            0 => ReporterRead::Ignored,
+            1 => ReporterRead::Kept,
+            2 => ReporterRead::Closed,
             other => broken("outcome", other.into()),
         })
     }

@@ -1,5 +1,5 @@
 //! IDs, versions and constants.
-use std::fmt;
+use core::fmt;
 
 /// A POWERLINK node ID. Any octet is one: what a frame holds is kept as it stands.
 #[derive(Debug, Clone, Copy, PartialEq, Eq, PartialOrd, Ord, Hash)]
@@ -10,6 +10,41 @@ impl fmt::Display for NodeId {
         self.0.fmt(f)
     }
 }
+
+impl From<NodeId> for u8 {
+    fn from(id: NodeId) -> u8 {
+        id.0
+    }
+}
+
+impl TryFrom<u8> for NodeId {
+    type Error = NodeIdError;
+
+    /// The ID that a node may have or that stands for all: 1 to 240, or 253 to 255. Frames are read
+    /// and written with any; `NodeId(octet)` is one without this test.
+    fn try_from(octet: u8) -> Result<Self, NodeIdError> {
+        match octet {
+            1..=C_ADR_MN_DEF_NODE_ID | 253..=C_ADR_BROADCAST_NODE_ID => Ok(NodeId(octet)),
+            _ => Err(NodeIdError::InvalidRange(octet)),
+        }
+    }
+}
+
+/// Why an octet is no [`NodeId`] to `try_from`.
+#[derive(Debug, Clone, Copy, PartialEq, Eq, Hash)]
+pub enum NodeIdError {
+    /// It is 0, or 241 to 252.
+    InvalidRange(u8),
+}
+
+impl fmt::Display for NodeIdError {
+    fn fmt(&self, f: &mut fmt::Formatter<'_>) -> fmt::Result {
+        let NodeIdError::InvalidRange(octet) = self;
+        write!(f, "node ID {octet} is not one of 1 to 240 or 253 to 255")
+    }
+}
+
+impl core::error::Error for NodeIdError {}
 
 /// The version of POWERLINK (EPSG DS 301, Table 112).
 #[derive(Debug, Clone, Copy, PartialEq, Eq, Hash)]

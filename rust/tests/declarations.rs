@@ -106,9 +106,10 @@ fn constant(text: &str, name: &str) -> usize {
         .sum()
 }
 
-/// The library writes as many octets of a state as its source says: the states here must have them.
+/// The library writes as many octets of a state as its source says: the states here must have them,
+/// and so must a place for a record.
 #[test]
-fn states_are_as_long_as_in_the_source() {
+fn states_and_records_are_as_long_as_in_the_source() {
     let Some(crates) = crates() else {
         return;
     };
@@ -118,4 +119,6 @@ fn states_are_as_long_as_in_the_source() {
     assert_eq!(powerlink::REPORTER_LEN, reporter);
     let collector = constant(&(read("collector") + &records), "COLLECTOR_LEN");
     assert_eq!(powerlink::COLLECTOR_LEN, collector);
+    let record = constant(&read("journal_records"), "RECORD_LEN");
+    assert_eq!(powerlink::journal::RECORD_LEN, record);
 }

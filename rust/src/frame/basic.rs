@@ -1,12 +1,17 @@
 //! Addresses and the Ethernet header (IEEE 802.3, 3.1.1 and 3.2.3).
 use crate::types::C_DLL_ETHERTYPE_EPL;
-use std::fmt;
+use core::fmt;
 
 /// The six octets of an address, in the order in which they are sent.
 #[derive(Debug, Clone, Copy, PartialEq, Eq, PartialOrd, Ord, Hash, Default)]
 pub struct MacAddress(pub [u8; 6]);
 
 impl MacAddress {
+    /// The address with these octets.
+    pub const fn new(octets: [u8; 6]) -> Self {
+        MacAddress(octets)
+    }
+
     /// Whether the address is that of a group.
     pub fn is_multicast(&self) -> bool {
         self.0[0] & 1 == 1

@@ -18,6 +18,27 @@ pub struct EntryType {
     pub profile: u16,
 }
 
+impl EntryType {
+    /// The type in two octets, low one first in a frame: bit 15 and bit 14 the two flags, two bits
+    /// of mode, 12 of profile.
+    pub fn from_u16(value: u16) -> Self {
+        EntryType {
+            is_status_entry: value & 0x8000 != 0,
+            send_to_queue: value & 0x4000 != 0,
+            mode: ErrorEntryMode::from_bits((value >> 12) as u8),
+            profile: value & 0x0FFF,
+        }
+    }
+
+    /// The two octets of the type, as a number. The profile loses what lies above its 12 bits.
+    pub fn to_u16(self) -> u16 {
+        u16::from(self.is_status_entry) << 15
+            | u16::from(self.send_to_queue) << 14
+            | (self.mode as u16) << 12
+            | self.profile & 0x0FFF
+    }
+}
+
 /// An entry of the error list (EPSG DS 301, Table 94).
 #[derive(Debug, Clone, Copy, PartialEq, Eq, Hash)]
 pub struct ErrorEntry {

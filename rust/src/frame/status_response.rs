@@ -4,7 +4,8 @@ use crate::codes::{NmtState, PRFlag, RSFlag};
 use crate::ffi;
 use crate::numbers::{code, flag, narrow};
 use crate::Error;
-use std::iter::FusedIterator;
+use alloc::vec;
+use core::iter::FusedIterator;
 
 /// The static error bit field (EPSG DS 301, 6.5.8.1).
 #[derive(Debug, Clone, Copy, PartialEq, Eq, Hash, Default)]
@@ -44,7 +45,7 @@ impl StaticErrorBitField {
 }
 
 /// What stands in front of the entries (EPSG DS 301, Table 136).
-#[derive(Debug, Clone, Copy, PartialEq, Eq, Hash)]
+#[derive(Debug, Clone, Copy, PartialEq, Eq, Hash, Default)]
 pub struct StatusFields {
     /// Exception new.
     pub en_flag: bool,

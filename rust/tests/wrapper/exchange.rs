@@ -44,19 +44,19 @@ fn with_a_loss_and_a_repeat() {
     let repeat = answer(&mut head, 7);
     assert_eq!(repeat, lost);
     // A request from before the booking closes nothing.
-    assert_eq!(head.read(&request(&the_box, 7)), Ok(Heard::Kept));
-    assert_eq!(the_box.read(&repeat), Ok(Read::Booked));
-    assert_eq!(the_box.read(&repeat), Ok(Read::Known));
+    assert_eq!(head.read(&request(&the_box, 7)), Ok(ReporterRead::Kept));
+    assert_eq!(the_box.read(&repeat), Ok(CollectorRead::Booked));
+    assert_eq!(the_box.read(&repeat), Ok(CollectorRead::Known));
 
     let acknowledge = request(&the_box, 7);
-    assert_eq!(head.read(&acknowledge), Ok(Heard::Closed));
-    assert_eq!(head.read(&acknowledge), Ok(Heard::Kept));
+    assert_eq!(head.read(&acknowledge), Ok(ReporterRead::Closed));
+    assert_eq!(head.read(&acknowledge), Ok(ReporterRead::Kept));
     let rest = answer(&mut head, 7);
     assert_eq!(codes(&rest), [5, 6]);
     // A late repeat of the request does not close the new batch.
-    assert_eq!(head.read(&acknowledge), Ok(Heard::Kept));
-    assert_eq!(the_box.read(&rest), Ok(Read::Booked));
-    assert_eq!(head.read(&request(&the_box, 7)), Ok(Heard::Closed));
+    assert_eq!(head.read(&acknowledge), Ok(ReporterRead::Kept));
+    assert_eq!(the_box.read(&rest), Ok(CollectorRead::Booked));
+    assert_eq!(head.read(&request(&the_box, 7)), Ok(ReporterRead::Closed));
     assert_eq!(codes(&answer(&mut head, 7)), []);
 
     for code in 1..=6 {
@@ -139,11 +139,11 @@ fn what_gives_ea() {
         preq(240, 8),
         answer(&mut head, 7),
     ] {
-        assert_eq!(head.read(&frame), Ok(Heard::Ignored));
+        assert_eq!(head.read(&frame), Ok(ReporterRead::Ignored));
     }
-    assert_eq!(head.read(&preq(240, 7)), Ok(Heard::Closed));
-    assert_eq!(head.read(&preq(240, 7)), Ok(Heard::Kept));
-    assert_eq!(head.read(&soa(240, 7)), Ok(Heard::Kept));
+    assert_eq!(head.read(&preq(240, 7)), Ok(ReporterRead::Closed));
+    assert_eq!(head.read(&preq(240, 7)), Ok(ReporterRead::Kept));
+    assert_eq!(head.read(&soa(240, 7)), Ok(ReporterRead::Kept));
 }
 
 #[test]
@@ -154,24 +154,33 @@ fn a_full_book() {
         for i in 0..4 {
             head.raise(&entry(4 * batch + i)).unwrap();
         }
-        assert_eq!(the_box.read(&answer(&mut head, 7)), Ok(Read::Booked));
-        assert_eq!(head.read(&request(&the_box, 7)), Ok(Heard::Closed));
+        assert_eq!(
+            the_box.read(&answer(&mut head, 7)),
+            Ok(CollectorRead::Booked)
+        );
+        assert_eq!(head.read(&request(&the_box, 7)), Ok(ReporterRead::Closed));
     }
     // A known answer is known, though the book is full.
-    assert_eq!(the_box.read(&answer(&mut head, 7)), Ok(Read::Known));
+    assert_eq!(
+        the_box.read(&answer(&mut head, 7)),
+        Ok(CollectorRead::Known)
+    );
     head.raise(&entry(64)).unwrap();
     head.raise(&entry(65)).unwrap();
     let batch = answer(&mut head, 7);
     let full = *the_box.as_bytes();
     assert_eq!(the_box.read(&batch), Err(Error::BookFull));
     assert_eq!(the_box.as_bytes(), &full);
-    assert_eq!(head.read(&request(&the_box, 7)), Ok(Heard::Kept));
+    assert_eq!(head.read(&request(&the_box, 7)), Ok(ReporterRead::Kept));
     // One place is not enough for two.
     assert_eq!(the_box.take(HEAD), Ok(entry(0)));
     assert_eq!(the_box.read(&answer(&mut head, 7)), Err(Error::BookFull));
     assert_eq!(the_box.take(HEAD), Ok(entry(1)));
-    assert_eq!(the_box.read(&answer(&mut head, 7)), Ok(Read::Booked));
-    assert_eq!(head.read(&request(&the_box, 7)), Ok(Heard::Closed));
+    assert_eq!(
+        the_box.read(&answer(&mut head, 7)),
+        Ok(CollectorRead::Booked)
+    );
+    assert_eq!(head.read(&request(&the_box, 7)), Ok(ReporterRead::Closed));
     assert_eq!(drain(&mut the_box, HEAD), (2..66).collect::<Vec<_>>());
 }
 
@@ -187,12 +196,15 @@ fn heads_are_kept_apart() {
         for i in 0..id {
             head.raise(&entry(100 * id as u16 + i as u16)).unwrap();
         }
-        assert_eq!(the_box.read(&answer(head, id)), Ok(Read::Booked));
+        assert_eq!(the_box.read(&answer(head, id)), Ok(CollectorRead::Booked));
     }
     for (id, head) in (1..).zip(&mut heads) {
         let other = id % 4 + 1;
-        assert_eq!(head.read(&request(&the_box, other)), Ok(Heard::Ignored));
-        assert_eq!(head.read(&request(&the_box, id)), Ok(Heard::Closed));
+        assert_eq!(
+            head.read(&request(&the_box, other)),
+            Ok(ReporterRead::Ignored)
+        );
+        assert_eq!(head.read(&request(&the_box, id)), Ok(ReporterRead::Closed));
     }
     for id in 1..=4u8 {
         let expected: Vec<u16> = (0..id).map(|i| 100 * id as u16 + i as u16).collect();

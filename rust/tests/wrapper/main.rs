@@ -1,9 +1,11 @@
 //! The wrapper on the library. Octets that are expected were written from the layouts, and not
 //! taken from what is printed.
 mod codes;
+mod conversions;
 mod errors;
 mod exchange;
 mod frames;
+mod journals;
 mod states;
 mod status;
 

@@ -22,9 +22,12 @@ fn a_state_goes_on_from_its_octets() {
     assert_eq!(the_box.as_bytes(), &kept);
 
     assert_eq!(answer(&mut head, 7), batch);
-    assert_eq!(the_box.read(&batch), Ok(Read::Known));
-    assert_eq!(head.read(&request(&the_box, 7)), Ok(Heard::Closed));
-    assert_eq!(the_box.read(&answer(&mut head, 7)), Ok(Read::Booked));
+    assert_eq!(the_box.read(&batch), Ok(CollectorRead::Known));
+    assert_eq!(head.read(&request(&the_box, 7)), Ok(ReporterRead::Closed));
+    assert_eq!(
+        the_box.read(&answer(&mut head, 7)),
+        Ok(CollectorRead::Booked)
+    );
     for code in 0..6 {
         assert_eq!(the_box.take(NodeId(7)), Ok(entry(code)));
     }

@@ -174,6 +174,9 @@ fn an_answer_without_entries_is_read_untrimmed() {
     // The box reads it so.
     let mut the_box = Collector::new();
     the_box.register(NodeId(7)).unwrap();
-    assert_eq!(the_box.read(&frame), Ok(Read::Known));
-    assert_eq!(the_box.read(&framed(&frame[14..])), Ok(Read::Known));
+    assert_eq!(the_box.read(&frame), Ok(CollectorRead::Known));
+    assert_eq!(
+        the_box.read(&framed(&frame[14..])),
+        Ok(CollectorRead::Known)
+    );
 }
