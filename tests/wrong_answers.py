@@ -3,10 +3,10 @@
 `rt` says of an edit only that its crate is no longer proved. That is so too where a proof file merely no longer fits
 the code, and where one wrong function of several hides the others. Run this at the repository's root, after `rt ci`
 or `rt must-fail`: it reads what the prover said of each edit, target/must-fail/CRATE/EDIT/.log, and checks that
-- each function named by a line `# wrong: MODULE::fn_name -- what is wrong` of a group, a file wrong_answers_*.edit,
-  is refused at a fact of its own;
+- each function named by a line `# wrong: MODULE::fn_name -- what is wrong` of an edit is refused at a fact of its own;
 - any other edit is refused at a fact;
-- each public function of each library crate is named in two groups of its crate, and a crate of theorems has two edits.
+- each public function of each library crate is named in two groups, files wrong_answers_*.edit, of its crate, and a
+  crate of theorems has two edits.
 - docs/CLAIMS.md has the row of each function's wrong answers, as `--table` prints them.
 It prints a line for each that is not shown. That an edit keeps the shape of the code is its author's care: where a
 proof answers the needs in their order, an answer that has moved to another need fails there like a fact.
@@ -48,10 +48,10 @@ def answers(edit):
     crate = edit.parent.parent.name
     path = pathlib.Path('target/must-fail', crate, edit.stem, '.log')
     log = path.read_text(encoding='utf-8', errors='replace') if path.is_file() else ''
-    if not edit.match(GROUPS):
-        return [(f'{crate}/{edit.stem}', refused(log))]
     named = [name for name, _ in WRONG.findall(text)]
-    return [(f'{crate}/{edit.stem}: {name}', refused(log, name)) for name in named] or [(f'{crate}/{edit.stem}', False)]
+    if named:
+        return [(f'{crate}/{edit.stem}: {name}', refused(log, name)) for name in named]
+    return [(f'{crate}/{edit.stem}', not edit.match(GROUPS) and refused(log))]
 
 
 def functions(source):
