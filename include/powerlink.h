@@ -318,7 +318,7 @@ uint8_t powerlink_entry_step(
 
 /* ---- Writing sections: frames without their Ethernet header
  *
- * A section has at least 46 octets, the last of them zeros. A frame with any Ethernet header is its section behind that
+ * A section of under 46 octets is filled up with zeros. A frame with any Ethernet header is its section behind that
  * header. The section goes first, since it alone can be refused once there are 14 octets:
  *
  *     if (target_len < POWERLINK_ETH_LEN)

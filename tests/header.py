@@ -2,7 +2,7 @@
 
 - Every exported function of crates/powerlink/src is declared, with the same parameters in the same order, and no other:
   a lent slice is a pointer and a length, an array has its length, what is not `&mut` is const, and pointers are restrict.
-- Every declaration has a comment of its own, which names its causes.
+- Every declaration has a comment of its own, which names its causes, and `octet` where there is one.
 - Every constant has the value of its source, a `const` or a definition in specs/, and none is without a source; every
   code, cause, outcome and place of a value has its constant.
 It prints a line for each fault.
@@ -272,6 +272,9 @@ def function_faults(header):
             yield f'{name} is declared, and not in the sources'
         if not re.search(r'Tests: |Refuses nothing', header.comment(name)):
             yield f'{name} has no comment of its own that names its causes'
+        told = any(parameter.endswith(' octet') for parameter in header.functions[name][1])
+        if told != ('`octet`' in header.comment(name)):
+            yield f'{name} and its comment differ in `octet`'
 
 
 def constant_faults(header):
