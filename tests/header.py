@@ -191,7 +191,7 @@ def outcomes():
 # ---- the functions of the sources
 
 SCALARS = {'u8': 'uint8_t', 'u16': 'uint16_t', 'u32': 'uint32_t', 'u64': 'uint64_t', 'usize': 'size_t', 'bool': 'bool'}
-EXPORTED = re.compile(r'^(#\[no_mangle\]\n)?(?:pub )?extern "C" fn (\w+)\((.*?)\)\s*->\s*(\w+)', re.M | re.S)
+EXPORTED = re.compile(r'^(#\[no_mangle\]\s+)?(?:pub )?extern "C" fn (\w+)\((.*?)\)\s*->\s*(\w+)', re.M | re.S)
 
 
 def as_c(name, kind, arrays):
