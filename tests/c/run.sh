@@ -3,10 +3,8 @@
 # programs against header and archive.
 set -eu
 cd "$(dirname "$0")/../.."
+tests/archive.sh
 lib=target/staticlib/libpowerlink.a
-if [ ! -f "$lib" ] || [ -n "$(find crates crates.txt \( -name '*.rt' -o -name '*.antt' -o -name crates.txt \) -newer "$lib" | head -n 1)" ]; then
-    rt staticlib powerlink
-fi
 out=$(mktemp -d)
 trap 'rm -rf "$out"' EXIT
 warned='-Wall -Wextra -Wpedantic -Werror -Iinclude'

@@ -3,6 +3,12 @@ use crate::Run;
 use crate::case::*;
 use crate::random::Random;
 
+/// Checks a case with another fill than the last. That there are 251 fills keeps them apart from octets that count up.
+fn check(run: &mut Run, case: &mut Case) {
+    case.fill = ((u16::from(case.fill) + 88) % 251) as u8;
+    run.check(case);
+}
+
 const HEADER: [u8; 14] = [1, 0x11, 0x1E, 0, 0, 3, 2, 4, 6, 8, 10, 12, 0x88, 0xAB];
 
 /// A frame with a section of `len` octets, which `octet` gives by their place.
@@ -36,22 +42,30 @@ pub fn reading(run: &mut Run) {
     parts(run);
 }
 
-/// Every section of up to three octets, as a frame; and as many octets for each other reader.
+/// Every section of up to three octets, as a frame; as many octets for each other reader; and a step from every offset.
 fn sections(run: &mut Run, case: &mut Case) {
-    let mut alone = [PL, ETH, STATUS, FIELD, ENTRY].map(Case::new);
+    let mut alone = [PL, ETH, STATUS, FIELD, ENTRY, STEP].map(Case::new);
     for len in 0..=3 {
         frame(case, len, |_| 0);
         alone.iter_mut().for_each(|other| other.bytes[0].resize(len, 0));
         for n in 0..1u32 << (8 * len) {
             let octets = n.to_le_bytes();
             case.bytes[0][14..].copy_from_slice(&octets[..len]);
-            case.fill = octets[0].wrapping_add(0x55);
-            run.check(case);
+            check(run, case);
             for other in &mut alone {
                 other.bytes[0].copy_from_slice(&octets[..len]);
                 other.fill = case.fill;
+                other.numbers[0] = u64::from(case.fill % 5);
                 run.check(other);
             }
+        }
+    }
+    let step = &mut Case::new(STEP);
+    for (len, n) in (0..=2).flat_map(|len| (0..1u32 << (8 * len)).map(move |n| (len, n))) {
+        step.bytes[0] = n.to_le_bytes()[..len].to_vec();
+        for offset in [0, 1, 2, 3, 1 << 63, u64::MAX] {
+            step.numbers[0] = offset;
+            check(run, step);
         }
     }
 }
@@ -63,17 +77,18 @@ fn ether_types(run: &mut Run, case: &mut Case) {
         for (kind, len) in [(1, 0), (2, 1), (1, 22), (5, 46)] {
             good(case, kind, len, 7);
             case.bytes[0][12..14].copy_from_slice(&ether_type.to_be_bytes());
-            run.check(case);
+            check(run, case);
         }
         eth.bytes[0].clone_from(&case.bytes[0]);
         eth.bytes[0].truncate(14 + ether_type as usize % 20);
-        run.check(eth);
+        check(run, eth);
     }
     for len in 0..=60 {
         for fill in [0, 0x5A, 0xFF] {
             eth.fill = fill;
             eth.bytes[0] = (0..len).map(|i| i as u8 * 3 + 1).collect();
             run.check(eth);
+            case.fill = fill;
             case.bytes[0].clone_from(&eth.bytes[0]);
             run.check(case);
         }
@@ -84,10 +99,10 @@ fn ether_types(run: &mut Run, case: &mut Case) {
 fn kinds(run: &mut Run, case: &mut Case) {
     for (first, len, other) in product3(256, 61, &[0, 0xFF, 0x5B]) {
         good(case, first as u8, len, other);
-        run.check(case);
+        check(run, case);
         if len > 0 {
             case.bytes[0][14] = first as u8;
-            run.check(case);
+            check(run, case);
         }
     }
     for (a, b) in product(256, 256) {
@@ -96,7 +111,7 @@ fn kinds(run: &mut Run, case: &mut Case) {
             good(case, kind, len, 0);
             case.bytes[0][14 + at[0]] = a as u8;
             case.bytes[0][14 + at[1]] = b as u8;
-            run.check(case);
+            check(run, case);
         }
     }
     for (a, len) in product(256, 61) {
@@ -105,7 +120,7 @@ fn kinds(run: &mut Run, case: &mut Case) {
             if at < len {
                 case.bytes[0][14 + at] = a as u8;
             }
-            run.check(case);
+            check(run, case);
         }
     }
 }
@@ -117,7 +132,7 @@ fn sizes(run: &mut Run, case: &mut Case) {
             good(case, kind, len, 0x5B);
             for size in 0..=0xFFFFu16 {
                 case.bytes[0][22..24].copy_from_slice(&size.to_le_bytes());
-                run.check(case);
+                check(run, case);
             }
         }
     }
@@ -128,7 +143,7 @@ fn sizes(run: &mut Run, case: &mut Case) {
                 let size = (len - 10 + 1).saturating_sub(short) as u16;
                 case.bytes[0][22..24].copy_from_slice(&size.to_le_bytes());
             }
-            run.check(case);
+            check(run, case);
         }
     }
 }
@@ -140,7 +155,7 @@ fn trims(run: &mut Run, case: &mut Case) {
             for before in [0, 0x33] {
                 let whole = |i| if i < last { before } else { 0 };
                 frame(case, len, |i| [6, 9, 8, 2].get(i).copied().unwrap_or(if i == last { b } else { whole(i) }));
-                run.check(case);
+                check(run, case);
             }
         }
     }
@@ -151,23 +166,23 @@ fn parts(run: &mut Run) {
     let status = &mut Case::new(STATUS);
     for (a, b) in product(256, 256) {
         status.bytes[0] = [a as u8, b as u8, 0x1D].into_iter().chain(3..14).collect();
-        run.check(status);
+        check(run, status);
     }
     for (state, len) in product(256, 140) {
         status.bytes[0] = (0..len).map(|i| if i == 2 { state as u8 } else { 0x11 + i as u8 }).collect();
-        run.check(status);
+        check(run, status);
         for at in (14..len).step_by(20).filter(|at| at + 1 < len) {
             status.bytes[0][at + 1] = (state as u8) << 4;
         }
-        run.check(status);
+        check(run, status);
     }
     let [entry, field, step] = &mut [ENTRY, FIELD, STEP].map(Case::new);
     for n in 0..=0xFFFFu16 {
         entry.bytes[0] = n.to_le_bytes().into_iter().chain(2..20).collect();
-        run.check(entry);
+        check(run, entry);
         step.bytes[0].clone_from(&entry.bytes[0]);
         step.numbers[0] = 0;
-        run.check(step);
+        check(run, step);
     }
     for (len, fill) in product(100, 256) {
         for case in [&mut *entry, &mut *field] {
@@ -180,7 +195,7 @@ fn parts(run: &mut Run) {
         step.bytes[0] = (0..len).map(|i| i as u8).collect();
         for offset in [offset as u64, u64::MAX - offset as u64, (1 << 63) - 80 + offset as u64] {
             step.numbers[0] = offset;
-            run.check(step);
+            check(run, step);
         }
     }
 }
@@ -228,7 +243,7 @@ fn targets(run: &mut Run, r: &mut Random, case: &mut Case) {
         for target in 0..=150 {
             case.target = target;
             some_values(r, case);
-            run.check(case);
+            check(run, case);
         }
         if !sliced && len > 9 {
             break;
@@ -248,7 +263,7 @@ fn codes(run: &mut Run, r: &mut Random, case: &mut Case) {
                 some_values(r, case);
                 case.numbers[i] = n;
                 case.target = case.needed().saturating_sub(short);
-                run.check(case);
+                check(run, case);
             }
         }
         for j in (0..i).filter(|j| small(*j)) {
@@ -257,7 +272,7 @@ fn codes(run: &mut Run, r: &mut Random, case: &mut Case) {
             for (n, m) in product(numbers[i].limit() as usize + 1, numbers[j].limit() as usize + 1) {
                 case.numbers[i] = n as u64;
                 case.numbers[j] = m as u64;
-                run.check(case);
+                check(run, case);
             }
         }
     }
@@ -266,7 +281,7 @@ fn codes(run: &mut Run, r: &mut Random, case: &mut Case) {
         case.target = case.needed() + 3;
         for n in 0..=0xFFFF {
             case.numbers[i] = n;
-            run.check(case);
+            check(run, case);
         }
     }
 }
@@ -279,7 +294,7 @@ fn long_payloads(run: &mut Run, r: &mut Random, case: &mut Case) {
         }
         for target in 0..9 {
             case.target = case.needed() + 4 - target;
-            run.check(case);
+            check(run, case);
         }
     }
 }
@@ -292,7 +307,7 @@ fn headers(run: &mut Run, r: &mut Random) {
             some_values(r, pl);
             pl.numbers[0] = message_type as u64;
             pl.target = target;
-            run.check(pl);
+            check(run, pl);
         }
     }
 }

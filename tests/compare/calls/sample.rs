@@ -31,8 +31,8 @@ use std::collections::BTreeMap;
 use std::io::{self, Write};
 
 /// How many random cases of one call with one cause, or of one kind of frame.
-const EACH: usize = 90;
-/// Records are at most this long, so that a program can hold one whole.
+const EACH: usize = 60;
+/// Records and targets are at most this long, so that a program can hold one whole.
 const MOST: usize = 4096;
 
 fn record(case: &Case, out: &Out) -> Vec<u8> {
@@ -105,9 +105,15 @@ fn make(r: &mut Random, case: &mut Case, call: usize, long: usize) {
     }
 }
 
-/// Cases at limits: every message type; every octet as a code and every length up to 60 of every kind of frame; the
-/// trimmed sections; each writer with payloads and targets around what it needs, and with every code.
-fn limits(r: &mut Random, add: &mut impl FnMut(&Case)) {
+/// Adds a case with another fill than the last.
+fn other(case: &mut Case, add: &mut impl FnMut(&Case)) {
+    case.fill = case.fill.wrapping_mul(5).wrapping_add(0x35);
+    add(case);
+}
+
+/// Cases at limits of what is read: every message type; every octet as a code and every length up to 60 of every kind of
+/// frame; payloads that end with the section, one octet before and one behind; the trimmed sections.
+fn read_limits(add: &mut impl FnMut(&Case)) {
     let mut case = Case::new(FRAME);
     let good = |kind: u8, len: usize| {
         let mut f = vec![1, 0x11, 0x1E, 0, 0, 3, 2, 4, 6, 8, 10, 12, 0x88, 0xAB];
@@ -126,23 +132,61 @@ fn limits(r: &mut Random, add: &mut impl FnMut(&Case)) {
     for kind in [1, 3, 4, 5, 6] {
         for len in 0..=60 {
             case.bytes[0] = good(kind, len);
-            add(&case);
+            other(&mut case, add);
+        }
+    }
+    for (kind, len) in [3, 4].into_iter().flat_map(|kind| [10, 11, 45, 46, 47, 60, 1500].map(|len| (kind, len))) {
+        for size in [len - 10, len - 9] {
+            case.bytes[0] = good(kind, len);
+            case.bytes[0][22..24].copy_from_slice(&(size as u16).to_le_bytes());
+            other(&mut case, add);
         }
     }
     for b in 0..=255 {
         for (kind, len, at) in [(1, 1, 0), (4, 10, 3), (5, 9, 6), (6, 4, 3)] {
             case.bytes[0] = good(kind, len);
             case.bytes[0][14 + at] = b;
-            add(&case);
+            other(&mut case, add);
         }
     }
     for len in [45, 46, 47] {
         for last in 3..len {
             case.bytes[0] = good(6, len);
             case.bytes[0][14 + last + 1..].fill(0);
-            add(&case);
+            other(&mut case, add);
         }
     }
+    part_limits(add);
+}
+
+/// Every length around what headers, error fields and entries need; every octet as the state of a StatusResponse; steps
+/// from every offset around an entry, of every mode.
+fn part_limits(add: &mut impl FnMut(&Case)) {
+    for (call, least) in [(ETH, 14), (PL, 3), (STATUS, 14), (FIELD, 8), (ENTRY, 20)] {
+        let mut case = Case::new(call);
+        for len in 0..=least + 3 {
+            case.bytes[0] = (0..len).map(|i| if i < 3 { [1, 255, 0x1D][i] } else { i as u8 }).collect();
+            other(&mut case, add);
+        }
+    }
+    let mut case = Case::new(STATUS);
+    for b in 0..=255 {
+        case.bytes[0] = [0x35, 0xFF, b].into_iter().chain(3..14).collect();
+        other(&mut case, add);
+    }
+    let mut case = Case::new(STEP);
+    for (len, mode) in [33, 34, 35, 54].into_iter().flat_map(|len| [0x00, 0x10, 0x20, 0x30].map(|mode| (len, mode))) {
+        case.bytes[0] = (0..len).map(|i| if i % 20 == 15 { mode | 0xC5 } else { i as u8 }).collect();
+        for offset in [0, 13, 14, 15, 34, 35, len as u64, len as u64 + 1, u64::MAX] {
+            case.numbers[0] = offset;
+            other(&mut case, add);
+        }
+    }
+}
+
+/// Cases at limits of what is written: each writer with payloads and targets around what it needs, and with every code.
+fn write_limits(r: &mut Random, add: &mut impl FnMut(&Case)) {
+    let mut case = Case::new(WRITE_SOC);
     for call in WRITE_SOC..=NEW_ASND {
         writer(r, &mut case, call, 0);
         let slice = case.shape().bytes.iter().position(|b| !matches!(b, Octets::Array(_)));
@@ -186,7 +230,8 @@ pub fn write(to: &mut impl Write) -> io::Result<()> {
         theirs.answer(case, &mut out).expect("an answer of the Rust that no row lists");
         (key(case, &out), record(case, &out))
     };
-    limits(r, &mut |case| records.push(answer(case).1));
+    read_limits(&mut |case| records.push(answer(case).1));
+    write_limits(r, &mut |case| records.push(answer(case).1));
     for call in 1..=CALLS {
         for i in 0..40_000 {
             make(r, &mut case, call, usize::from(i % 8 == 0));
@@ -203,7 +248,7 @@ pub fn write(to: &mut impl Write) -> io::Result<()> {
             assert!(held.keys().any(|(c, n, _)| (*c, n) == (call, cause)), "no case of {} with {cause}", shape.name);
         }
     }
-    assert!(records.iter().all(|octets| octets.len() <= MOST));
+    assert!(records.iter().all(|octets| octets.len() <= MOST && u16::from_le_bytes([octets[4], octets[5]]) as usize <= MOST));
     records.sort_by_key(|octets| octets[2]);
     to.write_all(b"PLC1")?;
     to.write_all(&(records.len() as u32).to_le_bytes())?;
