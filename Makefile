@@ -1,9 +1,14 @@
 .PHONY: demo test bench
 
-# The main job, proved and run.
+# The main job, proved and run; then what the box handed out, as the journal has it. The listing has a line for each of
+# thousands of records, so its first and last lines are shown.
 demo:
-	rt check demo
-	./target/bin/demo
+	rt check demo journal
+	./target/bin/demo target/demo.journal
+	./target/bin/journal < target/demo.journal > target/demo.listing
+	@sed -e '8s/.*/../' -e 8q target/demo.listing
+	@tail -n 3 target/demo.listing
+	@echo "all of it: ./target/bin/journal < target/demo.journal"
 
 # The gate, and nothing else.
 test:

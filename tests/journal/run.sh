@@ -136,3 +136,4 @@ fi
 cmp /dev/null "$dir/errors"
 
 echo "journal: $count listings are as written by hand"
+"$(dirname "$0")/demo.sh"

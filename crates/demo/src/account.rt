@@ -18,10 +18,18 @@ impl Head {
         self
     }
 
-    pub fn was_refused(mut self) -> Self {
+    fn was_refused(mut self) -> Self {
         let refused = more(self.refused);
         self.refused = refused;
         self
+    }
+
+    // An entry was raised, and accepted or not.
+    pub fn has_raised(self, accepted: bool) -> Self {
+        if accepted {
+            return self.raised(1);
+        }
+        self.was_refused()
     }
 
     // An answer was written and sent: with no batch open, it opens one.
@@ -40,7 +48,7 @@ impl Head {
     }
 
     // The box booked what the answer with this number carries; `requests` were sent before.
-    pub fn was_booked(mut self, number: u64, requests: u64) -> Self {
+    fn was_booked(mut self, number: u64, requests: u64) -> Self {
         if number < self.opened_at {
             return self;
         }
@@ -51,7 +59,7 @@ impl Head {
         self
     }
 
-    pub fn closed(mut self) -> Self {
+    fn closed(mut self) -> Self {
         self.open = 0;
         self.open_is_booked = false;
         self
@@ -64,19 +72,37 @@ impl Head {
     }
 
     // The box is given the answer with this number.
-    pub fn box_reads(mut self, number: u64) -> Self {
+    fn box_reads(mut self, number: u64) -> Self {
         let answers = self.answers;
         let after = answers.given(number);
         self.answers = after;
         self
     }
 
+    // The box was given the answer with this number, and booked it or not.
+    pub fn box_has_read(self, booked: bool, number: u64, requests: u64) -> Self {
+        let after = self.box_reads(number);
+        if booked {
+            return after.was_booked(number, requests);
+        }
+        after
+    }
+
     // The head is given the request with this number.
-    pub fn reads(mut self, number: u64) -> Self {
+    fn reads(mut self, number: u64) -> Self {
         let requests = self.requests;
         let after = requests.given(number);
         self.requests = after;
         self
+    }
+
+    // The head was given the request with this number, and closed its batch or not.
+    pub fn has_read(self, closed: bool, number: u64) -> Self {
+        let after = self.reads(number);
+        if closed {
+            return after.closed();
+        }
+        after
     }
 
     // Nothing between the head and the box is under way any more.

@@ -1,88 +1,113 @@
-// The calls of the box for a head. Each is judged by what 01 has it come to, and counted in the head's account.
+// The calls of the box for the head whose turn it is. Each is judged by what 01 has it come to, and counted in the head's
+// account.
 use crate::entries::entry;
 use crate::entries::same;
 use crate::expected;
+use crate::expected::REQUEST_LEN;
 use crate::fields::request_fields;
 use crate::head::Head;
+use crate::journal;
 use crate::line::BOX;
-use crate::line::Line;
 use crate::line::Pick;
 use crate::line::send;
 use crate::line::sent;
 use crate::outcome;
 use crate::outcome::DONE;
+use crate::tally::RECORDS;
 use crate::tally::REQUESTS;
-use crate::tally::Tally;
 use crate::tally::count;
 use crate::tally::counted;
-use crate::tally::demand;
 use crate::tally::judge;
 use crate::target::FILL;
 use crate::target::ROOM;
-use crate::target::rest_as_it_was;
+use crate::target::only_these;
 use crate::target::target_in;
 use crate::target::written;
-use collector::Collector;
+use crate::world::World;
 use collector::TakeAnswer;
+use error_entry::ErrorEntry;
+use journal_records::RECORD_LEN;
 use types::NodeId;
 
-pub fn register(head: Head, state: &mut Collector, expected: u64, tally: &mut Tally) -> Head {
-    let got = outcome::of_register(collector::register(state, NodeId(head.id)));
-    judge(tally, got, expected);
+pub fn register(mut world: World, expected: u64) -> World {
+    let head = world.head;
+    let got = outcome::of_register(collector::register(&mut world.at_box, NodeId(head.id)));
+    judge(&mut world.tally, got, expected, true);
     if got == DONE {
-        return head.was_registered();
+        let after = head.was_registered();
+        world.head = after;
     }
-    head
+    world
 }
 
 // Reads the answer of the head that the line gives.
-pub fn read(
-    head: Head,
-    state: &mut Collector,
-    line: &Line,
-    tally: &mut Tally,
-    chance: u64,
-) -> Head {
+pub fn read(mut world: World, chance: u64) -> World {
+    let head = world.head;
     let place = head.answers;
     let Pick::Frame(number) = place.pick(head.sent, chance) else {
-        return head;
+        return world;
     };
-    let got = outcome::of_box_reading(collector::read(state, sent(line, head.number, number)));
-    judge(tally, got, expected::booking(head, number));
-    let after = head.box_reads(number);
-    if got == DONE {
-        return after.was_booked(number, counted(tally, REQUESTS));
-    }
-    after
+    let line = world.line;
+    let frame = sent(&line, head.number, number);
+    let got = outcome::of_box_reading(collector::read(&mut world.at_box, frame));
+    judge(&mut world.tally, got, expected::booking(head, number), true);
+    let after = head.box_has_read(got == DONE, number, counted(&world.tally, REQUESTS));
+    world.head = after;
+    world
 }
 
 // Writes a request to the head into a target of `room` octets, and sends it.
-pub fn request(head: Head, state: &Collector, line: &mut Line, tally: &mut Tally, room: usize) {
+pub fn request(mut world: World, room: usize) -> World {
+    let head = world.head;
     let mut space = [FILL; ROOM];
-    let id = NodeId(head.id);
-    let got = collector::request(state, id, request_fields(), target_in(&mut space, room));
-    judge(
-        tally,
-        outcome::of_request(got),
-        expected::requesting(head, room),
-    );
+    let target = target_in(&mut space, room);
+    let got = collector::request(&world.at_box, NodeId(head.id), request_fields(), target);
     let n = outcome::request_length(got);
-    demand(tally, rest_as_it_was(&space, n));
-    if n == 0 {
-        return;
+    let expected = expected::requesting(head, room);
+    let right = only_these(&space, n, REQUEST_LEN);
+    judge(&mut world.tally, outcome::of_request(got), expected, right);
+    if n == REQUEST_LEN {
+        let number = counted(&world.tally, REQUESTS);
+        send(&mut world.line, BOX, number, written(&space, n));
+        count(&mut world.tally, REQUESTS);
     }
-    demand(tally, n == 60);
-    send(line, BOX, counted(tally, REQUESTS), written(&space, n));
-    count(tally, REQUESTS);
+    world
+}
+
+// Makes the record of an entry that was taken, and counts it.
+fn record(mut world: World, id: u8, e: ErrorEntry) -> World {
+    let mut octets = [0u8; RECORD_LEN];
+    if journal::make(id, e, &mut octets) {
+        count(&mut world.tally, RECORDS);
+        world.journal = journal::keep_record(world.journal, &octets);
+    }
+    world
+}
+
+// Whether an entry that was handed out is the next one that the head raised.
+fn is_next(head: Head, answer: TakeAnswer) -> bool {
+    match answer {
+        TakeAnswer::Taken(e) => same(e, entry(head.number, head.taken)),
+        TakeAnswer::NotRegistered => true,
+        TakeAnswer::NothingBooked => true,
+    }
 }
 
 // Takes the oldest entry of the head, which has to be the next one that it raised.
-pub fn take(head: Head, state: &mut Collector, tally: &mut Tally) -> Head {
-    let got = collector::take(state, NodeId(head.id));
-    judge(tally, outcome::of_take(got), expected::taking(head));
+pub fn take(mut world: World) -> World {
+    let head = world.head;
+    let got = collector::take(&mut world.at_box, NodeId(head.id));
+    let next = is_next(head, got);
+    judge(
+        &mut world.tally,
+        outcome::of_take(got),
+        expected::taking(head),
+        next,
+    );
     let TakeAnswer::Taken(e) = got else {
-        return head;
+        return world;
     };
-    demand(tally, same(e, entry(head.number, head.taken)));
-    head.took()
+    let after = head.took();
+    world.head = after;
+    record(world, head.id, e)
 }

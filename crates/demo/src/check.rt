@@ -2,10 +2,11 @@
 use crate::entries::entry;
 use crate::entries::same;
 use crate::head::Head;
-use crate::tally::Tally;
 use crate::tally::demand;
 use crate::tally::more;
 use crate::tally::plus;
+use crate::world::Scene;
+use crate::world::World;
 use collector::Collector;
 use collector::TakeAnswer;
 use types::NodeId;
@@ -44,12 +45,20 @@ fn accounted(head: Head, state: &Collector) -> bool {
     }
 }
 
-pub fn one(head: Head, state: &Collector, tally: &mut Tally) {
-    demand(tally, accounted(head, state));
+// Looks at the head whose turn it is.
+pub fn one(mut world: World) -> World {
+    let right = accounted(world.head, &world.at_box);
+    demand(&mut world.tally, right);
+    world
 }
 
-pub fn all(heads: [Head; 5], state: &Collector, tally: &mut Tally) {
+// Looks at every head.
+pub fn all(scene: Scene) -> Scene {
+    let heads = scene.heads;
+    let mut world = scene.world;
     for k in 0..5usize {
-        one(heads[k], state, tally);
+        let right = accounted(heads[k], &world.at_box);
+        demand(&mut world.tally, right);
     }
+    Scene { heads, world }
 }

@@ -3,48 +3,41 @@ use crate::box_calls;
 use crate::check;
 use crate::head::Head;
 use crate::head_calls;
-use crate::line::Line;
 use crate::print::number;
 use crate::print::say;
-use crate::simulate::States;
 use crate::tally::REQUESTS;
-use crate::tally::Tally;
 use crate::tally::counted;
 use crate::tally::demand;
 use crate::tally::plus;
 use crate::target::ROOM;
-use collector::Collector;
-use reporter::Reporter;
+use crate::world::Scene;
+use crate::world::World;
 
 // The line gives the next frame that was not given yet.
 const IN_ORDER: u64 = 15;
 
 // Takes what is booked of the head; no book holds more than 64.
-fn take_all(head: Head, at_box: &mut Collector, tally: &mut Tally) -> Head {
-    let mut h = head;
+fn take_all(world: World) -> World {
+    let mut w = world;
     for _ in 0..64u64 {
-        if h.in_book() == 0 {
-            return h;
+        let head = w.head;
+        if head.in_book() == 0 {
+            return w;
         }
-        h = box_calls::take(h, at_box, tally);
+        w = box_calls::take(w);
     }
-    h
+    w
 }
 
 // One answer read by the box, then its next request read by the head.
-fn exchange(
-    head: Head,
-    state: &mut Reporter,
-    at_box: &mut Collector,
-    line: &mut Line,
-    tally: &mut Tally,
-) -> Head {
-    let answered = head_calls::answer(head, state, line, tally, ROOM);
-    let booked = box_calls::read(answered, at_box, line, tally, IN_ORDER);
-    box_calls::request(booked, at_box, line, tally, ROOM);
-    head_calls::read(booked, state, line, tally, IN_ORDER)
+fn exchange(world: World) -> World {
+    let answered = head_calls::answer(world, ROOM);
+    let booked = box_calls::read(answered, IN_ORDER);
+    let requested = box_calls::request(booked, ROOM);
+    head_calls::read(requested, IN_ORDER)
 }
 
+// How many entries the head has open or waiting.
 fn held(head: Head) -> u64 {
     plus(head.open, head.waiting)
 }
@@ -57,61 +50,54 @@ fn report(head: Head, exchanges: u64) {
 }
 
 // Runs exchanges until the head holds nothing: at most as many as it holds entries.
-fn close(
-    head: Head,
-    state: &mut Reporter,
-    at_box: &mut Collector,
-    line: &mut Line,
-    tally: &mut Tally,
-) -> Head {
-    let w = held(head);
-    let mut h = head;
-    for turn in 0..w {
-        if held(h) == 0 {
+fn close(world: World) -> World {
+    let head = world.head;
+    let most = held(head);
+    let mut w = world;
+    for turn in 0..most {
+        if held(w.head) == 0 {
             report(head, turn);
-            return h;
+            return w;
         }
-        h = exchange(h, state, at_box, line, tally);
-        check::one(h, at_box, tally);
+        w = check::one(exchange(w));
     }
-    demand(tally, held(h) == 0);
-    report(head, w);
-    h
+    let left = held(w.head);
+    demand(&mut w.tally, left == 0);
+    report(head, most);
+    w
 }
 
-fn finish(
-    head: Head,
-    state: &mut Reporter,
-    at_box: &mut Collector,
-    line: &mut Line,
-    tally: &mut Tally,
-) -> Head {
-    if !head.registered {
-        number(b"head ", head.id as u64);
-        number(b": not registered, entries that stay with it ", held(head));
-        say(b"\n");
-        return head;
-    }
-    let cleared = head.line_cleared(counted(tally, REQUESTS));
-    let emptied = take_all(cleared, at_box, tally);
-    let closed = close(emptied, state, at_box, line, tally);
-    let taken = take_all(closed, at_box, tally);
-    demand(tally, taken.taken == taken.accepted);
-    taken
+fn stays(head: Head) {
+    number(b"head ", head.id as u64);
+    number(b": not registered, entries that stay with it ", held(head));
+    say(b"\n");
 }
 
-pub fn all(
-    heads: [Head; 5],
-    states: &mut States,
-    at_box: &mut Collector,
-    line: &mut Line,
-    tally: &mut Tally,
-) {
-    let mut all = heads;
+// All that a registered head has accepted is taken in the end.
+fn clear(mut world: World) -> World {
+    let head = world.head;
+    let cleared = head.line_cleared(counted(&world.tally, REQUESTS));
+    world.head = cleared;
+    let mut w = take_all(close(take_all(world)));
+    let after = w.head;
+    demand(&mut w.tally, after.taken == after.accepted);
+    w
+}
+
+fn finish(world: World) -> World {
+    let head = world.head;
+    if head.registered {
+        return clear(world);
+    }
+    stays(head);
+    world
+}
+
+pub fn all(scene: Scene) -> Scene {
+    let mut s = scene;
     for k in 0..5usize {
-        let mut state = states[k];
-        all[k] = finish(all[k], &mut state, at_box, line, tally);
-        states[k] = state;
-        check::all(all, at_box, tally);
+        let world = finish(s.turn_of(k));
+        s = check::all(s.after(world));
     }
+    s
 }

@@ -9,6 +9,9 @@ use crate::tally::plus;
 // The places of a book.
 const BOOK_LEN: u64 = 64;
 
+// The octets of a request.
+pub const REQUEST_LEN: usize = 60;
+
 // The octets of an answer with `n` entries: 52 and 20 for each, and 60 without.
 pub fn answer_len(n: u64) -> usize {
     match n {
@@ -57,7 +60,7 @@ pub fn requesting(head: Head, room: usize) -> u64 {
     if !head.registered {
         return 11;
     }
-    writing(60, room)
+    writing(REQUEST_LEN, room)
 }
 
 // The head's reading of the request with this number and target.

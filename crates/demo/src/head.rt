@@ -1,8 +1,10 @@
 // A head's account: what 01's rules make of the calls, counted from their answers alone. Nothing here looks into the octets of
 // a state.
 use crate::line::Reading;
+use crate::scene;
 use crate::tally::less;
 use crate::tally::plus;
+use reporter::Reporter;
 
 pub struct Head {
     // The head as a sender on the line, and as the maker of its entries.
@@ -30,10 +32,13 @@ pub struct Head {
     pub answers: Reading,
     // How far the head has come in the box's requests.
     pub requests: Reading,
+    // What the calls are given; another supplier's head has no use for it.
+    pub state: Reporter,
 }
 
 impl Head {
     pub fn fresh(number: usize, id: u8, most: u64) -> Self {
+        let state = scene::head(id);
         Self {
             number,
             id,
@@ -51,6 +56,7 @@ impl Head {
             sent: 0,
             answers: Reading::start(),
             requests: Reading::start(),
+            state,
         }
     }
 

@@ -1,26 +1,24 @@
-// The calls of a head. Each is judged by what 01 has it come to, and counted in the head's account.
+// The calls of the head whose turn it is. Each is judged by what 01 has it come to, and counted in the head's account.
 use crate::entries;
 use crate::expected;
 use crate::fields::answer_fields;
 use crate::foreign;
 use crate::head::Head;
 use crate::line::BOX;
-use crate::line::Line;
 use crate::line::Pick;
 use crate::line::send;
 use crate::line::sent;
 use crate::outcome;
 use crate::outcome::DONE;
 use crate::tally::REQUESTS;
-use crate::tally::Tally;
 use crate::tally::counted;
-use crate::tally::demand;
 use crate::tally::judge;
 use crate::target::FILL;
 use crate::target::ROOM;
-use crate::target::rest_as_it_was;
+use crate::target::only_these;
 use crate::target::target_in;
 use crate::target::written;
+use crate::world::World;
 use error_entry::ErrorEntry;
 use octets::slices::byte_at;
 use reporter::ReadAnswer;
@@ -35,35 +33,37 @@ pub fn is_ours(head: Head) -> bool {
     head.number < 4
 }
 
-fn raise_entry(
-    head: Head,
-    state: &mut Reporter,
-    e: ErrorEntry,
-    expected: u64,
-    tally: &mut Tally,
-) -> Head {
-    let got = outcome::of_raise(reporter::raise(state, e));
-    judge(tally, got, expected);
-    if got == DONE {
-        return head.raised(1);
-    }
-    head.was_refused()
+fn raise_entry(mut world: World, e: ErrorEntry, expected: u64) -> World {
+    let mut head = world.head;
+    let got = outcome::of_raise(reporter::raise(&mut head.state, e));
+    judge(&mut world.tally, got, expected, true);
+    let after = head.has_raised(got == DONE);
+    world.head = after;
+    world
 }
 
-// Raises an entry, now and then an invalid one. A batch of the other supplier's head comes about at once.
-pub fn raise(head: Head, state: &mut Reporter, tally: &mut Tally, chance: u64) -> Head {
+// A batch of the other supplier's head comes about at once.
+fn raise_batch(mut world: World) -> World {
+    let head = world.head;
+    if head.waiting == 0 {
+        let after = head.raised(foreign::BATCH);
+        world.head = after;
+    }
+    world
+}
+
+// Raises an entry, now and then an invalid one.
+pub fn raise(world: World, chance: u64) -> World {
+    let head = world.head;
     if !is_ours(head) {
-        if 0 < head.waiting {
-            return head;
-        }
-        return head.raised(foreign::BATCH);
+        return raise_batch(world);
     }
     match chance % 16 {
-        0 => raise_entry(head, state, entries::of_mode_0(), 8, tally),
-        1 => raise_entry(head, state, entries::of_profile_4096(), 8, tally),
+        0 => raise_entry(world, entries::of_mode_0(), 8),
+        1 => raise_entry(world, entries::of_profile_4096(), 8),
         _ => {
             let e = entries::entry(head.number, head.accepted);
-            raise_entry(head, state, e, expected::raising(head), tally)
+            raise_entry(world, e, expected::raising(head))
         }
     }
 }
@@ -76,25 +76,21 @@ fn write_answer(head: Head, state: &mut Reporter, target: &mut [u8]) -> WriteAns
 }
 
 // Answers into a target of `room` octets, and sends what is written.
-pub fn answer(
-    head: Head,
-    state: &mut Reporter,
-    line: &mut Line,
-    tally: &mut Tally,
-    room: usize,
-) -> Head {
+pub fn answer(mut world: World, room: usize) -> World {
+    let mut head = world.head;
     let len = expected::answer_len(head.carried());
     let mut space = [FILL; ROOM];
-    let got = write_answer(head, state, target_in(&mut space, room));
-    judge(tally, outcome::of_write(got), expected::writing(len, room));
+    let got = write_answer(head, &mut head.state, target_in(&mut space, room));
     let n = outcome::length_of(got);
-    demand(tally, rest_as_it_was(&space, n));
-    if n == 0 {
-        return head;
+    let expected = expected::writing(len, room);
+    let right = only_these(&space, n, len);
+    judge(&mut world.tally, outcome::of_write(got), expected, right);
+    if 0 < n {
+        send(&mut world.line, head.number, head.sent, written(&space, n));
+        let after = head.answered();
+        world.head = after;
     }
-    demand(tally, n == len);
-    send(line, head.number, head.sent, written(&space, n));
-    head.answered()
+    world
 }
 
 fn read_frame(head: Head, state: &mut Reporter, frame: &[u8]) -> ReadAnswer {
@@ -105,21 +101,18 @@ fn read_frame(head: Head, state: &mut Reporter, frame: &[u8]) -> ReadAnswer {
 }
 
 // Reads the request that the line gives.
-pub fn read(head: Head, state: &mut Reporter, line: &Line, tally: &mut Tally, chance: u64) -> Head {
+pub fn read(mut world: World, chance: u64) -> World {
+    let mut head = world.head;
     let place = head.requests;
-    let Pick::Frame(number) = place.pick(counted(tally, REQUESTS), chance) else {
-        return head;
+    let Pick::Frame(number) = place.pick(counted(&world.tally, REQUESTS), chance) else {
+        return world;
     };
-    let frame = sent(line, BOX, number);
-    let got = outcome::of_head_reading(read_frame(head, state, frame));
-    judge(
-        tally,
-        got,
-        expected::hearing(head, number, byte_at(frame, TARGET)),
-    );
-    let after = head.reads(number);
-    if got == DONE {
-        return after.closed();
-    }
-    after
+    let line = world.line;
+    let frame = sent(&line, BOX, number);
+    let expected = expected::hearing(head, number, byte_at(frame, TARGET));
+    let got = outcome::of_head_reading(read_frame(head, &mut head.state, frame));
+    judge(&mut world.tally, got, expected, true);
+    let after = head.has_read(got == DONE, number);
+    world.head = after;
+    world
 }

@@ -2,7 +2,8 @@
 // by one. Then the simulation: after every call, each entry that a head accepted has to be in one place and only once.
 //
 // Heads 7, 120 and 239 are ours and registered; 21 is ours and is not; 200 is another supplier's. The run has no input
-// and is the same each time, so what it writes is compared with what is stored.
+// and is the same each time, so what it writes is compared with what is stored. With the name of a file, what the box hands
+// out is written there as a journal.
 mod account;
 mod box_calls;
 mod box_cases;
@@ -16,6 +17,7 @@ mod fields;
 mod foreign;
 mod head;
 mod head_calls;
+mod journal;
 mod line;
 mod odd;
 mod outcome;
@@ -26,15 +28,23 @@ mod strange;
 mod table;
 mod tally;
 mod target;
+mod world;
 
 use collector::COLLECTOR_LEN;
-use collector::Collector;
 use head::Head;
+use libc::STDERR_FILENO;
 use line::LINE_LEN;
+use octets::slices::front;
 use outcome::DONE;
+use print::number;
 use print::say;
-use simulate::States;
+use tally::RECORDS;
 use tally::Tally;
+use tally::counted;
+use tally::demand;
+use tally::plus;
+use world::Scene;
+use world::World;
 
 // Before the fourth head is registered, and after.
 const FIRST_PART: u64 = 20000;
@@ -51,31 +61,37 @@ fn all_heads() -> [Head; 5] {
     ]
 }
 
-fn all_states() -> States {
-    [
-        scene::head(7),
-        scene::head(21),
-        scene::head(120),
-        scene::head(239),
-        scene::head(200),
-    ]
+fn start(journal: i32, tally: Tally) -> Scene {
+    let heads = all_heads();
+    let head = heads[0];
+    let mut at_box = [0u8; COLLECTOR_LEN];
+    collector::new(&mut at_box);
+    let line = [0u8; LINE_LEN];
+    let world = World {
+        head,
+        at_box,
+        line,
+        tally,
+        journal,
+    };
+    Scene { heads, world }
+}
+
+fn register(scene: Scene, number: usize, expected: u64) -> Scene {
+    scene.after(box_calls::register(scene.turn_of(number), expected))
 }
 
 // Three of our heads are registered from the start.
-fn first_three(heads: [Head; 5], state: &mut Collector, tally: &mut Tally) -> [Head; 5] {
-    let mut all = heads;
-    all[0] = box_calls::register(all[0], state, DONE, tally);
-    all[2] = box_calls::register(all[2], state, DONE, tally);
-    all[3] = box_calls::register(all[3], state, DONE, tally);
-    all
+fn first_three(scene: Scene) -> Scene {
+    let first = register(scene, 0, DONE);
+    let second = register(first, 2, DONE);
+    register(second, 3, DONE)
 }
 
 // The other supplier's head takes the fourth place, so there is none for 21.
-fn fourth(heads: [Head; 5], state: &mut Collector, tally: &mut Tally) -> [Head; 5] {
-    let mut all = heads;
-    all[4] = box_calls::register(all[4], state, DONE, tally);
-    all[1] = box_calls::register(all[1], state, 15, tally);
-    all
+fn fourth(scene: Scene) -> Scene {
+    let full = register(scene, 4, DONE);
+    register(full, 1, 15)
 }
 
 fn lines_to_check(tally: &mut Tally) {
@@ -89,26 +105,46 @@ fn lines_to_check(tally: &mut Tally) {
     box_cases::full_book(tally);
 }
 
-fn exchange(tally: &mut Tally) {
-    let mut line = [0u8; LINE_LEN];
-    let mut state = [0u8; COLLECTOR_LEN];
-    let mut states = all_states();
-    collector::new(&mut state);
-    let start = first_three(all_heads(), &mut state, tally);
-    let first = simulate::run(start, &mut states, &mut state, &mut line, tally, FIRST_PART);
-    let more = fourth(first, &mut state, tally);
-    let last = simulate::run(more, &mut states, &mut state, &mut line, tally, SECOND_PART);
+// The simulation on a bad line, then on a good one.
+fn exchange(scene: Scene) -> Scene {
+    let first = simulate::run(first_three(scene), FIRST_PART);
+    let last = simulate::run(fourth(first), SECOND_PART);
     say(b"the simulation: entries, then answers on their way to the box\n");
-    table::heads(last);
-    table::totals(tally);
+    let shown = table::totals(table::heads(last));
     say(b"the line is good from here on\n");
-    closing::all(last, &mut states, &mut state, &mut line, tally);
+    closing::all(shown)
 }
 
-fn main() {
+fn play(journal: i32) {
     let mut tally = [0u64; 32];
     say(b"lines to check: a number is the cause of a refusal, or a length\n");
     lines_to_check(&mut tally);
-    exchange(&mut tally);
-    table::verdict(&tally);
+    table::verdict(exchange(start(journal, tally)));
+}
+
+// Plays with the journal that the argument names.
+fn play_to_file() {
+    let mut path = io::buffer();
+    let n = os::arg(1, &mut path);
+    if os::errno() != 0 {
+        os::fail(b"demo");
+        return;
+    }
+    let journal = journal::start(front(&path, n));
+    if 0 <= journal {
+        play(journal);
+    }
+}
+
+fn main() {
+    match os::arg_count() {
+        0..=1 => play(journal::NONE),
+        2 => play_to_file(),
+        _ => {
+            io::write_all(
+                STDERR_FILENO,
+                b"usage: demo [FILE]\nWith FILE, what the box hands out is written there as a journal.\n",
+            );
+        }
+    }
 }

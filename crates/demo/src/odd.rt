@@ -1,84 +1,123 @@
 // Calls with octets that neither the head nor the box has sent, calls for a node that is not registered, and registering
 // that is refused.
-use crate::box_calls;
-use crate::head::Head;
 use crate::line::BOX;
-use crate::line::Line;
 use crate::line::sent;
 use crate::outcome;
 use crate::outcome::IGNORED;
+use crate::scene;
 use crate::strange::STRANGER;
 use crate::strange::damage;
 use crate::strange::disguise;
 use crate::tally::REQUESTS;
-use crate::tally::Tally;
 use crate::tally::counted;
 use crate::tally::judge;
 use crate::target::ROOM;
+use crate::target::Space;
 use crate::target::written;
+use crate::world::World;
 use collector::Collector;
 use octets::slices::put;
-use reporter::Reporter;
+
+// Makes of a frame in `space` octets of one of ten kinds, and answers how many: damaged ones, or a frame of another kind or
+// node.
+fn spoil(space: &mut Space, len: usize, kind: u64, id: u8) -> usize {
+    if kind < 7 {
+        return damage(space, len, kind + 1);
+    }
+    disguise(space, kind - 7, id);
+    len
+}
+
+// What the box makes of octets of a kind.
+fn box_makes(kind: u64) -> u64 {
+    match kind {
+        0..=6 => kind + 1,
+        7 => 11,
+        _ => 10,
+    }
+}
 
 // The box is given damaged octets, or a frame of another kind or node.
-pub fn to_box(head: Head, state: &mut Collector, line: &Line, tally: &mut Tally, chance: u64) {
+pub fn to_box(mut world: World, chance: u64) -> World {
+    let head = world.head;
     if head.sent == 0 {
-        return;
+        return world;
     }
-    let frame = sent(line, head.number, head.sent - 1);
+    let kind = chance % 10;
+    let frame = sent(&world.line, head.number, head.sent - 1);
     let mut space = [0u8; ROOM];
     put(&mut space, 0, frame);
-    let kind = chance % 10;
-    if kind < 7 {
-        let n = damage(&mut space, frame.len(), kind + 1);
-        let got = outcome::of_box_reading(collector::read(state, written(&space, n)));
-        judge(tally, got, kind + 1);
-        return;
+    let n = spoil(&mut space, frame.len(), kind, head.id);
+    let got = collector::read(&mut world.at_box, written(&space, n));
+    judge(
+        &mut world.tally,
+        outcome::of_box_reading(got),
+        box_makes(kind),
+        true,
+    );
+    world
+}
+
+// What a head makes of octets of a kind.
+fn head_makes(kind: u64) -> u64 {
+    match kind {
+        0..=6 => kind + 1,
+        _ => IGNORED,
     }
-    disguise(&mut space, kind - 7, head.id);
-    let got = outcome::of_box_reading(collector::read(state, written(&space, frame.len())));
-    judge(tally, got, if kind == 7 { 11 } else { 10 });
 }
 
 // The head is given damaged octets, or a frame of another node.
-pub fn to_head(head: Head, state: &mut Reporter, line: &Line, tally: &mut Tally, chance: u64) {
-    let requests = counted(tally, REQUESTS);
+pub fn to_head(mut world: World, chance: u64) -> World {
+    let requests = counted(&world.tally, REQUESTS);
     if requests == 0 {
-        return;
+        return world;
     }
-    let frame = sent(line, BOX, requests - 1);
+    let mut head = world.head;
+    let kind = chance % 10;
+    let frame = sent(&world.line, BOX, requests - 1);
     let mut space = [0u8; ROOM];
     put(&mut space, 0, frame);
-    let kind = chance % 10;
-    if kind < 7 {
-        let n = damage(&mut space, frame.len(), kind + 1);
-        let got = outcome::of_head_reading(reporter::read(state, written(&space, n)));
-        judge(tally, got, kind + 1);
-        return;
+    let n = spoil(&mut space, frame.len(), kind, head.id);
+    let got = reporter::read(&mut head.state, written(&space, n));
+    judge(
+        &mut world.tally,
+        outcome::of_head_reading(got),
+        head_makes(kind),
+        true,
+    );
+    world.head = head;
+    world
+}
+
+// One of five calls that the box refuses.
+fn refused(at_box: &mut Collector, kind: u64, id: u8) -> u64 {
+    match kind {
+        0 => scene::take(at_box, STRANGER),
+        1 => scene::request(at_box, STRANGER, 40),
+        2 => scene::register(at_box, 0),
+        3 => scene::register(at_box, 240),
+        _ => scene::register(at_box, id),
     }
-    disguise(&mut space, kind - 7, head.id);
-    let got = outcome::of_head_reading(reporter::read(state, written(&space, frame.len())));
-    judge(tally, got, IGNORED);
+}
+
+fn refusal(kind: u64) -> u64 {
+    match kind {
+        0..=1 => 11,
+        2..=3 => 13,
+        _ => 14,
+    }
 }
 
 // Calls for nodes that are not registered, and registering that is refused.
-pub fn for_box(head: Head, state: &mut Collector, line: &mut Line, tally: &mut Tally, chance: u64) {
-    let stranger = Head::fresh(4, STRANGER, 4);
-    match chance % 5 {
-        0 => {
-            box_calls::take(stranger, state, tally);
-        }
-        1 => box_calls::request(stranger, state, line, tally, 40),
-        2 => {
-            box_calls::register(Head::fresh(4, 0, 4), state, 13, tally);
-        }
-        3 => {
-            box_calls::register(Head::fresh(4, 240, 4), state, 13, tally);
-        }
-        _ => {
-            if head.registered {
-                box_calls::register(head, state, 14, tally);
-            }
+pub fn for_box(mut world: World, chance: u64) -> World {
+    let head = world.head;
+    let kind = chance % 5;
+    if kind == 4 {
+        if !head.registered {
+            return world;
         }
     }
+    let got = refused(&mut world.at_box, kind, head.id);
+    judge(&mut world.tally, got, refusal(kind), true);
+    world
 }

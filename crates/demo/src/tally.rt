@@ -6,6 +6,9 @@ pub const CALLS: usize = 21;
 // What does not hold that 01 says of a call, or of the calls so far.
 pub const FAULTS: usize = 22;
 
+// Records made of what was taken.
+pub const RECORDS: usize = 23;
+
 pub type Tally = [u64; 32];
 
 // No run counts as far as the largest number.
@@ -36,11 +39,12 @@ pub fn demand(tally: &mut Tally, holds: bool) {
     }
 }
 
-// Counts a call with its outcome, which has to be the one that 01 gives it.
-pub fn judge(tally: &mut Tally, outcome: u64, expected: u64) {
+// Counts a call with its outcome, which has to be the one that 01 gives it; and what else has to hold of it.
+pub fn judge(tally: &mut Tally, outcome: u64, expected: u64, holds: bool) {
     count(tally, CALLS);
     if outcome < 20 {
         count(tally, (outcome % 20) as usize);
     }
     demand(tally, outcome == expected);
+    demand(tally, holds);
 }

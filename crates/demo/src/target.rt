@@ -35,7 +35,13 @@ fn only_fill(s: &[u8]) -> bool {
     true
 }
 
-// Whether the octets behind the first `n` are those from before the call.
-pub fn rest_as_it_was(space: &Space, n: usize) -> bool {
+// Whether a writer that answers `n` has written all of `len` octets or none, and nothing behind.
+pub fn only_these(space: &Space, n: usize, len: usize) -> bool {
+    if n == 0 {
+        return only_fill(space);
+    }
+    if n != len {
+        return false;
+    }
     only_fill(tail(space, n))
 }

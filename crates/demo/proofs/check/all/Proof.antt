@@ -1,15 +1,16 @@
 -- `all` is safe and ends: the place of a head is at most 5 at the head of the loop, and what is left of the five falls.
 -- Assumes nothing.
 use Prim.Native.Nat.{_-_, _≤_}
+use native.Mathlib.Omega.{arith}
 use borrow.Author.Needs.{needs}
 use Rattle.demo.proofs.check.all.Statement.{statement}
 use Rattle.demo.proofs.check.all.Tie as tie
 
 abbrev Inv-loop : tie.InvT-loop
-Inv-loop state tally₀ heads k₀ tally k = k ≤ 5
+Inv-loop heads world₀ k₀ world k = k ≤ 5
 
 abbrev μ-loop : tie.MeasureT-loop
-μ-loop state tally₀ heads k₀ tally k = 5 - k
+μ-loop heads world₀ k₀ world k = 5 - k
 
 pub all-spec : {M : Type 1} → statement M
 all-spec =
@@ -17,11 +18,12 @@ all-spec =
     (tie.spec
     Inv-loop
     μ-loop
-    (search needs)
-    (search needs)
-    (search needs)
-    (search needs)
-    (search needs)
-    (search needs)
-    (search needs)
-    (search needs))
+    (λ c. omega arith)
+    (λ c. search needs)
+    (λ c. search needs)
+    (λ c κs. tt)
+    (λ c κs. tt)
+    (λ c. omega arith)
+    (λ c. omega arith)
+    (λ c. omega arith)
+    (λ c. tt))

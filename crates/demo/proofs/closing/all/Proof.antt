@@ -1,15 +1,15 @@
 -- `all` is safe and ends: the place of a head is at most 5 at the head of the loop, and what is left of the five falls.
 -- Assumes nothing.
 use Prim.Native.Nat.{_-_, _≤_}
-use borrow.Author.Needs.{needs}
+use native.Mathlib.Omega.{arith}
 use Rattle.demo.proofs.closing.all.Statement.{statement}
 use Rattle.demo.proofs.closing.all.Tie as tie
 
 abbrev Inv-loop : tie.InvT-loop
-Inv-loop states₀ at-box₀ line₀ tally₀ all₀ k₀ states at-box line tally all k = k ≤ 5
+Inv-loop s₀ k₀ s k = k ≤ 5
 
 abbrev μ-loop : tie.MeasureT-loop
-μ-loop states₀ at-box₀ line₀ tally₀ all₀ k₀ states at-box line tally all k = 5 - k
+μ-loop s₀ k₀ s k = 5 - k
 
 pub all-spec : {M : Type 1} → statement M
 all-spec =
@@ -17,18 +17,12 @@ all-spec =
     (tie.spec
     Inv-loop
     μ-loop
-    (search needs)
-    (search needs)
-    (search needs)
-    (search needs)
-    (search needs)
-    (search needs)
-    (search needs)
-    (search needs)
-    (search needs)
-    (search needs)
-    (search needs)
-    (search needs)
-    (search needs)
-    (search needs)
-    (search needs))
+    (λ c. omega arith)
+    (λ c κs. tt)
+    (λ c κs. tt)
+    (λ c κs. tt)
+    (λ c κs. tt)
+    (λ c. omega arith)
+    (λ c. omega arith)
+    (λ c. omega arith)
+    (λ c. tt))

@@ -1,15 +1,16 @@
 -- `heads` is safe and ends: the place of a head is at most 5 at the head of the loop, and what is left of the five falls.
 -- Assumes nothing.
 use Prim.Native.Nat.{_-_, _≤_}
+use native.Mathlib.Omega.{arith}
 use borrow.Author.Needs.{needs}
 use Rattle.demo.proofs.table.heads.Statement.{statement}
 use Rattle.demo.proofs.table.heads.Tie as tie
 
 abbrev Inv-loop : tie.InvT-loop
-Inv-loop all k₀ k = k ≤ 5
+Inv-loop scene all k₀ k = k ≤ 5
 
 abbrev μ-loop : tie.MeasureT-loop
-μ-loop all k₀ k = 5 - k
+μ-loop scene all k₀ k = 5 - k
 
 pub heads-spec : {M : Type 1} → statement M
 heads-spec =
@@ -17,13 +18,13 @@ heads-spec =
     (tie.spec
     Inv-loop
     μ-loop
-    (search needs)
-    (search needs)
-    (search needs)
-    (search needs)
-    (search needs)
-    (search needs)
-    (search needs)
-    (search needs)
-    (search needs)
-    (search needs))
+    (λ c. search needs)
+    (λ c κs. tt)
+    (λ c. omega arith)
+    (λ c. search needs)
+    (λ c. search needs)
+    (λ c κs. tt)
+    (λ c. omega arith)
+    (λ c. omega arith)
+    (λ c. omega arith)
+    (λ c. tt))
