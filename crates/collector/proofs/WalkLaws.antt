@@ -22,7 +22,7 @@ use Rattle.status_response.specs.ReadBack.{walked, EachInRange}
 use Rattle.status_response.specs.Steps.{entriesIn, statusEntries, stepAt, unlessTerminator}
 use Rattle.status_response.specs.declared.walk.EntryStep.{EntryStep}
 use Rattle.status_response.specs.declared.walk.EntryStep.the-variants.{Entry, End}
-use Rattle.status_response.proofs.StepLaws.{step-short, step-past, step-by-mode}
+use Rattle.status_response.proofs.StepLaws.{step-none, step-by-mode}
 use Rattle.status_response.proofs.StepsBack.{steps-back}
 use Rattle.records.proofs.RecordLaws.{in-range}
 
@@ -42,17 +42,13 @@ module _ (s : List ℕ) (at : ℕ) (e : ErrorEntry) (next : ℕ) (found : stepAt
   pub entry-shape : (next ≡ at + 20) × (at + 20 ≤ length s)
   entry-shape =
       ⊎-elim
-      (λ (long : 20 ≤ length s).
-      ⊎-elim
-      (λ (h : at ≤ length s - 20).
+      (λ (h : 20 ≤ length s - at).
       let x : ErrorEntry = entryOf (drop at s) in
       let m : ErrorEntryMode = x .«entry_type» .mode in
       let r : EntryStep = unlessTerminator m (Entry x (at + 20)) End in
-      (by-mode m x (step-by-mode s at long (drop at s) x m r h refl refl refl refl ∙ found), omega arith))
-      (λ (h : length s - 20 < at). no-entry e next (step-past s at long h ∙ found))
-      (le-or-lt at (length s - 20)))
-      (λ (short : length s < 20). no-entry e next (step-short s at short ∙ found))
-      (le-or-lt 20 (length s))
+      (by-mode m x (step-by-mode s at (drop at s) x m r h refl refl refl refl ∙ found), omega arith))
+      (λ (h : length s - at < 20). no-entry e next (step-none s at h ∙ found))
+      (le-or-lt 20 (length s - at))
 
 -- ---- the entries from an offset on
 

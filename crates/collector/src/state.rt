@@ -32,15 +32,21 @@ pub(crate) fn find(state: &Collector, id: u8) -> usize
     4
 }
 
+// 4, as no block is meant. The state is lent as a slice for what this tells of its length.
+fn no_block(_state: &[u8]) -> usize
+    ensures { λ r. ⌜ r ≡ 4 ⌝ }
+{
+    NODES
+}
+
 // The block of a registered node, or 4. No node has the ID 0.
 pub(crate) fn slot(state: &Collector, id: u8) -> usize
     ensures { λ r. ⌜ (r ≡ slotOf (now (state .entry)) id) × (r ≤ 4) × (length (now (state .entry)) ≡ 5184) ⌝ }
 {
-    let k = find(state, id);
     if id == 0 {
-        return NODES;
+        return no_block(state);
     }
-    k
+    find(state, id)
 }
 
 pub(crate) fn ea(state: &Collector, k: usize) -> bool

@@ -1,17 +1,17 @@
 // An entry of the error list of a StatusResponse (powerlink-rs: frame/error/status_response.rs).
 ghost use mathlib.Core.Path.{_≡_};
-ghost use Prim.Native.Nat.{_≤_};
+ghost use Prim.Native.Nat.{_+_, _*_, _≤_};
+ghost use lib.ListN.{length};
 ghost use lib.Seq.{sets};
+ghost use Rattle.octets.specs.Numbers.{leAt};
 ghost use Rattle.types.specs.Codes.{pick};
 ghost use Rattle.types.specs.Modes.{modeCode};
 ghost use Rattle.section.specs.Write.{Writes};
 ghost use Rattle.error_entry.specs.Entry.{entryTypeOf, typeNumber, entryOf, entryBytes, readEntry};
-use octets::little_endian::get_u16_le;
-use octets::little_endian::get_u32_le;
-use octets::little_endian::get_u64_le;
 use octets::little_endian::put_u16_le;
 use octets::little_endian::put_u32_le;
 use octets::little_endian::put_u64_le;
+use octets::slices::put;
 use section::WriteAnswer;
 use types::common::NetTime;
 use types::error_mode::ErrorEntryMode;
@@ -112,18 +112,60 @@ impl ErrorEntry {
     }
 }
 
+// The number that two octets make, low octet first.
+fn u16_of(low: u8, high: u8) -> u16
+    ensures { λ r. ⌜ r ≡ low + 256 * high ⌝ }
+{
+    (low as u16) + 0x100 * (high as u16)
+}
+
+// The number that 2, 4 or 8 octets make, all of which lie in `s`: who reads many of them tests the length once.
+fn u16_in(s: &[u8], at: usize) -> u16
+    requires { ⌜ at + 2 ≤ length (now s) ⌝ }
+    ensures { λ r. ⌜ r ≡ leAt 2 at (now (s .entry)) ⌝ }
+{
+    u16_of(s[at], s[at + 1])
+}
+
+fn u32_in(s: &[u8], at: usize) -> u32
+    requires { ⌜ at + 4 ≤ length (now s) ⌝ }
+    ensures { λ r. ⌜ r ≡ leAt 4 at (now (s .entry)) ⌝ }
+{
+    (u16_in(s, at) as u32) + 0x1_0000 * (u16_in(s, at + 2) as u32)
+}
+
+fn u64_in(s: &[u8], at: usize) -> u64
+    requires { ⌜ at + 8 ≤ length (now s) ⌝ }
+    ensures { λ r. ⌜ r ≡ leAt 8 at (now (s .entry)) ⌝ }
+{
+    (u32_in(s, at) as u64) + 0x1_0000_0000 * (u32_in(s, at + 4) as u64)
+}
+
+// The entry that 20 octets are.
+fn entry_in(s: &[u8]) -> ErrorEntry
+    requires { ⌜ 20 ≤ length (now s) ⌝ }
+    ensures { λ r. ⌜ r ≡ entryOf (now (s .entry)) ⌝ }
+{
+    let entry_type = EntryType::from_u16(u16_in(s, 0));
+    ErrorEntry {
+        entry_type,
+        error_code: u16_in(s, 2),
+        timestamp: NetTime {
+            seconds: u32_in(s, 4),
+            nanoseconds: u32_in(s, 8),
+        },
+        additional_information: u64_in(s, 12),
+    }
+}
+
 // The entry that the first 20 octets are, those past the end counting as 0.
 pub fn entry_at(s: &[u8]) -> ErrorEntry
     ensures { λ r. ⌜ r ≡ entryOf (now (s .entry)) ⌝ }
 {
-    let entry_type = EntryType::from_u16(get_u16_le(s, 0));
-    ErrorEntry {
-        entry_type,
-        error_code: get_u16_le(s, 2),
-        timestamp: NetTime {
-            seconds: get_u32_le(s, 4),
-            nanoseconds: get_u32_le(s, 8),
-        },
-        additional_information: get_u64_le(s, 12),
+    if 20 <= s.len() {
+        return entry_in(s);
     }
+    let mut padded = [0u8; 20];
+    put(&mut padded, 0, s);
+    entry_in(&padded)
 }

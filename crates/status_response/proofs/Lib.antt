@@ -1,5 +1,6 @@
 pub mod Again
 pub mod Lent
+pub mod Padded
 pub mod Places
 pub mod ReadBack
 pub mod StepLaws

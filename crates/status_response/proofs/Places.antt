@@ -1,7 +1,7 @@
 -- Where the entries stand in the target, when they fit, and how many of a batch are meant.
 -- Assumes nothing.
 use Prim.Native.Nat.{ℕ, zero, suc, _+_, _*_, _-_, _/_, _≤_, _<_}
-use mathlib.Core.Path.{_≡_, refl, sym, _∙_}
+use mathlib.Core.Path.{_≡_, refl, sym, ap, _∙_}
 use mathlib.Core.Bool.{Bool, true, false}
 use mathlib.Core.List.{List, _++_, append-assoc, append-nil}
 use native.Mathlib.Omega.{arith}
@@ -19,11 +19,18 @@ pub entry-length : (e : ErrorEntry) → length (entryBytes e) ≡ 20
 unfolding entryBytes
 entry-length e = refl
 
+-- the rest of a list from a place on
+pub rest-is : (t : List ℕ) (at : ℕ) → take (length t - at) (drop at t) ≡ drop at t
+rest-is t at = take-all (length t - at) (drop at t) (simp length-drop (omega arith))
+
+pub rest-length : (t : List ℕ) (at : ℕ) → length (take (length t - at) (drop at t)) ≡ length t - at
+rest-length t at = ap length (rest-is t at) ∙ length-drop at t
+
 -- a write to the front of the rest of a list is a write of the whole
 pub sets-rest : (at : ℕ) (t vs : List ℕ) → at + length vs ≤ length t
     → putMid at (length t - at) t (sets (midOf at (length t - at) t) 0 vs) ≡ sets t at vs
 sets-rest at t vs h =
-    let rest : midOf at (length t - at) t ≡ drop at t = take-all (length t - at) (drop at t) (simp length-drop (omega arith)) in
+    let rest : midOf at (length t - at) t ≡ drop at t = rest-is t at in
     let front : sets (drop at t) 0 vs ≡ vs ++ drop (at + length vs) t =
     sets-front (drop at t) vs (simp length-drop (omega arith)) ∙ rw (drop-drop (length vs) at t) in
     rw (rest, front, drop-of-length-le (drop at t) {i = length t - at} (simp length-drop (omega arith)), append-nil, sets-eq vs t at h, append-assoc)

@@ -20,7 +20,7 @@ use Rattle.status_response.specs.ReadBack.{stepped, walked, untilTermina
 use Rattle.status_response.specs.Steps.{entriesBytes, entriesIn, statusBytes, statusEntries, stepAt, unlessTerminator}
 use Rattle.status_response.specs.declared.walk.EntryStep.the-variants.{Entry, End}
 use Rattle.status_response.proofs.Places.{entry-length}
-use Rattle.status_response.proofs.StepLaws.{step-short, step-past, step-by-mode}
+use Rattle.status_response.proofs.StepLaws.{step-none, step-by-mode}
 use Rattle.status_response.proofs.WriteLaws.{status-length}
 
 by-mode : (m : ErrorEntryMode) (e : ErrorEntry) (next : ℕ) (more : ℕ → List ErrorEntry)
@@ -31,19 +31,10 @@ by-mode ErrorCleared e next more = refl
 by-mode EventOccurred e next more = refl
 
 module _ (s : List ℕ) where
-  -- a step that finds nothing, and one that finds an entry
-  no-step : (offset : ℕ) → length s - offset < 20 → End ≡ stepAt s offset
-  no-step offset h = cases (le-or-lt 20 (length s))
-    where
-      cases : (20 ≤ length s) ⊎ (length s < 20) → End ≡ stepAt s offset
-      cases (inl long) = step-past s offset long (omega arith)
-      cases (inr short) = step-short s offset short
-
   a-step : (offset : ℕ) → 20 ≤ length s - offset
       → unlessTerminator (entryOf (drop offset s) .«entry_type» .mode) (Entry (entryOf (drop offset s)) (offset + 20)) End ≡ stepAt s offset
   a-step offset h =
-      step-by-mode s offset (omega arith) (drop offset s) (entryOf (drop offset s)) (entryOf (drop offset s) .«entry_type» .mode) _ (omega arith) refl
-      refl refl refl
+      step-by-mode s offset (drop offset s) (entryOf (drop offset s)) (entryOf (drop offset s) .«entry_type» .mode) _ h refl refl refl refl
 
   walked-is : (n offset : ℕ) → walked n s offset ≡ entriesIn n (drop offset s)
   walked-is zero offset = refl
@@ -59,7 +50,7 @@ module _ (s : List ℕ) where
             le-leb 20 (length s - offset) h,
             drop-drop 20 offset s,
           )
-      cases more (inr h) = rw (← no-step offset h, length-drop offset s, lt-leb 20 (length s - offset) h)
+      cases more (inr h) = rw (← step-none s offset h, length-drop offset s, lt-leb 20 (length s - offset) h)
 
 -- a bound that is at least the length changes nothing
 bound-free : (n m : ℕ) (t : List ℕ) → length t ≤ n → length t ≤ m → entriesIn n t ≡ entriesIn m t

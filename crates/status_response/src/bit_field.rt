@@ -1,8 +1,10 @@
 // The static error bit field (EPSG DS 301, 6.5.8.1; 01: the error field).
 ghost use mathlib.Core.Path.{_≡_};
+ghost use Prim.Native.Nat.{_≤_};
+ghost use lib.ListN.{length};
 ghost use Rattle.section.specs.Write.{Writes};
 ghost use Rattle.status_response.specs.BitField.{fieldOf, fieldBytes, readField};
-use octets::slices::byte_at;
+use octets::slices::put;
 use section::WriteAnswer;
 use section::write;
 use types::hal::PowerlinkError;
@@ -67,20 +69,33 @@ impl StaticErrorBitField {
     }
 }
 
+// The field that 8 octets are.
+fn field_in(buffer: &[u8]) -> StaticErrorBitField
+    requires { ⌜ 8 ≤ length (now buffer) ⌝ }
+    ensures { λ r. ⌜ r ≡ fieldOf (now (buffer .entry)) ⌝ }
+{
+    StaticErrorBitField {
+        error_register: buffer[0],
+        specific_errors: [
+            buffer[1],
+            buffer[2],
+            buffer[3],
+            buffer[4],
+            buffer[5],
+            buffer[6],
+            buffer[7],
+        ],
+    }
+}
+
 // The field that the first 8 octets are, those past the end counting as 0.
 pub fn field_at(s: &[u8]) -> StaticErrorBitField
     ensures { λ r. ⌜ r ≡ fieldOf (now (s .entry)) ⌝ }
 {
-    StaticErrorBitField {
-        error_register: byte_at(s, 0),
-        specific_errors: [
-            byte_at(s, 1),
-            byte_at(s, 2),
-            byte_at(s, 3),
-            byte_at(s, 4),
-            byte_at(s, 5),
-            byte_at(s, 6),
-            byte_at(s, 7),
-        ],
+    if 8 <= s.len() {
+        return field_in(s);
     }
+    let mut padded = [0u8; 8];
+    put(&mut padded, 0, s);
+    field_in(&padded)
 }

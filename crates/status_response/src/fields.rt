@@ -45,13 +45,13 @@ pub struct DeserializedStatus {
 pub fn deserialize(payload: &[u8]) -> DeserializedStatus
     ensures { λ r. ⌜ r ≡ readStatus (now (payload .entry)) ⌝ }
 {
-    let static_error_bit_field = field_at(tail(payload, 6));
     if payload.len() < 14 {
         return DeserializedStatus {
-            static_error_bit_field,
+            static_error_bit_field: field_at(tail(payload, 6)),
             answer: StatusAnswer::Refused(PowerlinkError::BufferTooShort),
         };
     }
+    let static_error_bit_field = field_at(&payload[6..]);
     match NmtState::from_u8(payload[2]) {
         NmtStateAnswer::Unknown(b) => DeserializedStatus {
             static_error_bit_field,

@@ -3,7 +3,6 @@ ghost use mathlib.Core.Path.{_≡_};
 ghost use Rattle.status_response.specs.Steps.{stepAt};
 use error_entry::ErrorEntry;
 use error_entry::entry_at;
-use octets::slices::tail;
 use types::error_mode::ErrorEntryMode;
 
 // What a step finds: an entry with the offset after it, or the end of the list.
@@ -21,14 +20,14 @@ pub struct EntryWalk<'a> {
 fn entry_step(payload: &[u8], offset: usize) -> EntryStep
     ensures { λ r. ⌜ r ≡ stepAt (now (payload .entry)) offset ⌝ }
 {
-    let n = payload.len();
-    if n < 20 {
+    if payload.len() < offset {
         return EntryStep::End;
     }
-    if n - 20 < offset {
+    let rest = &payload[offset..];
+    if rest.len() < 20 {
         return EntryStep::End;
     }
-    let entry = entry_at(tail(payload, offset));
+    let entry = entry_at(rest);
     let entry_type = entry.entry_type;
     let mode = entry_type.mode;
     match mode {
