@@ -1,4 +1,5 @@
 mod Collectors
+mod Fronts
 mod Journals
 mod Readers
 mod Reporters

@@ -15,9 +15,9 @@ use types::states::NmtState;
 use types::states::NmtStateAnswer;
 
 // The bits of EN and EC in octet 0: 5 and 4 (docs/DIFFERENCES.md: others read 4 and 3).
-const EN: u8 = 0x20;
+pub const EN: u8 = 0x20;
 
-const EC: u8 = 0x10;
+pub const EC: u8 = 0x10;
 
 // What stands in front of the entries, but for the error field, which stands beside it.
 pub struct StatusFields {
