@@ -1,7 +1,7 @@
 // Asynchronous Send (EPSG DS 301, 4.6.1.1.6).
 ghost use mathlib.Core.Path.{_≡_};
 ghost use Rattle.section.specs.Write.{Writes};
-ghost use Rattle.control.specs.ASnd.{newASnd, asndSection};
+ghost use Rattle.control.specs.ASnd.{newASnd, asndBytes, asndSection};
 use section::WriteAnswer;
 use section::write_section;
 use types::C_DLL_MULTICAST_ASND;
@@ -48,17 +48,23 @@ impl ASndFrame {
         }
     }
 
-    // Writes the section with its payload, if it fits.
-    pub fn serialize(self, payload: &[u8], target: &mut [u8]) -> WriteAnswer
-        ensures { λ r. ⌜ Writes (asndSection self (now (payload .entry))) r (now (target .entry)) (now (target .exit)) ⌝ }
+    // The octets of the fields.
+    pub fn to_bytes(self) -> [u8; 4]
+        ensures { λ r. ⌜ r ≡ asndBytes self ⌝ }
     {
         let service = self.service_id;
-        let header = [
+        [
             MessageType::ASnd.to_u8(),
             self.destination.0,
             self.source.0,
             service.to_u8(),
-        ];
-        write_section(&header, payload, target)
+        ]
+    }
+
+    // Writes the section with its payload, if it fits.
+    pub fn serialize(self, payload: &[u8], target: &mut [u8]) -> WriteAnswer
+        ensures { λ r. ⌜ Writes (asndSection self (now (payload .entry))) r (now (target .entry)) (now (target .exit)) ⌝ }
+    {
+        write_section(&self.to_bytes(), payload, target)
     }
 }

@@ -1,7 +1,9 @@
 // Start of Asynchronous (EPSG DS 301, 4.6.1.1.5).
 ghost use mathlib.Core.Path.{_≡_};
+ghost use lib.ListN.{take};
 ghost use Rattle.section.specs.Write.{Writes};
-ghost use Rattle.control.specs.SoA.{newSoA, soaSection};
+ghost use Rattle.control.specs.SoA.{newSoA, soaBytes, soaSection};
+use octets::slices::put;
 use section::WriteAnswer;
 use section::flag;
 use section::write_section;
@@ -69,23 +71,39 @@ impl SoAFrame {
         }
     }
 
+    // The octets of the fields.
+    pub fn to_bytes(self) -> [u8; 9]
+        ensures { λ r. ⌜ r ≡ soaBytes self ⌝ }
+    {
+        let mut octets = [0u8; 9];
+        put(&mut octets, 0, &first_octets(self));
+        octets[8] = self.epl_version.0;
+        octets
+    }
+
     // Writes the section, if it fits.
     pub fn serialize(self, target: &mut [u8]) -> WriteAnswer
         ensures { λ r. ⌜ Writes (soaSection self) r (now (target .entry)) (now (target .exit)) ⌝ }
     {
-        let state = self.nmt_state;
-        let service = self.req_service_id;
-        let header = [
-            MessageType::SoA.to_u8(),
-            self.destination.0,
-            self.source.0,
-            state.to_u8(),
-            flag(self.flags.ea, 4) + flag(self.flags.er, 2),
-            0,
-            service.to_u8(),
-            self.target_node_id.0,
-            self.epl_version.0,
-        ];
-        write_section(&header, b"", target)
+        write_section(&self.to_bytes(), b"", target)
     }
+}
+
+// The octets in front of the version. An array of 8 that is returned is one number to the compiler, which stores it at
+// once.
+fn first_octets(frame: SoAFrame) -> [u8; 8]
+    ensures { λ r. ⌜ r ≡ take 8 (soaBytes frame) ⌝ }
+{
+    let state = frame.nmt_state;
+    let service = frame.req_service_id;
+    [
+        MessageType::SoA.to_u8(),
+        frame.destination.0,
+        frame.source.0,
+        state.to_u8(),
+        flag(frame.flags.ea, 4) + flag(frame.flags.er, 2),
+        0,
+        service.to_u8(),
+        frame.target_node_id.0,
+    ]
 }

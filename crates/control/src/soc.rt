@@ -1,9 +1,13 @@
 // Start of Cycle (EPSG DS 301, 4.6.1.1.2).
 ghost use mathlib.Core.Path.{_≡_};
+ghost use mathlib.Core.List.{_++_};
+ghost use lib.ListN.{take, drop};
+ghost use Rattle.octets.specs.Numbers.{leBytes};
 ghost use Rattle.section.specs.Write.{Writes};
-ghost use Rattle.control.specs.SoC.{newSoC, socSection};
+ghost use Rattle.control.specs.SoC.{newSoC, socBytes, socSection};
 use octets::little_endian::put_u32_le;
 use octets::little_endian::put_u64_le;
+use octets::slices::put;
 use section::WriteAnswer;
 use section::flag;
 use section::write_section;
@@ -64,18 +68,51 @@ impl SocFrame {
         }
     }
 
+    // The octets of the fields.
+    pub fn to_bytes(self) -> [u8; 22]
+        ensures { λ r. ⌜ r ≡ socBytes self ⌝ }
+    {
+        let net_time = self.net_time;
+        let mut octets = [0u8; 22];
+        put(&mut octets, 0, &node_octets(self));
+        put(&mut octets, 4, &flag_octets(self));
+        put(&mut octets, 6, &time_octets(net_time));
+        put_u64_le(&mut octets, 14, self.relative_time.0);
+        octets
+    }
+
     // Writes the section, if it fits.
     pub fn serialize(self, target: &mut [u8]) -> WriteAnswer
         ensures { λ r. ⌜ Writes (socSection self) r (now (target .entry)) (now (target .exit)) ⌝ }
     {
-        let mut header = [0u8; 22];
-        header[0] = MessageType::SoC.to_u8();
-        header[1] = self.destination.0;
-        header[2] = self.source.0;
-        header[4] = flag(self.flags.mc, 0x80) + flag(self.flags.ps, 0x40);
-        put_u32_le(&mut header, 6, self.net_time.seconds);
-        put_u32_le(&mut header, 10, self.net_time.nanoseconds);
-        put_u64_le(&mut header, 14, self.relative_time.0);
-        write_section(&header, b"", target)
+        write_section(&self.to_bytes(), b"", target)
     }
+}
+
+// The octets of the fields in front of the relative time, in three parts: an array of 2, 4 or 8 that is returned is one
+// number to the compiler, which stores it at once.
+fn node_octets(frame: SocFrame) -> [u8; 4]
+    ensures { λ r. ⌜ r ≡ take 4 (socBytes frame) ⌝ }
+{
+    [
+        MessageType::SoC.to_u8(),
+        frame.destination.0,
+        frame.source.0,
+        0,
+    ]
+}
+
+fn flag_octets(frame: SocFrame) -> [u8; 2]
+    ensures { λ r. ⌜ r ≡ take 2 (drop 4 (socBytes frame)) ⌝ }
+{
+    [flag(frame.flags.mc, 0x80) + flag(frame.flags.ps, 0x40), 0]
+}
+
+fn time_octets(time: NetTime) -> [u8; 8]
+    ensures { λ r. ⌜ r ≡ leBytes 4 (time .seconds) ++ leBytes 4 (time .nanoseconds) ⌝ }
+{
+    let mut octets = [0u8; 8];
+    put_u32_le(&mut octets, 0, time.seconds);
+    put_u32_le(&mut octets, 4, time.nanoseconds);
+    octets
 }

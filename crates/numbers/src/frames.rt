@@ -12,13 +12,12 @@ use control::soa::SoAFlags;
 use control::soa::SoAFrame;
 use control::soc::SocFlags;
 use control::soc::SocFrame;
-use frame::PowerlinkFrame;
-use frame::write::serialize_frame;
 use poll::preq::PReqFlags;
 use poll::preq::PReqFrame;
 use poll::pres::PResFlags;
 use poll::pres::PResFrame;
 use section::WriteAnswer;
+use section::write_behind;
 use types::EPLVersion;
 use types::NodeId;
 use types::basic::MacAddress;
@@ -41,7 +40,7 @@ pub fn write_soc(
     let new = SocFrame::new(source_mac, flags, net_time, relative_time);
     let eth_header = new.eth_header;
     let frame = new.frame;
-    serialize_frame(eth_header, PowerlinkFrame::Soc(frame), b"", target)
+    write_behind(&eth_header.to_bytes(), &frame.to_bytes(), b"", target)
 }
 
 pub fn write_preq(
@@ -65,7 +64,7 @@ pub fn write_preq(
     );
     let eth_header = new.eth_header;
     let frame = new.frame;
-    serialize_frame(eth_header, PowerlinkFrame::PReq(frame), payload, target)
+    write_behind(&eth_header.to_bytes(), &frame.to_bytes(), payload, target)
 }
 
 pub fn write_pres(
@@ -89,7 +88,7 @@ pub fn write_pres(
     );
     let eth_header = new.eth_header;
     let frame = new.frame;
-    serialize_frame(eth_header, PowerlinkFrame::PRes(frame), payload, target)
+    write_behind(&eth_header.to_bytes(), &frame.to_bytes(), payload, target)
 }
 
 pub fn write_soa(
@@ -113,7 +112,7 @@ pub fn write_soa(
     );
     let eth_header = new.eth_header;
     let frame = new.frame;
-    serialize_frame(eth_header, PowerlinkFrame::SoA(frame), b"", target)
+    write_behind(&eth_header.to_bytes(), &frame.to_bytes(), b"", target)
 }
 
 pub fn write_asnd(
@@ -136,5 +135,5 @@ pub fn write_asnd(
     );
     let eth_header = new.eth_header;
     let frame = new.frame;
-    serialize_frame(eth_header, PowerlinkFrame::ASnd(frame), payload, target)
+    write_behind(&eth_header.to_bytes(), &frame.to_bytes(), payload, target)
 }

@@ -1,8 +1,12 @@
 // Parts of slices that are defined on every place and length.
 ghost use mathlib.Core.Path.{_≡_};
-ghost use lib.ListN.{getD, take, drop};
+ghost use Prim.Native.Nat.{_+_, _≤_};
+ghost use lib.ListN.{getD, length, take, drop};
 ghost use lib.Seq.{sets};
 ghost use Rattle.octets.specs.Trim.{trimmedLength};
+
+// Up to how many octets `put` copies as one block: more than an Ethernet frame has.
+const PART: usize = 2048;
 
 // The octets of `s` from place `at` on; none where that is past the end.
 pub fn tail(s: &[u8], at: usize) -> &[u8]
@@ -32,11 +36,33 @@ pub fn put(dst: &mut [u8], at: usize, src: &[u8])
     if dst.len() <= at {
         return;
     }
+    let fitting = front(src, dst.len() - at);
+    if fitting.len() <= PART {
+        put_part(dst, at, fitting);
+    } else {
+        put_each(dst, at, fitting);
+    }
+}
+
+// A copy that fits, by way of an array: no other reference reaches that one, so that the compiler makes a single block
+// copy of the two. Between slices, which for all it knows overlap, it makes a loop.
+fn put_part(dst: &mut [u8], at: usize, src: &[u8])
+    requires { ⌜ (at + length (now src) ≤ length (now dst)) × (length (now src) ≤ 2048) ⌝ }
+    ensures { λ _. ⌜ now (dst .exit) ≡ sets (now (dst .entry)) at (now (src .entry)) ⌝ }
+{
+    let n = src.len();
+    let mut part = [0u8; PART];
+    put_each(&mut part, 0, src);
+    put_each(dst, at, &part[..n]);
+}
+
+// A copy that fits, octet by octet.
+fn put_each(dst: &mut [u8], at: usize, src: &[u8])
+    requires { ⌜ at + length (now src) ≤ length (now dst) ⌝ }
+    ensures { λ _. ⌜ now (dst .exit) ≡ sets (now (dst .entry)) at (now (src .entry)) ⌝ }
+{
     let mut i = 0;
     while i < src.len() {
-        if dst.len() - at <= i {
-            return;
-        }
         dst[at + i] = src[i];
         i += 1;
     }

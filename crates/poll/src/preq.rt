@@ -1,9 +1,10 @@
 // Poll Request, from the managing node to one controlled node (EPSG DS 301, 4.6.1.1.3).
 ghost use mathlib.Core.Path.{_≡_};
-ghost use lib.ListN.{length};
+ghost use lib.ListN.{length, take};
 ghost use Rattle.section.specs.Write.{Writes};
-ghost use Rattle.poll.specs.PReq.{newPReq, preqSection};
+ghost use Rattle.poll.specs.PReq.{newPReq, preqBytes, preqSection};
 use octets::little_endian::put_u16_le;
+use octets::slices::put;
 use section::WriteAnswer;
 use section::flag;
 use section::write_section;
@@ -63,17 +64,37 @@ impl PReqFrame {
         }
     }
 
-    // Writes the section with its payload, if it fits. The size is written as the frame holds it.
+    // The octets of the fields. The size is written as the frame holds it.
+    pub fn to_bytes(self) -> [u8; 10]
+        ensures { λ r. ⌜ r ≡ preqBytes self ⌝ }
+    {
+        let mut octets = [0u8; 10];
+        put(&mut octets, 0, &first_octets(self));
+        put_u16_le(&mut octets, 8, self.payload_size);
+        octets
+    }
+
+    // Writes the section with its payload, if it fits.
     pub fn serialize(self, payload: &[u8], target: &mut [u8]) -> WriteAnswer
         ensures { λ r. ⌜ Writes (preqSection self (now (payload .entry))) r (now (target .entry)) (now (target .exit)) ⌝ }
     {
-        let mut header = [0u8; 10];
-        header[0] = MessageType::PReq.to_u8();
-        header[1] = self.destination.0;
-        header[2] = self.source.0;
-        header[4] = flag(self.flags.ms, 0x20) + flag(self.flags.ea, 4) + flag(self.flags.rd, 1);
-        header[6] = self.pdo_version.0;
-        put_u16_le(&mut header, 8, self.payload_size);
-        write_section(&header, payload, target)
+        write_section(&self.to_bytes(), payload, target)
     }
+}
+
+// The octets in front of the size. An array of 8 that is returned is one number to the compiler, which stores it at once.
+fn first_octets(frame: PReqFrame) -> [u8; 8]
+    ensures { λ r. ⌜ r ≡ take 8 (preqBytes frame) ⌝ }
+{
+    let flags = frame.flags;
+    [
+        MessageType::PReq.to_u8(),
+        frame.destination.0,
+        frame.source.0,
+        0,
+        flag(flags.ms, 0x20) + flag(flags.ea, 4) + flag(flags.rd, 1),
+        0,
+        frame.pdo_version.0,
+        0,
+    ]
 }

@@ -1,9 +1,10 @@
 // Poll Response, from a controlled node to all (EPSG DS 301, 4.6.1.1.4).
 ghost use mathlib.Core.Path.{_≡_};
-ghost use lib.ListN.{length};
+ghost use lib.ListN.{length, take};
 ghost use Rattle.section.specs.Write.{Writes};
-ghost use Rattle.poll.specs.PRes.{newPRes, presSection};
+ghost use Rattle.poll.specs.PRes.{newPRes, presBytes, presSection};
 use octets::little_endian::put_u16_le;
+use octets::slices::put;
 use section::WriteAnswer;
 use section::flag;
 use section::write_section;
@@ -75,23 +76,40 @@ impl PResFrame {
         }
     }
 
-    // Writes the section with its payload, if it fits. The size is written as the frame holds it.
+    // The octets of the fields. The size is written as the frame holds it.
+    pub fn to_bytes(self) -> [u8; 10]
+        ensures { λ r. ⌜ r ≡ presBytes self ⌝ }
+    {
+        let mut octets = [0u8; 10];
+        put(&mut octets, 0, &first_octets(self));
+        put_u16_le(&mut octets, 8, self.payload_size);
+        octets
+    }
+
+    // Writes the section with its payload, if it fits.
     pub fn serialize(self, payload: &[u8], target: &mut [u8]) -> WriteAnswer
         ensures { λ r. ⌜ Writes (presSection self (now (payload .entry))) r (now (target .entry)) (now (target .exit)) ⌝ }
     {
-        let state = self.nmt_state;
-        let flags = self.flags;
-        let pr = flags.pr;
-        let rs = flags.rs;
-        let mut header = [0u8; 10];
-        header[0] = MessageType::PRes.to_u8();
-        header[1] = self.destination.0;
-        header[2] = self.source.0;
-        header[3] = state.to_u8();
-        header[4] = flag(flags.ms, 0x20) + flag(flags.en, 0x10) + flag(flags.rd, 1);
-        header[5] = poll_octet(pr, rs);
-        header[6] = self.pdo_version.0;
-        put_u16_le(&mut header, 8, self.payload_size);
-        write_section(&header, payload, target)
+        write_section(&self.to_bytes(), payload, target)
     }
+}
+
+// The octets in front of the size. An array of 8 that is returned is one number to the compiler, which stores it at once.
+fn first_octets(frame: PResFrame) -> [u8; 8]
+    ensures { λ r. ⌜ r ≡ take 8 (presBytes frame) ⌝ }
+{
+    let state = frame.nmt_state;
+    let flags = frame.flags;
+    let pr = flags.pr;
+    let rs = flags.rs;
+    [
+        MessageType::PRes.to_u8(),
+        frame.destination.0,
+        frame.source.0,
+        state.to_u8(),
+        flag(flags.ms, 0x20) + flag(flags.en, 0x10) + flag(flags.rd, 1),
+        poll_octet(pr, rs),
+        frame.pdo_version.0,
+        0,
+    ]
 }

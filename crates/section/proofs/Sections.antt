@@ -1,34 +1,80 @@
--- A section is written by three copies: its header, its payload and the zeros after them.
+-- Octets and a section behind them are written by copies: zeros, and over them the octets, the header and the payload.
 -- Assumes nothing.
 use Prim.Native.Nat.{ℕ, zero, suc, _+_, _-_, _≤_, _<_}
-use mathlib.Core.Path.{_≡_, refl, ap, _∙_}
-use mathlib.Core.List.{List, _∷_, _++_}
-use native.Mathlib.Nat.{zero-add, le-of-suc-le-suc, not-suc-le-zero}
+use mathlib.Core.Bool.{Bool, true, false}
+use mathlib.Core.Path.{_≡_, refl, sym, ap, _∙_}
+use mathlib.Core.List.{List, [], _∷_, _++_, append-assoc, append-nil}
+use native.Mathlib.Nat.{zero-add, le-of-lt}
+use native.Mathlib.Numerals.{unary-clauses}
 use native.Mathlib.Omega.{arith}
-use lib.ListN.{length, take, drop, replicate, length-append, length-replicate}
-use lib.Seq.{sets}
-use borrow.Author.Tests.{le-leb, lt-leb}
+use lib.Dec.{ltb}
+use lib.ListN.{length, drop, replicate, length-append, length-replicate}
+use lib.Seq.{sets, length-sets, drop-drop, drop-append-le}
+use borrow.Author.Tests.{le-leb, lt-leb, ltb-true, ltb-false}
+use Rattle.octets.proofs.ReadBack.{drop-sets}
 use Rattle.octets.proofs.Sets.{sets-append, sets-front}
+use Rattle.types.specs.Codes.{pick}
+use Rattle.types.specs.declared.hal.PowerlinkError.the-variants.{BufferTooShort}
 use Rattle.section.specs.Write.{padded, writeAnswer, overwritten, Writes}
 use Rattle.section.specs.declared.WriteAnswer.the-variants.{Written, Refused}
-use Rattle.types.specs.declared.hal.PowerlinkError.the-variants.{BufferTooShort}
 
-take-replicate : (k n a : ℕ) → k ≤ n → take k (replicate n a) ≡ replicate k a
-take-replicate zero n a h = refl
-take-replicate (suc k) zero a h = absurd (not-suc-le-zero h)
-take-replicate (suc k) (suc n) a h = ap (λ (l : List ℕ). a ∷ l) (take-replicate k n a (le-of-suc-le-suc h))
+drop-replicate : (k n a : ℕ) → drop k (replicate n a) ≡ replicate (n - k) a
+drop-replicate zero n a = simp unary-clauses
+drop-replicate (suc k) zero a = let e : 0 - suc k ≡ 0 = omega arith in rw e
+drop-replicate (suc k) (suc n) a = simp unary-clauses (drop-replicate k n a)
 
-module _ (h p : List ℕ) where
-  pub padded-length : length (padded (h ++ p)) ≡ length h + length p + (46 - (length h + length p))
+-- a section of at least n octets
+module _ (n : ℕ) (f h p : List ℕ) where
+  abbrev pub filled : List ℕ
+  filled = f ++ ((h ++ p) ++ replicate (n - length (h ++ p)) 0)
+
+  filled-length : length filled ≡ length f + (length h + length p + (n - (length h + length p)))
+  filled-length = simp (length-append, length-replicate)
+
+  three-copies : (t : List ℕ) → sets (sets (sets t 0 f) (length f) h) (length f + length h) p ≡ sets t 0 (f ++ (h ++ p))
+  three-copies t = simp (sets-append, zero-add)
+
+  module _ (t : List ℕ) (fits : length filled ≤ length t) where
+    -- the octets of the header and the payload leave so many zeros over
+    left-over : length h + length p ≤ n
+        → drop (length f + (length h + length p)) (sets t (length f) (replicate n 0)) ≡ replicate (n - (length h + length p)) 0 ++ drop (length f + n) t
+    left-over few =
+        let m : ℕ = length h + length p in
+        let zeros : List ℕ = replicate n 0 in
+        let ln : length zeros ≡ n = length-replicate n _ in
+        sym (drop-drop m (length f) (sets t (length f) zeros))
+        ∙ ap (drop m) (drop-sets t (length f) zeros (omega (arith, filled-length)))
+        ∙ drop-append-le m zeros (drop (length f + length zeros) t) (omega arith)
+        ∙ rw (drop-replicate m n, ln)
+
+    over-zeros : length h + length p ≤ n → sets (sets t (length f) (replicate n 0)) 0 (f ++ (h ++ p)) ≡ sets t 0 filled
+    over-zeros few =
+        let u : List ℕ = sets t (length f) (replicate n 0) in
+        let y : List ℕ = f ++ (h ++ p) in
+        let ly : length y ≡ length f + (length h + length p) = simp length-append in
+        let lx : length filled ≡ length f + n = filled-length ∙ omega arith in
+        sets-front u y (simp length-sets (omega (arith, filled-length)))
+        ∙ ap (λ (i : ℕ). y ++ drop i u) ly
+        ∙ ap (λ (l : List ℕ). y ++ l) (left-over few)
+        ∙ (simp (append-assoc, length-append))
+        ∙ sym (ap (λ (i : ℕ). filled ++ drop i t) lx)
+        ∙ sym (sets-front t filled fits)
+
+    unpadded : n ≤ length h + length p → f ++ (h ++ p) ≡ filled
+    unpadded many = let e : n - (length h + length p) ≡ 0 = omega arith in simp (length-append, e, append-nil)
+
+    pub four-copies : sets (sets (sets (pick (ltb (length h + length p) n) (sets t (length f) (replicate n 0)) t) 0 f) (length f) h) (length f + length h) p ≡ sets t 0 filled
+    four-copies = split (ltb (length h + length p) n) refl
+      where
+        split : (b : Bool) → ltb (length h + length p) n ≡ b
+            → sets (sets (sets (pick b (sets t (length f) (replicate n 0)) t) 0 f) (length f) h) (length f + length h) p ≡ sets t 0 filled
+        split true k = three-copies (sets t (length f) (replicate n 0)) ∙ over-zeros (le-of-lt (ltb-true (length h + length p) n k))
+        split false k = three-copies t ∙ ap (sets t 0) (unpadded (ltb-false (length h + length p) n k))
+
+module _ (f h p : List ℕ) where
+  pub behind-length : length (f ++ padded (h ++ p)) ≡ length f + (length h + length p + (46 - (length h + length p)))
   unfolding padded
-  padded-length = simp (length-append, length-replicate)
-
-  pub three-copies : (t : List ℕ)
-      → sets (sets (sets t 0 h) (length h) p) (length h + length p) (take (46 - (length h + length p)) (replicate 46 0)) ≡ sets t 0 (padded (h ++ p))
-  unfolding padded
-  three-copies t =
-      rw (take-replicate (46 - (length h + length p)) 46 0 (omega arith))
-      (simp (sets-append, length-append, zero-add))
+  behind-length = filled-length 46 f h p
 
 module _ (bs t : List ℕ) where
   -- a target that is too short stays as it was

@@ -2,6 +2,8 @@
 // that Ethernet carries.
 ghost use mathlib.Core.Path.{_≡_};
 ghost use mathlib.Core.List.{_++_};
+ghost use lib.Dec.{ltb};
+ghost use lib.ListN.{length, replicate};
 ghost use lib.Seq.{sets};
 ghost use Prim.Native.Nat.{_-_, _≤_};
 ghost use Rattle.types.specs.Codes.{pick};
@@ -38,13 +40,29 @@ pub fn write(octets: &[u8], target: &mut [u8]) -> WriteAnswer
 pub fn write_section(header: &[u8], payload: &[u8], target: &mut [u8]) -> WriteAnswer
     ensures { λ r. ⌜ Writes (padded (now (header .entry) ++ now (payload .entry))) r (now (target .entry)) (now (target .exit)) ⌝ }
 {
+    write_behind(b"", header, payload, target)
+}
+
+// Writes the octets `front` and behind them such a section, if both fit.
+pub fn write_behind(
+    front: &[u8],
+    header: &[u8],
+    payload: &[u8],
+    target: &mut [u8],
+) -> WriteAnswer
+    ensures { λ r. ⌜ Writes (now (front .entry) ++ padded (now (header .entry) ++ now (payload .entry))) r (now (target .entry)) (now (target .exit)) ⌝ }
+{
     let used = header.len() + payload.len();
-    let len = used + padding_after(used);
-    if target.len() < len {
+    let needed = used + padding_after(used);
+    let at = front.len();
+    if target.len() < at {
         return WriteAnswer::Refused(PowerlinkError::BufferTooShort);
     }
-    copy_section(header, payload, target);
-    WriteAnswer::Written(len)
+    if target.len() - at < needed {
+        return WriteAnswer::Refused(PowerlinkError::BufferTooShort);
+    }
+    put_behind(front, header, payload, target);
+    WriteAnswer::Written(at + needed)
 }
 
 // How many zeros follow `used` octets of a section.
@@ -54,14 +72,25 @@ fn padding_after(used: usize) -> usize
     if used < 46 { 46 - used } else { 0 }
 }
 
-// Copies a section to the front of `target`; what does not fit is dropped.
-fn copy_section(header: &[u8], payload: &[u8], target: &mut [u8])
-    ensures { λ _. ⌜ now (target .exit) ≡ sets (now (target .entry)) 0 (padded (now (header .entry) ++ now (payload .entry))) ⌝ }
+// Copies both to a target that they fit: the zeros first, and the rest over them.
+fn put_behind(front: &[u8], header: &[u8], payload: &[u8], target: &mut [u8])
+    requires { ⌜ length (now front ++ padded (now header ++ now payload)) ≤ length (now target) ⌝ }
+    ensures { λ _. ⌜ now (target .exit) ≡ sets (now (target .entry)) 0 (now (front .entry) ++ padded (now (header .entry) ++ now (payload .entry))) ⌝ }
 {
-    let used = header.len() + payload.len();
-    let padding = padding_after(used);
-    let zeros = [0u8; 46];
-    put(target, 0, header);
-    put(target, header.len(), payload);
-    put(target, used, &zeros[..padding]);
+    let at = front.len();
+    clear(target, at, header.len() + payload.len());
+    put(target, 0, front);
+    put(target, at, header);
+    put(target, at + header.len(), payload);
+}
+
+// Clears the smallest section from place `at` on, where `used` octets do not fill it: all of it, since a number of zeros
+// that is known to the compiler takes three stores.
+fn clear(target: &mut [u8], at: usize, used: usize)
+    ensures { λ _. ⌜ now (target .exit) ≡ pick (ltb used 46) (sets (now (target .entry)) at (replicate 46 0)) (now (target .entry)) ⌝ }
+{
+    if used < 46 {
+        let zeros = [0u8; 46];
+        put(target, at, &zeros);
+    }
 }

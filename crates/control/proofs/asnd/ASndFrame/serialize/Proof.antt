@@ -1,4 +1,4 @@
--- `ASndFrame::serialize` meets its contract: the octets that it lays out are those of the layout.
+-- `ASndFrame::serialize` meets its contract.
 -- Assumes nothing.
 use borrow.Author.Needs.{needs}
 use Rattle.control.specs.ASnd.{asndSection}
@@ -14,8 +14,6 @@ serialize-spec =
     (search needs)
     (search needs)
     (search needs)
-    (search needs)
     (λ c.
     let w = c .before .before in
-    let s = w .before .before .before in
-    rw (← s .to-u82 .ensures, ← s .before .to-u8 .ensures) (w .write-section .ensures)))
+    rw (w .before .before .before .to-bytes .ensures) at (w .write-section .ensures)))

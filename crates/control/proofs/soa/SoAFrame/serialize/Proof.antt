@@ -1,4 +1,4 @@
--- `SoAFrame::serialize` meets its contract: the octets that it lays out are those of the layout.
+-- `SoAFrame::serialize` meets its contract.
 -- Assumes nothing.
 use borrow.Author.Needs.{needs}
 use Rattle.control.specs.SoA.{soaSection}
@@ -15,20 +15,6 @@ serialize-spec =
     (search needs)
     (search needs)
     (search needs)
-    (search needs)
-    (search needs)
-    (search needs)
-    (search needs)
-    (search needs)
     (λ c.
     let w = c .before .before in
-    let s = w .before .before .before .before in
-    let f = s .before in
-    rw (
-      ← s .to-u83 .ensures,
-      ← f .flag2 .ensures .0,
-      ← f .before .flag .ensures .0,
-      ← f .before .before .to-u82 .ensures,
-      ← f .before .before .before .to-u8 .ensures,
-    )
-    (w .write-section .ensures)))
+    rw (w .before .before .before .before .to-bytes .ensures) at (w .write-section .ensures)))

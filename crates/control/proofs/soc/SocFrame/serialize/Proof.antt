@@ -1,4 +1,4 @@
--- `SocFrame::serialize` meets its contract: the octets that it lays out are those of the layout.
+-- `SocFrame::serialize` meets its contract.
 -- Assumes nothing.
 use borrow.Author.Needs.{needs}
 use Rattle.control.specs.SoC.{socSection}
@@ -15,24 +15,6 @@ serialize-spec =
     (search needs)
     (search needs)
     (search needs)
-    (search needs)
-    (search needs)
-    (search needs)
-    (search needs)
-    (search needs)
-    (search needs)
-    (search needs)
-    (search needs)
-    (search needs)
-    (search needs)
-    (search needs)
-    (search needs)
-    (search needs)
     (λ c.
     let w = c .before .before in
-    let p₃ = w .before .before .before .before .before in
-    let p₂ = p₃ .before .before .before in
-    let p₁ = p₂ .before .before .before in
-    let f = p₁ .before .before in
-    rw (← f .flag2 .ensures .0, ← f .before .flag .ensures .0, ← f .before .before .to-u8 .ensures)
-    (rw (p₃ .put-u64-le .ensures, p₂ .put-u32-le2 .ensures, p₁ .put-u32-le .ensures) at (w .write-section .ensures))))
+    rw (w .before .before .before .before .to-bytes .ensures) at (w .write-section .ensures)))

@@ -1,0 +1,18 @@
+-- `SoAFrame::to_bytes` meets its contract: the octets that it lays out are those of the layout.
+-- Assumes nothing.
+use borrow.Author.Needs.{needs}
+use Rattle.control.proofs.soa.SoAFrame.to_bytes.Statement.{statement}
+use Rattle.control.proofs.soa.SoAFrame.to_bytes.Tie as tie
+
+pub to-bytes-spec : {M : Type 1} → statement M
+to-bytes-spec =
+    tie.close
+    (tie.spec
+    (search needs)
+    (search needs)
+    (search needs)
+    (search needs)
+    (search needs)
+    (λ c.
+    let p = c .before in
+    rw (p .put .ensures, p .before .before .first-octets .ensures)))
