@@ -1,16 +1,16 @@
-/* POWERLINK frames, error signaling (EPSG DS 301) and the journal of errors: the functions of the archive libpowerlink.a,
- * each proved to answer as its definitions say. The archive is for x86-64 (ELF, System V calling convention) and calls
- * nothing but `memset`.
+/* POWERLINK frames, error signaling (EPSG DS 301) and the journal of errors: the functions of the archive
+ * libpowerlink.a, each proved to answer as its definitions say. The archive is for x86-64 (ELF, System V calling
+ * convention) and calls nothing but `memset`.
  *
- * Answers. Every function answers with the number of a cause, or 0 (POWERLINK_DONE). Its comment names the causes that it
- * has, in the order in which they are tested: where several apply, the first one is the answer.
+ * Answers. Every function answers with the number of a cause, or 0 (POWERLINK_DONE). Its comment names the causes that
+ * it has, in the order in which they are tested: where several apply, the first one is the answer.
  *
  * Refusals. Where the answer is not 0, nothing that the caller lent has changed: no target, state, value or length. One
  * exception: `octet`, where there is one, receives with causes 4 to 7 the octet that names nothing, and stays as it was
  * with every other answer, 0 among them.
  *
- * Memory. No function allocates, keeps a pointer, calls back, or has a state of its own: a state is octets that the caller
- * lends, and any octets are one. No input is undefined, but for what C itself asks of the caller:
+ * Memory. No function allocates, keeps a pointer, calls back, or has a state of its own: a state is octets that the
+ * caller lends, and any octets are one. No input is undefined, but for what C itself asks of the caller:
  *  - no pointer is null, also where its length is 0;
  *  - a pointer followed by a length, `buffer` and `buffer_len`, points to that many octets; an array parameter to as many
  *    elements as its declaration says; any other pointer to one object;
@@ -18,7 +18,7 @@
  *    one another, nor any of them with what is read. Two that are only read may;
  *  - nobody else writes to any of them during the call, or reads what is written.
  *
- * tests/header.py holds this file to the sources. */
+ * C99 or newer, or C++. tests/header.py holds declarations, constants and the causes in the comments to the sources. */
 #ifndef POWERLINK_H
 #define POWERLINK_H
 
@@ -56,8 +56,8 @@ extern "C" {
 #define POWERLINK_JOURNAL_START_LEN 5
 #define POWERLINK_RECORD_LEN 21
 
-/* ---- Lengths in numbers: the values of a frame, of what every section begins with, of a StatusResponse's front, and of an
- * entry */
+/* ---- Lengths in numbers: the values of a frame, of what every section begins with, of a StatusResponse's front, and
+ * of an entry */
 #define POWERLINK_FRAME_VALUES 16
 #define POWERLINK_PL_VALUES 3
 #define POWERLINK_STATUS_VALUES 5
@@ -100,6 +100,7 @@ enum {
     POWERLINK_FOUR_REGISTERED = 15,
     POWERLINK_NOTHING_BOOKED = 16,
     POWERLINK_RECORD_INVALID = 19          /* a record has mode 0 or above 3, or an ID that is not 1 to 239 */
+    /* 17 and 18 are the program `journal`'s: a journal without its mark, and of another version */
 };
 
 /* ---- Codes */
@@ -254,17 +255,17 @@ enum {
 
 /* Of powerlink_collector_read. */
 enum {
-    POWERLINK_KNOWN = 0, /* EN equals EA: the batch was booked before, or none was sent */
+    POWERLINK_KNOWN = 0, /* EN equals EA: taken for a batch that was booked before, or none was sent */
     POWERLINK_BOOKED = 1 /* the batch is in the book, and EA is changed */
 };
 
 /* ---- Reading */
 
 /* Reads a frame, from its Ethernet header on. A payload lies in `buffer`, at values[POWERLINK_PAYLOAD_START], and has
- * values[POWERLINK_PAYLOAD_LEN] octets; that of an ASnd whose section has exactly 46 octets has lost the zeros at its end,
- * so that the payload of a StatusResponse is better taken from octet 18 to the frame's end.
- * Tests: 1 (14 octets), 2, 3 (an empty section), 4, then those of the kind. SoC: 1 (22 octets of section). PReq: 1 (10), 1
- * (the payload). PRes: 1 (10), 3, 5, 1 (the payload). SoA: 1 (9), 5, 7. ASnd: 1 (4), 6.
+ * values[POWERLINK_PAYLOAD_LEN] octets; that of an ASnd whose section has exactly 46 octets has lost the zeros at its
+ * end, so that the payload of a StatusResponse is better taken from octet 18 to the frame's end.
+ * Tests: 1 (14 octets), 2, 3 (an empty section), 4, then those of the kind. SoC: 1 (22 octets of section). PReq: 1
+ * (10), 1 (the payload). PRes: 1 (10), 3, 5, 1 (the payload). SoA: 1 (9), 5, 7. ASnd: 1 (4), 6.
  * Refused: nothing is written, but `octet` with 4 to 7. */
 uint8_t powerlink_deserialize_frame(
     const uint8_t *POWERLINK_RESTRICT buffer, size_t buffer_len,
@@ -303,10 +304,9 @@ uint8_t powerlink_deserialize_entry(
     const uint8_t *POWERLINK_RESTRICT buffer, size_t buffer_len,
     uint64_t values[POWERLINK_ARRAY(POWERLINK_ENTRY_VALUES)]);
 
-/* Finds the entry of a StatusResponse's payload at `offset`, the first being at 14. Where there is one, `values` receives it
- * and `next` the offset after it. At the end of the list, which is a terminator or under 20 octets, `values` stays as it was
- * and `next` becomes 0.
- * Refuses nothing: the answer is always 0. */
+/* Finds the entry of a StatusResponse's payload at `offset`, the first being at 14. Where there is one, `values`
+ * receives it and `next` the offset after it. At the end of the list, which is a terminator or under 20 octets,
+ * `values` stays as it was and `next` becomes 0. Refuses nothing: the answer is always 0. */
 uint8_t powerlink_entry_step(
     const uint8_t *POWERLINK_RESTRICT payload, size_t payload_len, size_t offset,
     uint64_t values[POWERLINK_ARRAY(POWERLINK_ENTRY_VALUES)], size_t *POWERLINK_RESTRICT next);
@@ -336,8 +336,8 @@ uint8_t powerlink_serialize_soc(
     uint32_t seconds, uint32_t nanoseconds, uint64_t relative_time,
     uint8_t *POWERLINK_RESTRICT target, size_t target_len, size_t *POWERLINK_RESTRICT written);
 
-/* Writes the section of a PReq: 10 octets and the payload, or 46. The payload size is written as given, equal to the
- * payload's length or not.
+/* Writes the section of a PReq: 10 octets and the payload, but at least 46. The payload size is written as given, equal
+ * to the payload's length or not.
  * Tests: 1. Refused: nothing is written. */
 uint8_t powerlink_serialize_preq(
     uint8_t destination, uint8_t source, bool ms, bool ea, bool rd,
@@ -345,7 +345,8 @@ uint8_t powerlink_serialize_preq(
     const uint8_t *POWERLINK_RESTRICT payload, size_t payload_len,
     uint8_t *POWERLINK_RESTRICT target, size_t target_len, size_t *POWERLINK_RESTRICT written);
 
-/* Writes the section of a PRes: 10 octets and the payload, or 46. Destination and payload size are written as given.
+/* Writes the section of a PRes: 10 octets and the payload, but at least 46. Destination and payload size are written as
+ * given.
  * Tests: 1, 5. Refused: nothing is written, but `octet` with 5. */
 uint8_t powerlink_serialize_pres(
     uint8_t destination, uint8_t source, uint8_t state, bool ms, bool en, bool rd,
@@ -362,7 +363,7 @@ uint8_t powerlink_serialize_soa(
     uint8_t *POWERLINK_RESTRICT target, size_t target_len, size_t *POWERLINK_RESTRICT written,
     uint8_t *POWERLINK_RESTRICT octet);
 
-/* Writes the section of an ASnd: 4 octets and the payload, or 46.
+/* Writes the section of an ASnd: 4 octets and the payload, but at least 46.
  * Tests: 1, 6. Refused: nothing is written, but `octet` with 6. */
 uint8_t powerlink_serialize_asnd(
     uint8_t destination, uint8_t source, uint8_t service,
@@ -386,7 +387,8 @@ uint8_t powerlink_serialize_pl_header(
     uint8_t *POWERLINK_RESTRICT target, size_t target_len, size_t *POWERLINK_RESTRICT written,
     uint8_t *POWERLINK_RESTRICT octet);
 
-/* Writes the 20 octets of an entry. The mode is in the two low bits of its number, and 12 bits of the profile are written.
+/* Writes the 20 octets of an entry. The mode is in the two low bits of its number, and 12 bits of the profile are
+ * written.
  * Tests: 1. Refused: nothing is written. */
 uint8_t powerlink_serialize_entry(
     bool status_entry, bool send_to_queue, uint8_t mode, uint16_t profile, uint16_t code,
@@ -411,8 +413,8 @@ uint8_t powerlink_serialize_status(
 
 /* ---- Writing whole frames
  *
- * With the Ethernet header in front, at least 60 octets. Where no destination address is taken, it is the kind's multicast
- * address. The payload size of PReq and PRes is the payload's length modulo 65,536. */
+ * With the Ethernet header in front, at least 60 octets. Where no destination address is taken, it is the kind's
+ * multicast address. The payload size of PReq and PRes is the payload's length modulo 65,536. */
 
 /* Writes a SoC, 60 octets: from node 240 to node 255 and POWERLINK_MULTICAST_SOC.
  * Tests: 1. Refused: nothing is written. */
@@ -421,7 +423,7 @@ uint8_t powerlink_new_soc(
     uint32_t seconds, uint32_t nanoseconds, uint64_t relative_time,
     uint8_t *POWERLINK_RESTRICT target, size_t target_len, size_t *POWERLINK_RESTRICT written);
 
-/* Writes a PReq, 24 octets and the payload, or 60: from node 240 to `target_node`.
+/* Writes a PReq, 24 octets and the payload, but at least 60: from node 240 to `target_node`.
  * Tests: 1. Refused: nothing is written. */
 uint8_t powerlink_new_preq(
     const uint8_t source_mac[POWERLINK_ARRAY(POWERLINK_MAC_LEN)],
@@ -430,7 +432,7 @@ uint8_t powerlink_new_preq(
     const uint8_t *POWERLINK_RESTRICT payload, size_t payload_len,
     uint8_t *POWERLINK_RESTRICT target, size_t target_len, size_t *POWERLINK_RESTRICT written);
 
-/* Writes a PRes, 24 octets and the payload, or 60: from `source` to node 255 and POWERLINK_MULTICAST_PRES.
+/* Writes a PRes, 24 octets and the payload, but at least 60: from `source` to node 255 and POWERLINK_MULTICAST_PRES.
  * Tests: 1, 5. Refused: nothing is written, but `octet` with 5. */
 uint8_t powerlink_new_pres(
     const uint8_t source_mac[POWERLINK_ARRAY(POWERLINK_MAC_LEN)], uint8_t source, uint8_t state,
@@ -447,7 +449,7 @@ uint8_t powerlink_new_soa(
     uint8_t *POWERLINK_RESTRICT target, size_t target_len, size_t *POWERLINK_RESTRICT written,
     uint8_t *POWERLINK_RESTRICT octet);
 
-/* Writes an ASnd, 18 octets and the payload, or 60: from `source` to `target_node`.
+/* Writes an ASnd, 18 octets and the payload, but at least 60: from `source` to `target_node`.
  * Tests: 1, 6. Refused: nothing is written, but `octet` with 6. */
 uint8_t powerlink_new_asnd(
     const uint8_t source_mac[POWERLINK_ARRAY(POWERLINK_MAC_LEN)],
@@ -457,7 +459,13 @@ uint8_t powerlink_new_asnd(
     uint8_t *POWERLINK_RESTRICT target, size_t target_len, size_t *POWERLINK_RESTRICT written,
     uint8_t *POWERLINK_RESTRICT octet);
 
-/* ---- A controlled node that reports errors */
+/* ---- A controlled node that reports errors
+ *
+ * That no entry is lost and none booked twice is proved of reporters and a collector that start fresh together and go
+ * on from their own last states, over a line on which a repeat arrives before any later frame of the same sender. A
+ * batch is told from its repeat by one bit, EN, alone: a reporter that is made anew while the collector goes on may
+ * have its first batch taken for a known one, and lost, with 0 for an answer at both ends; so may one that goes on from
+ * a copy. Over a restart, keep the octets of the state, or start both ends anew. */
 
 /* Makes a fresh state for node `id`.
  * Tests: 13. Refused: nothing is written. */
@@ -470,8 +478,8 @@ uint8_t powerlink_reporter_raise(
     bool status_entry, bool send_to_queue, uint8_t mode, uint16_t profile, uint16_t code,
     uint32_t seconds, uint32_t nanoseconds, uint64_t information);
 
-/* Writes a StatusResponse, a whole frame, with the open batch. Where none is open and entries wait, the first four, or all
- * if fewer, become it. 60 octets without entries, else 52 and 20 for each.
+/* Writes a StatusResponse, a whole frame from this node to all (255), with the open batch. Where none is open and
+ * entries wait, the first four, or all if fewer, become it. 60 octets without entries, else 52 and 20 for each.
  * Tests: 1, 5. Refused: nothing is written and no batch opened, but `octet` with 5. */
 uint8_t powerlink_reporter_answer(
     uint8_t state[POWERLINK_ARRAY(POWERLINK_REPORTER_LEN)],
@@ -481,8 +489,8 @@ uint8_t powerlink_reporter_answer(
     uint8_t *POWERLINK_RESTRICT target, size_t target_len, size_t *POWERLINK_RESTRICT written,
     uint8_t *POWERLINK_RESTRICT octet);
 
-/* Reads a frame: from the managing node, a PReq to this node or an SoA with it as target may acknowledge the open batch.
- * `outcome`: POWERLINK_IGNORED, _KEPT or _CLOSED.
+/* Reads a frame: from the managing node, a PReq to this node or an SoA with it as target may acknowledge the open
+ * batch. `outcome`: POWERLINK_IGNORED, _KEPT or _CLOSED.
  * Tests: those of powerlink_deserialize_frame. Refused: nothing is written, but `octet` with 4 to 7. */
 uint8_t powerlink_reporter_read(
     uint8_t state[POWERLINK_ARRAY(POWERLINK_REPORTER_LEN)],
@@ -491,7 +499,7 @@ uint8_t powerlink_reporter_read(
 
 /* ---- A managing node that collects errors */
 
-/* Makes a fresh state: no node is registered. All zeros are one, too.
+/* Makes a fresh state, which is all zeros: no node is registered, and what is registered later stays so.
  * Refuses nothing: the answer is always 0. */
 uint8_t powerlink_collector_new(uint8_t state[POWERLINK_ARRAY(POWERLINK_COLLECTOR_LEN)]);
 
@@ -499,9 +507,11 @@ uint8_t powerlink_collector_new(uint8_t state[POWERLINK_ARRAY(POWERLINK_COLLECTO
  * Tests: 13, 14, 15. Refused: nothing is written. */
 uint8_t powerlink_collector_register(uint8_t state[POWERLINK_ARRAY(POWERLINK_COLLECTOR_LEN)], uint8_t id);
 
-/* Reads a frame: the batch of a registered node's StatusResponse goes into its book of 64 entries, whole, unless it is there
- * already. `outcome`: POWERLINK_KNOWN or _BOOKED.
- * Tests: those of powerlink_deserialize_frame, 10, 11, 1 and 5 of the StatusResponse, then 12, where the batch is not known.
+/* Reads a frame: the batch of a registered node's StatusResponse goes into its book of 64 entries, whole, unless EN
+ * says that it was booked before. The frame's destination is not tested; a new EN without entries is booked too.
+ * `outcome`: POWERLINK_KNOWN or _BOOKED.
+ * Tests: those of powerlink_deserialize_frame, 10, 11, 1 and 5 of the StatusResponse, then 12, where the batch is not
+ * known.
  * Refused: nothing is written, but `octet` with 4 to 7. */
 uint8_t powerlink_collector_read(
     uint8_t state[POWERLINK_ARRAY(POWERLINK_COLLECTOR_LEN)],
@@ -525,8 +535,8 @@ uint8_t powerlink_collector_take(
 
 /* ---- The journal, which the program `journal` lists */
 
-/* Writes a record: `id` and the 20 octets of the entry, of whose profile 12 bits are written. The journal begins with
- * POWERLINK_JOURNAL_START, which the caller writes.
+/* Writes a record: `id` and the 20 octets of the entry, of whose profile the low 12 bits are written. The journal
+ * begins with POWERLINK_JOURNAL_START, which the caller writes.
  * Tests: 1, 19. Refused: nothing is written. */
 uint8_t powerlink_journal_record(
     uint8_t id, bool status_entry, bool send_to_queue, uint8_t mode, uint16_t profile, uint16_t code,

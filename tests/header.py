@@ -2,7 +2,9 @@
 
 - Every exported function of crates/powerlink/src is declared, with the same parameters in the same order, and no other:
   a lent slice is a pointer and a length, an array has its length, what is not `&mut` is const, and pointers are restrict.
-- Every declaration has a comment of its own, which names its causes, and `octet` where there is one.
+- Every declaration has a comment of its own. Its causes and their order are those of the contract: of a writer, as its
+  definition in specs/Given.antt tests them; of any other call, as ORDERS has them. `octet` goes with those of 4 to 7.
+  What else the comments say is not looked at.
 - Every constant has the value of its source, a `const` or a definition in specs/, and none is without a source; every
   code, cause, outcome and place of a value has its constant.
 It prints a line for each fault.
@@ -191,7 +193,33 @@ def outcomes():
 # ---- the functions of the sources
 
 SCALARS = {'u8': 'uint8_t', 'u16': 'uint16_t', 'u32': 'uint32_t', 'u64': 'uint64_t', 'usize': 'size_t', 'bool': 'bool'}
-EXPORTED = re.compile(r'^(#\[no_mangle\]\s+)?(?:pub )?extern "C" fn (\w+)\((.*?)\)\s*->\s*(\w+)', re.M | re.S)
+EXPORTED = re.compile(
+    r'^(#\[no_mangle\]\s+)?(?:pub(?:\(\w+\))? )?extern "C" fn (\w+)\((.*?)\)\s*->\s*(\w+)\s+ensures \{ λ r\. ⌜ (\w+)(?: \((\w+))?',
+    re.M | re.S,
+)
+
+# The causes of a contract, in the order of their tests (01: "Causes"); those of `deserialize_frame` are said in words.
+ORDERS = {
+    'WritesTo': [1], 'EthRead': [1], 'PlRead': [1, 4], 'StatusRead': [1, 5], 'FieldRead': [1], 'EntryRead': [1], 'StepRead': [],
+    'ReporterMakes': [13], 'ReporterRaises': [8, 9], 'ReporterAnswers': [1, 5], 'CollectorMakes': [],
+    'CollectorRegisters': [13, 14, 15], 'CollectorRequests': [11, 1, 5], 'CollectorTakes': [11, 16], 'JournalRecords': [1, 19],
+}
+NAMED = {'typed': 4, 'stated': 5, 'served': 6, 'requested': 7}
+
+
+def order(contract, given):
+    """The causes of a contract in their order, or None where the comment says them in words."""
+    if contract != 'WritesCoded':
+        return ORDERS.get(contract)
+    body = re.search(rf'^{given} [^\n]*=\n((?: .*\n)+)', text_of('powerlink/specs/Given.antt'), re.M)[1]
+    return [1] + [NAMED[word] for word in re.findall(r'\b(typed|stated|served|requested)\b', body)]
+
+
+def told(comment):
+    """The causes that a comment names, and those with which it says that `octet` is written."""
+    tests = re.search(r'Tests: ([\d,\s*]+)\.', comment)
+    with_octet = re.search(r'`octet`\s+(?:\*\s+)?with ([\d and]+)', comment)
+    return ([int(n) for n in re.findall(r'\d+', part[1])] if part else [] for part in (tests, with_octet))
 
 
 def as_c(name, kind, arrays):
@@ -214,11 +242,11 @@ def exported():
     for crate in ('reporter', 'collector'):
         for name, length in re.findall(r'^pub type (\w+) = \[u8; (\w+)\];', code_of(crate), re.M):
             arrays[name] = f'[u8; {constant(crate, length)}]'
-    for mangled, name, parameters, result in EXPORTED.findall(code_of('powerlink')):
+    for mangled, name, parameters, result, contract, given in EXPORTED.findall(code_of('powerlink')):
         found = []
         for parameter in filter(None, (' '.join(part.split()) for part in parameters.split(','))):
             found += as_c(*parameter.split(': ', 1), arrays)
-        yield name, (SCALARS[result], found), bool(mangled)
+        yield name, (SCALARS[result], found), bool(mangled), order(contract, given)
 
 
 # ---- the header
@@ -239,9 +267,14 @@ class Header:
                 self.faults.append(f'POWERLINK_{name} is there twice')
             numbers = [int(number, 0) for number in value.strip('{}').split(',')]
             self.constants[name] = numbers if value[0] == '{' else numbers[0]
+        # Whatever is named in another form than those read here, or named anew.
+        self.faults += [f'{line.strip()}: not looked at' for line in re.findall(r'^#\s*undef.*$', bare, re.M)]
+        seen = {f'POWERLINK_{name}' for name in self.constants} | {'POWERLINK_H', 'POWERLINK_RESTRICT', 'POWERLINK_ARRAY'}
         self.used = set(re.findall(r'POWERLINK_ARRAY\(POWERLINK_(\w+)\)', bare))
         declared = re.findall(r'^(\w+) (powerlink_\w+)\(([^;]*)\);', bare, re.M)
         self.functions = {name: (result, self.parameters(inside)) for result, name, inside in declared}
+        words = re.findall(r'\bpowerlink_\w+|\bPOWERLINK_\w+', bare, re.I)
+        self.faults += [f'{word} is in a form that is not read' for word in words if word not in seen and word not in self.functions]
 
     def parameters(self, inside):
         """The parameters of a declaration, with the macros as C has them and lengths as numbers."""
@@ -258,8 +291,11 @@ class Header:
 
 def function_faults(header):
     there = {}
-    for name, signature, mangled in exported():
+    for name, signature, mangled, causes in exported():
         there[name] = signature
+        tests, with_octet = told(header.comment(name))
+        if causes is not None and (tests != causes or with_octet != [cause for cause in causes if 4 <= cause <= 7]):
+            yield f'the comment of {name} has the causes {tests}, `octet` with {with_octet}; its contract has {causes}'
         if not mangled:
             yield f'{name} is exported without #[no_mangle]'
         if name not in header.functions:
@@ -272,8 +308,8 @@ def function_faults(header):
             yield f'{name} is declared, and not in the sources'
         if not re.search(r'Tests: |Refuses nothing', header.comment(name)):
             yield f'{name} has no comment of its own that names its causes'
-        told = any(parameter.endswith(' octet') for parameter in header.functions[name][1])
-        if told != ('`octet`' in header.comment(name)):
+        given = any(parameter.endswith(' octet') for parameter in header.functions[name][1])
+        if given != ('`octet`' in header.comment(name)):
             yield f'{name} and its comment differ in `octet`'
 
 
@@ -289,7 +325,12 @@ def constant_faults(header):
     for name in header.constants:
         if name not in wanted and name not in header.used:
             yield f'POWERLINK_{name} has no source'
-    for line in ('#define POWERLINK_RESTRICT restrict', '#define POWERLINK_ARRAY(n) restrict static n'):
+    for line in (
+        '#define POWERLINK_RESTRICT restrict',
+        '#define POWERLINK_ARRAY(n) restrict static n',
+        '#define POWERLINK_ARRAY(n) n',
+        'extern "C" {',
+    ):
         if f'\n{line}\n' not in header.text:
             yield f'the header lacks: {line}'
 

@@ -145,7 +145,7 @@ impl fmt::Display for Error {
 
 impl core::error::Error for Error {}
 
-/// A slice that is not as long as an array: cause 1, as in powerlink-rs.
+/// A slice that is not as long as an array: cause 1, where powerlink-rs has `SliceConversion`.
 impl From<TryFromSliceError> for Error {
     fn from(_: TryFromSliceError) -> Self {
         Error::BufferTooShort

@@ -62,7 +62,7 @@ pub const RECORD_LEN: usize = 21;
 
 /// Writes a record to the front of `target`, and gives its length, 21. The entry's profile loses
 /// what lies above its 12 bits. Refused are a shorter target (1), then an entry with the
-/// terminator's mode and an ID that is not one of 1 to 239 (19).
+/// terminator's mode, or an ID that is not one of 1 to 239 (19).
 pub fn record(id: NodeId, entry: &ErrorEntry, target: &mut [u8]) -> Result<usize, Error> {
     ffi::journal_record(id, entry, target)
 }

@@ -90,19 +90,25 @@
 //! arrives before any later frame of the same sender) is up to the caller.
 //!
 //! No call panics, unless the archive does not keep what its source promises, as one of another
-//! version may.
+//! version may, or there is no memory to allocate: a [`Collector`] is boxed, and
+//! [`StatusFields::serialize`] gathers its entries.
 //!
 //! # For readers of powerlink-rs
 //!
-//! Names and fields are those of powerlink-rs, with [`Error`] for `PowerlinkError`. What differs:
-//! the Ethernet header and the payload stand beside the frame ([`Frame`], [`NewFrame`]) and no more
-//! in it; `message_type` goes with the kind; `StatusResponsePayload` is [`StatusFields`] for
-//! writing and [`StatusResponse`] for reading, with an iterator over the entries. `Codec` and
-//! `CodecHelpers` are methods and functions here. `PRFlag::try_from` and `EntryType::from_u16`
-//! cannot fail, and say so; a mode that is none is [`UnknownMode`], and a node ID [`NodeIdError`],
-//! neither of which is an [`Error`]. Not here are the sums of `NetTime` and `RelativeTime`,
-//! `PayloadSize`, the mapping of PDOs, `from_u8_with_context`, whose context changes nothing, and
-//! what leads to the state machines. Where the behaviour differs is in `docs/DIFFERENCES.md`.
+//! Names and fields are those of powerlink-rs, with [`Error`] for `PowerlinkError`, and all stand
+//! at the crate's root. What differs: the Ethernet header and the payload stand beside the frame
+//! ([`Frame`], [`NewFrame`]) and no more in it; `message_type` goes with the kind;
+//! `StatusResponsePayload` is [`StatusFields`] for writing and [`StatusResponse`] for reading,
+//! with an iterator over the entries. `Codec` and `CodecHelpers` are methods and functions here.
+//! `PRFlag::try_from` and `EntryType::from_u16` cannot fail, and say so; a mode that is none is
+//! [`UnknownMode`], and a node ID [`NodeIdError`], neither of which is an [`Error`].
+//! `MessageType::try_from` fails with an [`Error`], and a slice of another length than an array is
+//! [`Error::BufferTooShort`]. `deserialize_pl_header` gives a [`PlHeader`], and writing a header
+//! answers with a `Result`. Not here are the constants for sizes and for the nodes 253 and 254,
+//! `TimeOfDay`, `TimeDifference`, `NodeType`, the aliases of basic types, the sums of `NetTime`
+//! and `RelativeTime`, `PayloadSize`, the mapping of PDOs, `from_u8_with_context`, whose context
+//! changes nothing, and what leads to the state machines. Where the behaviour differs is in
+//! `docs/DIFFERENCES.md`, whose "ours" is the library below.
 #![no_std]
 #![deny(unsafe_code)]
 #![warn(missing_docs)]

@@ -27,13 +27,13 @@ static void write_record(uint8_t id, uint8_t mode, uint16_t profile, uint16_t co
     target[POWERLINK_RECORD_LEN] = 0x55;
     want("a record",
         powerlink_journal_record(
-            id, true, true, mode, profile, code, seconds, 6, information, target, sizeof target, &written),
+            id, true, false, mode, profile, code, seconds, 6, information, target, sizeof target, &written),
         POWERLINK_DONE);
     want("its length", written, POWERLINK_RECORD_LEN);
     want("the octet behind it", target[POWERLINK_RECORD_LEN], 0x55);
     want("its ID", target[0], id);
     want("its entry",
-        powerlink_serialize_entry(true, true, mode, profile, code, seconds, 6, information, entry, sizeof entry, &written),
+        powerlink_serialize_entry(true, false, mode, profile, code, seconds, 6, information, entry, sizeof entry, &written),
         POWERLINK_DONE);
     want_octets("its entry", target + 1, entry, sizeof entry);
     want("writing", fwrite(target, 1, POWERLINK_RECORD_LEN, stdout), POWERLINK_RECORD_LEN);

@@ -123,12 +123,13 @@ static void refusals(void)
 {
     uint8_t head_before[POWERLINK_REPORTER_LEN], box_before[POWERLINK_COLLECTOR_LEN];
     uint8_t small[POWERLINK_REQUEST_LEN - 1], small_before[sizeof small];
-    uint64_t entry[POWERLINK_ENTRY_VALUES];
+    uint64_t entry[POWERLINK_ENTRY_VALUES] = {1, 2, 3, 4, 5, 6, 7, 8}, entry_before[POWERLINK_ENTRY_VALUES];
     size_t written = 0xEE;
     uint8_t outcome = 0xEE;
 
     memset(small, 0x55, sizeof small);
     memcpy(small_before, small, sizeof small);
+    memcpy(entry_before, entry, sizeof entry);
     memcpy(head_before, head, sizeof head);
     memcpy(box_before, box, sizeof box);
 
@@ -169,10 +170,13 @@ static void refusals(void)
         POWERLINK_NOT_STATUS_RESPONSE);
     want("reading a cut frame", powerlink_reporter_read(head, request, 13, &outcome, &octet), POWERLINK_TOO_SHORT);
     want("the outcome", outcome, 0xEE);
+    want("the head reading an answer", powerlink_reporter_read(head, answer, answer_len, &outcome, &octet), POWERLINK_DONE);
+    want("the outcome", outcome, POWERLINK_IGNORED);
     want("the octet", octet, 0xEE);
 
     want("the length", written, 0xEE);
     want_octets("the target", small, small_before, sizeof small);
+    want_octets("the entry", (const uint8_t *)entry, (const uint8_t *)entry_before, sizeof entry);
     want_octets("the head", head, head_before, sizeof head);
     want_octets("the box", box, box_before, sizeof box);
     printf("refused calls change nothing\n");

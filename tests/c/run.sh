@@ -27,6 +27,14 @@ for standard in c++11 c++17; do
     done
 done
 
+# A C++ program links: the names are those of C.
+if command -v c++ > /dev/null; then
+    printf '%s\n' '#include "powerlink.h"' \
+        'int main() { static uint8_t s[POWERLINK_COLLECTOR_LEN]; return powerlink_collector_new(s); }' > "$out/link.cc"
+    c++ -std=c++11 $warned "$out/link.cc" "$lib" -o "$out/link"
+    "$out/link"
+fi
+
 # The archive asks for nothing but what the header says.
 if command -v nm > /dev/null && nm -u "$lib" | grep ' U ' | grep -v ' memset$'; then
     echo "tests/c: the archive calls more than memset"
