@@ -13,7 +13,7 @@ use types::hal::PowerlinkError;
 use types::service::ServiceId;
 use types::service::ServiceIdAnswer;
 
-pub fn deserialize(s: &[u8]) -> FrameAnswer
+pub(crate) fn deserialize(s: &[u8]) -> FrameAnswer
     ensures { λ r. ⌜ r ≡ readASnd (now (s .entry)) ⌝ }
 {
     if s.len() < 4 {

@@ -1,5 +1,7 @@
 // The two headers that every frame begins with (powerlink-rs: CodecHelpers).
 ghost use mathlib.Core.Path.{_≡_};
+ghost use Prim.Native.Nat.{_≤_};
+ghost use lib.ListN.{length};
 ghost use Rattle.types.specs.Header.{ethHeaderOf, macOf};
 ghost use Rattle.codec.specs.Headers.{deserializeEthHeader, deserializePlHeader};
 use octets::big_endian::get_u16_be;
@@ -57,6 +59,35 @@ pub fn eth_header_at(buffer: &[u8]) -> EthernetHeader
         destination_mac: mac_at(buffer),
         source_mac: mac_at(tail(buffer, 6)),
         ether_type: get_u16_be(buffer, 12),
+    }
+}
+
+// The same of a buffer that has the 14 octets: none of them is tested by itself.
+pub(crate) fn whole_header(buffer: &[u8]) -> EthernetHeader
+    requires { ⌜ 14 ≤ length (now buffer) ⌝ }
+    ensures { λ r. ⌜ r ≡ ethHeaderOf (now (buffer .entry)) ⌝ }
+{
+    let destination = [
+        buffer[0],
+        buffer[1],
+        buffer[2],
+        buffer[3],
+        buffer[4],
+        buffer[5],
+    ];
+    let source = [
+        buffer[6],
+        buffer[7],
+        buffer[8],
+        buffer[9],
+        buffer[10],
+        buffer[11],
+    ];
+    let ether_type = get_u16_be(buffer, 12);
+    EthernetHeader {
+        destination_mac: MacAddress(destination),
+        source_mac: MacAddress(source),
+        ether_type,
     }
 }
 

@@ -1,8 +1,8 @@
-// Reading any frame (powerlink-rs: frame/codec.rs). A kind's rules are reached only through `deserialize_frame`.
+// Reading any frame (powerlink-rs: frame/codec.rs). A kind's rules are reached only through `read_frame`, which `deserialize_frame` calls.
 ghost use mathlib.Core.Path.{_≡_};
 ghost use Rattle.codec.specs.Frame.{readFrame, readSection, byKind, placeOf, payloadOf, Reads};
 
-mod asnd;
+pub mod asnd;
 pub mod headers;
 mod preq;
 mod pres;
@@ -11,6 +11,7 @@ mod soc;
 
 use frame::PowerlinkFrame;
 use headers::eth_header_at;
+use headers::whole_header;
 use octets::big_endian::get_u16_be;
 use octets::slices::byte_at;
 use octets::slices::front;
@@ -55,13 +56,19 @@ impl DeserializedFrame {
 pub fn deserialize_frame(buffer: &[u8]) -> DeserializedFrame
     ensures { λ r. ⌜ Reads (now (buffer .entry)) r ⌝ }
 {
-    let eth_header = eth_header_at(buffer);
-    let answer = read_frame(buffer);
-    let payload_place = place_of(answer, tail(buffer, 14));
+    if 14 <= buffer.len() {
+        let answer = read_frame(buffer);
+        let payload_place = place_of(answer, tail(buffer, 14));
+        return DeserializedFrame {
+            eth_header: whole_header(buffer),
+            answer,
+            payload_place,
+        };
+    }
     DeserializedFrame {
-        eth_header,
-        answer,
-        payload_place,
+        eth_header: eth_header_at(buffer),
+        answer: FrameAnswer::Refused(PowerlinkError::BufferTooShort),
+        payload_place: PayloadPlace { start: 0, len: 0 },
     }
 }
 
@@ -75,8 +82,8 @@ pub fn payload(place: PayloadPlace, buffer: &[u8]) -> &[u8]
     front(tail(buffer, start), len)
 }
 
-// The frame, or why it is refused.
-fn read_frame(buffer: &[u8]) -> FrameAnswer
+// The frame, or why it is refused: for a caller that wants neither header nor payload.
+pub fn read_frame(buffer: &[u8]) -> FrameAnswer
     ensures { λ r. ⌜ r ≡ readFrame (now (buffer .entry)) ⌝ }
 {
     if buffer.len() < 14 {

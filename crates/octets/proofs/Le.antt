@@ -1,12 +1,12 @@
 -- Numbers of several bytes, low byte first: one law for every width.
 -- Assumes nothing.
 use Prim.Native.Nat.{ℕ, zero, suc, _+_, _*_, _/_, _^_, _<_}
-use mathlib.Core.Path.{_≡_, refl, sym, _∙_}
+use mathlib.Core.Path.{_≡_, refl, sym, ap, _∙_}
 use mathlib.Core.List.{List, [], _∷_}
-use native.Mathlib.Nat.{zero-add, suc-add, pow-zero, pow-succ', mul-assoc, mul-zero}
+use native.Mathlib.Nat.{zero-add, add-zero, suc-add, pow-zero, pow-succ', mul-assoc, mul-zero}
 use native.Mathlib.Omega.{arith}
 use lib.ListN.{take, drop, getD}
-use lib.Seq.{take-nil, getD-drop}
+use lib.Seq.{take-nil, getD-drop, drop-drop}
 use Rattle.octets.specs.Numbers.{le, leAt, leBytes, beAt}
 
 -- n bytes and the m after them
@@ -29,6 +29,26 @@ pub joined : (n at lo hi : ℕ) (s t : List ℕ) → t ≡ drop at s → lo ≡ 
     → lo + 256 ^ n * hi ≡ leAt (n + n) at s
 unfolding leAt
 joined n at lo hi s t et el eh = rw (el, eh, et) (sym (split n n (drop at s)))
+
+-- a number r that is made of its halves, of n octets each
+pub of-halves : (n at r lo hi : ℕ) (s t : List ℕ) → t ≡ drop at s → lo ≡ leAt n 0 t → hi ≡ leAt n n t → r ≡ lo + 256 ^ n * hi → r ≡ leAt (n + n) at s
+of-halves n at r lo hi s t et el eh er = er ∙ joined n at lo hi s t et el eh
+
+pub of-two : (at r lo hi : ℕ) (s t : List ℕ) → t ≡ drop at s → lo ≡ getD t 0 0 → hi ≡ getD t 1 0 → r ≡ lo + 256 * hi → r ≡ leAt 2 at s
+of-two at r lo hi s t et el eh er = of-halves 1 at r lo hi s t et (el ∙ byte 0 t) (eh ∙ byte 1 t) er
+
+-- two octets, and four, by the places of each
+pub pair : (i r : ℕ) (t : List ℕ) → r ≡ getD t i 0 + 256 * getD t (i + 1) 0 → r ≡ leAt 2 i t
+pair i r t e =
+    let h : getD t i 0 ≡ getD (drop i t) 0 0 = rw (getD-drop i t 0 0, add-zero) in
+    of-two i r _ _ t (drop i t) refl h (sym (getD-drop i t 1 0)) e
+
+pub quad : (i r lo hi : ℕ) (t : List ℕ) → lo ≡ getD t i 0 + 256 * getD t (i + 1) 0 → hi ≡ getD t (i + 2) 0 + 256 * getD t (i + 2 + 1) 0
+    → r ≡ lo + 256 ^ 2 * hi → r ≡ leAt 4 i t
+unfolding leAt
+quad i r lo hi t el eh er =
+    let h = pair (i + 2) hi t eh ∙ ap (λ (l : List ℕ). le (take 2 l)) (sym (drop-drop 2 i t)) in
+    of-halves 2 i r lo hi t (drop i t) refl (pair i lo t el) h er
 
 -- the n bytes of a number that n bytes hold are read back as it
 pub bytes-back : (n v : ℕ) → v < 256 ^ n → le (leBytes n v) ≡ v

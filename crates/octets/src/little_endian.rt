@@ -1,31 +1,63 @@
 // Numbers of 16, 32 and 64 bits, low octet first: the order of every number in a section (01, module 5).
 ghost use mathlib.Core.Path.{_≡_};
+ghost use Prim.Native.Nat.{_+_, _*_};
 ghost use lib.Seq.{sets};
 ghost use Rattle.octets.specs.Numbers.{leAt, leBytes};
 use crate::slices::byte_at;
 use crate::slices::put;
 use crate::slices::tail;
 
-// The number that the 2, 4 or 8 octets of `s` from place `at` on make.
+// The number that the 2, 4 or 8 octets of `s` from place `at` on make. The length is tested once: where all are there, they
+// are read at once.
 pub fn get_u16_le(s: &[u8], at: usize) -> u16
     ensures { λ r. ⌜ r ≡ leAt 2 at (now (s .entry)) ⌝ }
 {
     let t = tail(s, at);
-    (byte_at(t, 0) as u16) + 0x100 * (byte_at(t, 1) as u16)
+    if t.len() < 2 {
+        return join_u16(byte_at(t, 0), byte_at(t, 1));
+    }
+    join_u16(t[0], t[1])
 }
 
 pub fn get_u32_le(s: &[u8], at: usize) -> u32
     ensures { λ r. ⌜ r ≡ leAt 4 at (now (s .entry)) ⌝ }
 {
     let t = tail(s, at);
-    (get_u16_le(t, 0) as u32) + 0x1_0000 * (get_u16_le(t, 2) as u32)
+    if t.len() < 4 {
+        return join_u32(get_u16_le(t, 0), get_u16_le(t, 2));
+    }
+    join_u32(join_u16(t[0], t[1]), join_u16(t[2], t[3]))
 }
 
 pub fn get_u64_le(s: &[u8], at: usize) -> u64
     ensures { λ r. ⌜ r ≡ leAt 8 at (now (s .entry)) ⌝ }
 {
     let t = tail(s, at);
-    (get_u32_le(t, 0) as u64) + 0x1_0000_0000 * (get_u32_le(t, 4) as u64)
+    if t.len() < 8 {
+        return join_u64(get_u32_le(t, 0), get_u32_le(t, 4));
+    }
+    let low = join_u32(join_u16(t[0], t[1]), join_u16(t[2], t[3]));
+    let high = join_u32(join_u16(t[4], t[5]), join_u16(t[6], t[7]));
+    join_u64(low, high)
+}
+
+// The number of two halves, low half first.
+fn join_u16(low: u8, high: u8) -> u16
+    ensures { λ r. ⌜ r ≡ low + 0x100 * high ⌝ }
+{
+    (low as u16) + 0x100 * (high as u16)
+}
+
+fn join_u32(low: u16, high: u16) -> u32
+    ensures { λ r. ⌜ r ≡ low + 0x1_0000 * high ⌝ }
+{
+    (low as u32) + 0x1_0000 * (high as u32)
+}
+
+fn join_u64(low: u32, high: u32) -> u64
+    ensures { λ r. ⌜ r ≡ low + 0x1_0000_0000 * high ⌝ }
+{
+    (low as u64) + 0x1_0000_0000 * (high as u64)
 }
 
 // The 2, 4 or 8 octets of a number.

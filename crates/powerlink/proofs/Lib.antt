@@ -1,6 +1,8 @@
+mod Coded
 mod Collectors
 mod Fronts
 mod Journals
 mod Readers
 mod Reporters
+mod Sections
 mod Writers

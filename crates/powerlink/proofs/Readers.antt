@@ -12,11 +12,7 @@ use Rattle.types.specs.declared.hal.PowerlinkError.{PowerlinkError}
 use Rattle.types.specs.declared.hal.PowerlinkError.the-variants.{BufferTooShort, InvalidNmtState}
 use Rattle.types.specs.declared.states.NmtState.{NmtState}
 use Rattle.types.specs.declared.states.NmtStateAnswer.the-variants.{Known, Unknown}
-use Rattle.frame.specs.declared.PowerlinkFrame.{PowerlinkFrame}
-use Rattle.codec.specs.Frame.{readFrame, deserializeFrame, Reads}
 use Rattle.codec.specs.Headers.{deserializeEthHeader, deserializePlHeader}
-use Rattle.codec.specs.declared.DeserializedFrame.{DeserializedFrame}
-use Rattle.codec.specs.declared.FrameAnswer.the-variants.{Frame, Refused}
 use Rattle.codec.specs.declared.headers.DeserializedEthHeader.{DeserializedEthHeader}
 use Rattle.codec.specs.declared.headers.EthHeaderAnswer.the-variants as eth
 use Rattle.codec.specs.declared.headers.PlHeader.{PlHeader}
@@ -32,30 +28,12 @@ use Rattle.status_response.specs.declared.bit_field.ErrorFieldAnswer.the-varian
 use Rattle.status_response.specs.declared.fields.StatusAnswer.the-variants as status
 use Rattle.status_response.specs.declared.walk.EntryStep.the-variants as step
 use Rattle.numbers.specs.Answers.{errorOctet}
-use Rattle.numbers.specs.Values.{frameNumbers, statusNumbers, entryNumbers}
-use Rattle.powerlink.specs.Reading.{FrameRead, EthRead, PlRead, StatusRead, FieldRead, EntryRead, StepRead}
+use Rattle.numbers.specs.Values.{statusNumbers, entryNumbers}
+use Rattle.powerlink.specs.Reading.{EthRead, PlRead, StatusRead, FieldRead, EntryRead, StepRead}
 
 -- what `refusal` tells of an error
 abbrev Told : PowerlinkError → ℕ → ℕ → ℕ → Type 0
 Told e r o o′ = (r ≡ causeNumber e) × (o′ ≡ errorOctet e o)
-
-module _ (f : List ℕ) (d : DeserializedFrame) (w : Reads f d) where
-  answer-is : readFrame f ≡ d .answer
-  unfolding deserializeFrame
-  answer-is = sym (ap (λ (x : DeserializedFrame). x .answer) (w .read))
-
-  place-is : deserializeFrame f .«payload_place» ≡ d .«payload_place»
-  place-is = sym (ap (λ (x : DeserializedFrame). x .«payload_place») (w .read))
-
-  pub frame-refused : (v : List ℕ) (r o o′ : ℕ) (e : PowerlinkError) → d .answer ≡ Refused e → Told e r o o′ → FrameRead f r v v o o′
-  frame-refused v r o o′ e ea t =
-      let q = answer-is ∙ ea in
-      record { cause = t .0 ∙ rw q; values = rw q; octet = t .1 ∙ rw q }
-
-  pub frame-read : (v v′ : List ℕ) (o : ℕ) (x : PowerlinkFrame) → d .answer ≡ Frame x → v′ ≡ frameNumbers x (d .«payload_place») → FrameRead f 0 v v′ o o
-  frame-read v v′ o x ea ev =
-      let q = answer-is ∙ ea in
-      record { cause = rw q; values = ev ∙ rw (q, place-is); octet = rw q }
 
 module _ (f : List ℕ) (d : DeserializedEthHeader) (w : d ≡ deserializeEthHeader f) where
   pub eth-refused : (a b : List ℕ) (t r : ℕ) (e : PowerlinkError) → d .answer ≡ eth.Refused e → r ≡ causeNumber e → EthRead f r a a b b t t

@@ -3,4 +3,5 @@ pub mod Given
 pub mod Journal
 pub mod Reading
 pub mod Reporting
+pub mod Sections
 pub mod Writing

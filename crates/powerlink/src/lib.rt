@@ -10,5 +10,6 @@ pub mod headers;
 pub mod journal;
 pub mod reading;
 pub mod reporting;
+mod section_values;
 pub mod status;
 pub mod writing;

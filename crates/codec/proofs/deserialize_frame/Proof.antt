@@ -2,18 +2,35 @@
 -- Assumes nothing.
 use borrow.Author.Needs.{needs}
 use Rattle.codec.specs.Frame.{deserializeFrame}
+use Rattle.codec.proofs.FrameLaws.{frame-short}
 use Rattle.codec.proofs.deserialize_frame.Statement.{statement}
 use Rattle.codec.proofs.deserialize_frame.Tie as tie
 
 returns : tie.Need-returns
 unfolding deserializeFrame
 returns c =
-    let r = c .before .before .read-frame .ensures in
+    let p = c .before in
+    let r = p .before .before .read-frame .ensures in
     record {
-      read = rw (c .place-of .ensures, c .before .tail .ensures, r, c .before .before .before .eth-header-at .ensures);
+      read = rw (c .whole-header .ensures, p .place-of .ensures, p .before .tail .ensures, r);
       cause = rw r;
     }
 
+returns-2 : tie.Need-returns-2
+unfolding deserializeFrame
+returns-2 c =
+    let f = c .before .before .before .args .buffer .now in
+    let q = frame-short f (c .before .if1 .left) in
+    record { read = rw (c .eth-header-at .ensures, ← q); cause = rw (← q) }
+
 pub deserialize-frame-spec : {M : Type 1} → statement M
 deserialize-frame-spec =
-    tie.close (tie.spec (search needs) (search needs) (search needs) (search needs) returns)
+    tie.close
+    (tie.spec
+    (search needs)
+    (search needs)
+    (search needs)
+    (search needs)
+    returns
+    (search needs)
+    returns-2)

@@ -1,0 +1,22 @@
+-- `section_values::asnd_values` meets its contract.
+-- Assumes nothing.
+use borrow.Author.Needs.{needs}
+use Rattle.powerlink.proofs.Coded.{service-code}
+use Rattle.powerlink.proofs.section_values.asnd_values.Statement.{statement}
+use Rattle.powerlink.proofs.section_values.asnd_values.Tie as tie
+
+returns : tie.Need-returns
+returns c sv e = cc (service-code _ sv e)
+
+pub asnd-values-spec : {M : Type 1} → statement M
+asnd-values-spec =
+    tie.close
+    (tie.spec
+    (search needs)
+    (search needs)
+    (search needs)
+    (search needs)
+    (search needs)
+    (search needs)
+    (search needs)
+    returns)
