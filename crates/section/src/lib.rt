@@ -44,12 +44,7 @@ pub fn write_section(header: &[u8], payload: &[u8], target: &mut [u8]) -> WriteA
 }
 
 // Writes the octets `front` and behind them such a section, if both fit.
-pub fn write_behind(
-    front: &[u8],
-    header: &[u8],
-    payload: &[u8],
-    target: &mut [u8],
-) -> WriteAnswer
+pub fn write_behind(front: &[u8], header: &[u8], payload: &[u8], target: &mut [u8]) -> WriteAnswer
     ensures { λ r. ⌜ Writes (now (front .entry) ++ padded (now (header .entry) ++ now (payload .entry))) r (now (target .entry)) (now (target .exit)) ⌝ }
 {
     let used = header.len() + payload.len();
