@@ -1,6 +1,7 @@
 #!/bin/sh
-# Lists a journal of 100 MB with the program `journal` and with a plain C program that uses printf, in turn, and prints the
-# medians of seven rounds and their ratio. Needs cc and target/bin/journal (rt check journal).
+# Lists a journal of 100 MB, of records that differ in every field, with the program `journal` and with a plain C program
+# that uses printf, in turn, and prints the medians of seven rounds and their ratio. Needs cc and target/bin/journal (rt check
+# journal).
 set -eu
 cd "$(dirname "$0")/.."
 journal=target/bin/journal
@@ -8,13 +9,21 @@ dir=$(mktemp -d)
 trap 'rm -rf "$dir"' EXIT
 cc -O2 -Wall -Wextra -Werror bench/journal_printf.c -o "$dir/printf"
 
-# 128 records, doubled 15 times, and once more half of that: 4.8 million in all.
-record=0
-while [ "$record" -lt 128 ]; do
-    printf "\\$(printf %03o $((record + 1)))\\002\\120\\064\\022\\005\\000\\000\\000\\006\\000\\000\\000\\000\\001\\002\\003\\004\\005\\006\\007"
-    record=$((record + 1))
-done >"$dir/records"
-for _ in 1 2 3 4 5 6 7 8 9 10 11 12 13 14 15; do
+# 4,096 records, doubled 10 times, and 600,000 more: 4.8 million in all. The seconds have 1 to 10 digits in turn.
+printf "$(awk '
+    function put(n, octets) { while (octets-- > 0) { printf "\\%03o", n % 256; n = int(n / 256) } }
+    BEGIN {
+        for (i = 0; i < 4096; i++) {
+            put(i % 239 + 1, 1)
+            put((i % 3 + 1) * 4096 + i * 37 % 4096, 2)
+            put(i * 40503 % 65536, 2)
+            put(int(4294967295 / 10 ^ (i % 10)) - i % 4, 4)
+            put(i * 244141 % 1000000000, 4)
+            put(i * 1048583 % 4294967296, 4)
+            put(i * 786433 % 4294967296, 4)
+        }
+    }')" >"$dir/records"
+for _ in 1 2 3 4 5 6 7 8 9 10; do
     cat "$dir/records" "$dir/records" >"$dir/more"
     mv "$dir/more" "$dir/records"
 done

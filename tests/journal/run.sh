@@ -86,7 +86,10 @@ lists 'ID 255' "$header" 'refused 19'
 
 # Code CDABh; seconds 04030201h, nanoseconds 08070605h; information from EFh, the lowest octet, to 09h.
 journal "$start" '\052\270\152\253\315\001\002\003\004\005\006\007\010\357\315\253\220\170\126\064\011'
-lists 'unequal octets, and all digits from A to F' "$header" '42 CDAB 2 2744 67305985 134678021 0934567890ABCDEF'
+lists 'unequal octets' "$header" '42 CDAB 2 2744 67305985 134678021 0934567890ABCDEF'
+journal "$start" '\001\000\020\315\253\000\000\000\000\000\000\000\000\020\062\124\166\230\272\334\376' \
+    '\001\000\020\376\332\000\000\000\000\000\000\000\000\357\276\255\336\376\312\272\013' '\001\000\020\357\276\000\000\000\000\000\000\000\000'"$zeros"
+lists 'all digits from A to F' "$header" '1 ABCD 1 0 0 0 FEDCBA9876543210' '1 DAFE 1 0 0 0 0BBACAFEDEADBEEF' '1 BEEF 1 0 0 0 0000000000000000'
 journal "$start" "$largest"
 lists 'the longest line' "$header" '239 FFFF 3 4095 4294967295 4294967295 FFFFFFFFFFFFFFFF'
 journal "$start" '\001\000\020\000\000\000\000\000\000\000\000\000\000'"$zeros"
@@ -109,6 +112,8 @@ same 'a record across two reads'
 head -c 65537 "$dir/long" >"$dir/in"
 { head -n 3121 "$dir/many"; echo 'refused 19'; } >"$dir/expected"
 same 'one octet more than a buffer'
+head -c 65536 "$dir/long" >"$dir/in"
+same 'as many octets as a buffer has'
 head -c 65525 "$dir/long" >"$dir/in"
 head -n 3121 "$dir/many" >"$dir/expected"
 same 'whole records that nearly fill a buffer'
@@ -120,20 +125,32 @@ same 'whole records that nearly fill a buffer'
         printf "$octet"
         sleep 0.01
     done
-} | "$journal" >"$dir/listed"
+} | "$journal" >"$dir/listed" 2>"$dir/errors"
 printf '%s\n' "$header" '7 1234 1 2 5 6 0000000000000000' 'refused 19' | cmp - "$dir/listed"
+cmp /dev/null "$dir/errors"
 count=$((count + 1))
 
 # What fails is said on standard error, once; a reader that goes away is no failure.
 "$journal" <"$dir" >"$dir/listed" 2>"$dir/errors"
 echo 'journal: cannot read' | cmp - "$dir/errors"
-cp "$dir/long" "$dir/in"
+cmp /dev/null "$dir/listed"
+{
+    cat "$dir/long"
+    for _ in 1 2 3 4 5 6 7 8 9; do
+        tail -c +6 "$dir/long"
+    done
+} >"$dir/in"
 if [ -w /dev/full ]; then
     "$journal" <"$dir/in" >/dev/full 2>"$dir/errors"
     echo 'journal: cannot write' | cmp - "$dir/errors"
 fi
 "$journal" <"$dir/in" 2>"$dir/errors" | head -n 1 >/dev/null
 cmp /dev/null "$dir/errors"
+(
+    trap '' PIPE
+    "$journal" <"$dir/in" 2>"$dir/errors" | head -n 1 >/dev/null
+)
+echo 'journal: cannot write' | cmp - "$dir/errors"
 
 echo "journal: $count listings are as written by hand"
 "$(dirname "$0")/demo.sh"

@@ -4,7 +4,6 @@ use crate::entries::entry;
 use crate::entries::same;
 use crate::expected;
 use crate::expected::REQUEST_LEN;
-use crate::fields::request_fields;
 use crate::head::Head;
 use crate::journal;
 use crate::line::BOX;
@@ -13,15 +12,13 @@ use crate::line::send;
 use crate::line::sent;
 use crate::outcome;
 use crate::outcome::DONE;
+use crate::scene;
 use crate::tally::RECORDS;
 use crate::tally::REQUESTS;
 use crate::tally::count;
 use crate::tally::counted;
 use crate::tally::judge;
-use crate::target::FILL;
-use crate::target::ROOM;
 use crate::target::only_these;
-use crate::target::target_in;
 use crate::target::written;
 use crate::world::World;
 use collector::TakeAnswer;
@@ -59,16 +56,22 @@ pub fn read(mut world: World, chance: u64) -> World {
 // Writes a request to the head into a target of `room` octets, and sends it.
 pub fn request(mut world: World, room: usize) -> World {
     let head = world.head;
-    let mut space = [FILL; ROOM];
-    let target = target_in(&mut space, room);
-    let got = collector::request(&world.at_box, NodeId(head.id), request_fields(), target);
-    let n = outcome::request_length(got);
-    let expected = expected::requesting(head, room);
-    let right = only_these(&space, n, REQUEST_LEN);
-    judge(&mut world.tally, outcome::of_request(got), expected, right);
-    if n == REQUEST_LEN {
+    let made = scene::request(&world.at_box, head.id, room);
+    let right = only_these(made, REQUEST_LEN);
+    judge(
+        &mut world.tally,
+        made.outcome,
+        expected::requesting(head, room),
+        right,
+    );
+    if made.len == REQUEST_LEN {
         let number = counted(&world.tally, REQUESTS);
-        send(&mut world.line, BOX, number, written(&space, n));
+        send(
+            &mut world.line,
+            BOX,
+            number,
+            written(&made.space, REQUEST_LEN),
+        );
         count(&mut world.tally, REQUESTS);
     }
     world

@@ -1,108 +1,103 @@
 // The lines to check of the box.
-use crate::cases::case;
+use crate::fields::zero_fields;
 use crate::outcome::DONE;
 use crate::outcome::KNOWN;
+use crate::play::Play;
+use crate::play::fresh;
 use crate::scene;
 use crate::strange::soc;
 use crate::tally::Tally;
 use crate::target::ROOM;
 use collector::COLLECTOR_LEN;
-use collector::Collector;
 
-fn register(tally: &mut Tally, name: &[u8], state: &mut Collector, id: u8, expected: u64) {
-    case(tally, name, scene::register(state, id), expected);
+pub fn registering(tally: Tally) -> Tally {
+    let mut p = fresh(tally, 7, 7);
+    p.at_box = [0u8; COLLECTOR_LEN];
+    p = p.registers(0).is(13);
+    p = p.registers(240).is(13);
+    p = p.registers(7).is(DONE);
+    p = p.registers(7).is(14);
+    full(p)
 }
 
-pub fn registering(tally: &mut Tally) {
-    let mut state = [0u8; COLLECTOR_LEN];
-    collector::new(&mut state);
-    register(tally, b"registering 0", &mut state, 0, 13);
-    register(tally, b"registering 240", &mut state, 240, 13);
-    register(tally, b"registering 7", &mut state, 7, DONE);
-    register(tally, b"registering 7 again", &mut state, 7, 14);
-    register(tally, b"a second head", &mut state, 21, DONE);
-    register(tally, b"a third head", &mut state, 120, DONE);
-    register(tally, b"a fourth head", &mut state, 239, DONE);
-    register(tally, b"a fifth head", &mut state, 200, 15);
-    register(tally, b"a fifth of ID 240", &mut state, 240, 13);
-    register(tally, b"a fifth of ID 7", &mut state, 7, 14);
+// Three more heads, and then there is no place.
+fn full(start: Play) -> Tally {
+    let mut p = start;
+    p = p.registers(21).is(DONE);
+    p = p.registers(120).is(DONE);
+    p = p.registers(239).is(DONE);
+    p = p.registers(200).is(15);
+    p = p.registers(240).is(13);
+    p = p.registers(7).is(14);
+    p.tally
 }
 
-fn take(tally: &mut Tally, name: &[u8], state: &mut Collector, id: u8, expected: u64) {
-    case(tally, name, scene::take(state, id), expected);
+pub fn taking(tally: Tally) -> Tally {
+    let mut p = fresh(tally, 7, 7);
+    p = p.takes(8).is(11);
+    p = p.takes(0).is(11);
+    p = p.takes(7).is(16);
+    p.tally
 }
 
-pub fn taking(tally: &mut Tally) {
-    let mut state = scene::box_for(7);
-    take(tally, b"taking for an unregistered ID", &mut state, 8, 11);
-    take(tally, b"taking for ID 0", &mut state, 0, 11);
-    take(tally, b"taking with nothing booked", &mut state, 7, 16);
-}
-
-pub fn requesting(tally: &mut Tally) {
-    let state = scene::box_for(7);
-    let fits = scene::request(&state, 7, 60);
-    case(tally, b"a request into 60 octets", fits, DONE);
-    let short = scene::request(&state, 7, 59);
-    case(tally, b"a request into 59", short, 1);
-    let unregistered = scene::request(&state, 8, 59);
-    case(
-        tally,
-        b"one to an unregistered ID into 59",
-        unregistered,
-        11,
-    );
+pub fn requesting(tally: Tally) -> Tally {
+    let mut p = fresh(tally, 7, 7);
+    p = p.requests(7, 60).is(DONE);
+    p = p.requests(7, 59).is(1);
+    p = p.requests(8, 59).is(11);
+    p.tally
 }
 
 // Frames in the box's order: 10, 11, the rules of StatusResponses, known.
-pub fn reading(tally: &mut Tally) {
-    let mut head = scene::head(8);
-    let mut state = scene::box_for(7);
-    let mut space = [0u8; ROOM];
-    let len = soc(&mut space);
-    let other = scene::box_reads(&mut state, &space, len);
-    case(tally, b"an SoC to the box", other, 10);
-    scene::raise(&mut head, 1);
-    let n = scene::answer_length(&mut head, &mut space);
-    let unregistered = scene::box_reads(&mut state, &space, n);
-    case(
-        tally,
-        b"an answer of an unregistered head",
-        unregistered,
-        11,
-    );
-    let cut = scene::box_reads(&mut state, &space, 31);
-    case(tally, b"31 octets of it", cut, 11);
-    scene::register(&mut state, 8);
-    let short = scene::box_reads(&mut state, &space, 31);
-    case(tally, b"the 31 once it is registered", short, 1);
-    let whole = scene::box_reads(&mut state, &space, n);
-    case(tally, b"the whole answer", whole, DONE);
-    space[20] = 0x77;
-    let stateless = scene::box_reads(&mut state, &space, n);
-    case(tally, b"its repeat with a state that is none", stateless, 5);
-    case(tally, b"an answer of zeros", scene::zeros_read(), KNOWN);
+pub fn reading(tally: Tally) -> Tally {
+    let mut p = fresh(tally, 8, 7);
+    let frame = soc();
+    p.frame = frame;
+    p = p.box_reads_all().is(10);
+    p = p.raises_many(1).answers(ROOM).box_reads_all().is(11);
+    p = p.box_reads(31).is(11);
+    p = p.registers(8).box_reads(31).is(1);
+    p = p.box_reads_all().is(DONE);
+    odd_answers(p)
+}
+
+// The same answer without an NMT state, and one of a fresh head that is all zeros.
+fn odd_answers(start: Play) -> Tally {
+    let mut p = start;
+    let mut stateless = p.frame;
+    stateless.space[20] = 0x77;
+    p.frame = stateless;
+    p = p.box_reads_all().is(5);
+    let tally = p.tally;
+    let mut other = fresh(tally, 7, 7);
+    let zeros = scene::answer(&mut other.head, zero_fields(7), ROOM);
+    other.frame = zeros;
+    other = other.box_reads_all().is(KNOWN);
+    other.tally
+}
+
+// Four entries are raised, booked and closed.
+fn four(p: Play) -> Play {
+    p.raises_many(4).answers(ROOM).box_reads_all().hears(7)
+}
+
+// All but four places of the book are filled.
+fn nearly_full(start: Play) -> Play {
+    let mut p = start;
+    for _ in 0..15u64 {
+        p = four(p);
+    }
+    p
 }
 
 // The batch that filled the book comes again; then one that finds no place, and finds one when an entry is taken.
-pub fn full_book(tally: &mut Tally) {
-    let mut head = scene::head(7);
-    let mut state = scene::box_for(7);
-    let mut space = [0u8; ROOM];
-    scene::fours(&mut head, &mut state, 15);
-    scene::raise(&mut head, 4);
-    let n = scene::answer_length(&mut head, &mut space);
-    let last = scene::box_reads(&mut state, &space, n);
-    case(tally, b"the answer that fills the book", last, DONE);
-    let again = scene::box_reads(&mut state, &space, n);
-    case(tally, b"a known answer with a full book", again, KNOWN);
-    let closed = scene::head_hears(&mut head, &state, 7);
-    case(tally, b"the request behind it", closed, DONE);
-    scene::raise(&mut head, 1);
-    let more = scene::answer_length(&mut head, &mut space);
-    let full = scene::box_reads(&mut state, &space, more);
-    case(tally, b"a new answer with a full book", full, 12);
-    take(tally, b"taking one", &mut state, 7, DONE);
-    let fit = scene::box_reads(&mut state, &space, more);
-    case(tally, b"the same answer again", fit, DONE);
+pub fn full_book(tally: Tally) -> Tally {
+    let mut p = nearly_full(fresh(tally, 7, 7));
+    p = p.raises_many(4).answers(ROOM).box_reads_all().is(DONE);
+    p = p.box_reads_all().is(KNOWN);
+    p = p.hears(7).is(DONE);
+    p = p.raises_many(1).answers(ROOM).box_reads_all().is(12);
+    p = p.takes(7).is(DONE);
+    p = p.box_reads_all().is(DONE);
+    p.tally
 }

@@ -5,8 +5,13 @@ use crate::fields::error_field;
 use crate::fields::station;
 use crate::fields::status_fields;
 use crate::head::Head;
+use crate::outcome;
 use crate::tally::less;
 use crate::tally::plus;
+use crate::target::FILL;
+use crate::target::ROOM;
+use crate::target::Sent;
+use crate::target::target_in;
 use codec::FrameAnswer;
 use codec::deserialize_frame;
 use control::asnd::ASndFrame;
@@ -15,7 +20,6 @@ use frame::write::serialize_frame;
 use octets::slices::front;
 use octets::slices::put;
 use reporter::ReadAnswer;
-use section::WriteAnswer;
 use types::C_ADR_BROADCAST_NODE_ID;
 use types::C_ADR_MN_DEF_NODE_ID;
 use types::C_DLL_MULTICAST_ASND;
@@ -67,8 +71,8 @@ fn payload_part(payload: &[u8; PAYLOAD_LEN], n: u64) -> &[u8] {
     }
 }
 
-// Writes its next answer, if it fits.
-pub fn answer(head: Head, target: &mut [u8]) -> WriteAnswer {
+// Its next answer into a target of `room` octets.
+pub fn answer(head: Head, room: usize) -> Sent {
     let mut payload = [0u8; PAYLOAD_LEN];
     put_payload(head, &mut payload);
     let made = ASndFrame::new(
@@ -81,7 +85,10 @@ pub fn answer(head: Head, target: &mut [u8]) -> WriteAnswer {
     let eth_header = made.eth_header;
     let f = made.frame;
     let part = payload_part(&payload, head.carried());
-    serialize_frame(eth_header, PowerlinkFrame::ASnd(f), part, target)
+    let mut space = [FILL; ROOM];
+    let target = target_in(&mut space, room);
+    let got = serialize_frame(eth_header, PowerlinkFrame::ASnd(f), part, target);
+    outcome::sent(space, got)
 }
 
 fn hear(head: Head, f: PowerlinkFrame) -> ReadAnswer {

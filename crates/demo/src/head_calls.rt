@@ -10,20 +10,18 @@ use crate::line::send;
 use crate::line::sent;
 use crate::outcome;
 use crate::outcome::DONE;
+use crate::scene;
 use crate::tally::REQUESTS;
 use crate::tally::counted;
 use crate::tally::judge;
-use crate::target::FILL;
-use crate::target::ROOM;
+use crate::target::Sent;
 use crate::target::only_these;
-use crate::target::target_in;
 use crate::target::written;
 use crate::world::World;
 use error_entry::ErrorEntry;
 use octets::slices::byte_at;
 use reporter::ReadAnswer;
 use reporter::Reporter;
-use section::WriteAnswer;
 
 // Where the target of a request stands: octet 7 of the section.
 const TARGET: usize = 14 + 7;
@@ -68,25 +66,32 @@ pub fn raise(world: World, chance: u64) -> World {
     }
 }
 
-fn write_answer(head: Head, state: &mut Reporter, target: &mut [u8]) -> WriteAnswer {
+fn write_answer(head: Head, state: &mut Reporter, room: usize) -> Sent {
     if is_ours(head) {
-        return reporter::answer(state, answer_fields(head.id), target);
+        return scene::answer(state, answer_fields(head.id), room);
     }
-    foreign::answer(head, target)
+    foreign::answer(head, room)
 }
 
 // Answers into a target of `room` octets, and sends what is written.
 pub fn answer(mut world: World, room: usize) -> World {
     let mut head = world.head;
     let len = expected::answer_len(head.carried());
-    let mut space = [FILL; ROOM];
-    let got = write_answer(head, &mut head.state, target_in(&mut space, room));
-    let n = outcome::length_of(got);
-    let expected = expected::writing(len, room);
-    let right = only_these(&space, n, len);
-    judge(&mut world.tally, outcome::of_write(got), expected, right);
-    if 0 < n {
-        send(&mut world.line, head.number, head.sent, written(&space, n));
+    let made = write_answer(head, &mut head.state, room);
+    let right = only_these(made, len);
+    judge(
+        &mut world.tally,
+        made.outcome,
+        expected::writing(len, room),
+        right,
+    );
+    if 0 < made.len {
+        send(
+            &mut world.line,
+            head.number,
+            head.sent,
+            written(&made.space, made.len),
+        );
         let after = head.answered();
         world.head = after;
     }

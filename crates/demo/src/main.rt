@@ -19,8 +19,10 @@ mod head;
 mod head_calls;
 mod journal;
 mod line;
+mod lines;
 mod odd;
 mod outcome;
+mod play;
 mod print;
 mod scene;
 mod simulate;
@@ -94,15 +96,11 @@ fn fourth(scene: Scene) -> Scene {
     register(full, 1, 15)
 }
 
-fn lines_to_check(tally: &mut Tally) {
-    cases::new_heads(tally);
-    cases::raising(tally);
-    cases::short_targets(tally);
-    box_cases::registering(tally);
-    box_cases::taking(tally);
-    box_cases::requesting(tally);
-    box_cases::reading(tally);
-    box_cases::full_book(tally);
+fn lines_to_check(tally: Tally) -> Tally {
+    let of_heads = cases::short_targets(cases::raising(cases::new_heads(tally)));
+    let registered = box_cases::taking(box_cases::registering(of_heads));
+    let requested = box_cases::requesting(registered);
+    box_cases::full_book(box_cases::reading(requested))
 }
 
 // The simulation on a bad line, then on a good one.
@@ -115,15 +113,14 @@ fn exchange(scene: Scene) -> Scene {
     closing::all(shown)
 }
 
-fn play(journal: i32) {
-    let mut tally = [0u64; 32];
+fn demo(journal: i32) {
     say(b"lines to check: a number is the cause of a refusal, or a length\n");
-    lines_to_check(&mut tally);
+    let tally = lines_to_check([0u64; 32]);
     table::verdict(exchange(start(journal, tally)));
 }
 
-// Plays with the journal that the argument names.
-fn play_to_file() {
+// The same with the journal that the argument names.
+fn demo_to_file() {
     let mut path = io::buffer();
     let n = os::arg(1, &mut path);
     if os::errno() != 0 {
@@ -132,14 +129,14 @@ fn play_to_file() {
     }
     let journal = journal::start(front(&path, n));
     if 0 <= journal {
-        play(journal);
+        demo(journal);
     }
 }
 
 fn main() {
     match os::arg_count() {
-        0..=1 => play(journal::NONE),
-        2 => play_to_file(),
+        0..=1 => demo(journal::NONE),
+        2 => demo_to_file(),
         _ => {
             io::write_all(
                 STDERR_FILENO,

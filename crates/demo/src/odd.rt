@@ -6,27 +6,13 @@ use crate::outcome;
 use crate::outcome::IGNORED;
 use crate::scene;
 use crate::strange::STRANGER;
-use crate::strange::damage;
-use crate::strange::disguise;
+use crate::strange::spoiled;
 use crate::tally::REQUESTS;
 use crate::tally::counted;
 use crate::tally::judge;
-use crate::target::ROOM;
-use crate::target::Space;
 use crate::target::written;
 use crate::world::World;
 use collector::Collector;
-use octets::slices::put;
-
-// Makes of a frame in `space` octets of one of ten kinds, and answers how many: damaged ones, or a frame of another kind or
-// node.
-fn spoil(space: &mut Space, len: usize, kind: u64, id: u8) -> usize {
-    if kind < 7 {
-        return damage(space, len, kind + 1);
-    }
-    disguise(space, kind - 7, id);
-    len
-}
 
 // What the box makes of octets of a kind.
 fn box_makes(kind: u64) -> u64 {
@@ -45,10 +31,8 @@ pub fn to_box(mut world: World, chance: u64) -> World {
     }
     let kind = chance % 10;
     let frame = sent(&world.line, head.number, head.sent - 1);
-    let mut space = [0u8; ROOM];
-    put(&mut space, 0, frame);
-    let n = spoil(&mut space, frame.len(), kind, head.id);
-    let got = collector::read(&mut world.at_box, written(&space, n));
+    let octets = spoiled(frame, kind, head.id);
+    let got = collector::read(&mut world.at_box, written(&octets.space, octets.len));
     judge(
         &mut world.tally,
         outcome::of_box_reading(got),
@@ -75,10 +59,8 @@ pub fn to_head(mut world: World, chance: u64) -> World {
     let mut head = world.head;
     let kind = chance % 10;
     let frame = sent(&world.line, BOX, requests - 1);
-    let mut space = [0u8; ROOM];
-    put(&mut space, 0, frame);
-    let n = spoil(&mut space, frame.len(), kind, head.id);
-    let got = reporter::read(&mut head.state, written(&space, n));
+    let octets = spoiled(frame, kind, head.id);
+    let got = reporter::read(&mut head.state, written(&octets.space, octets.len));
     judge(
         &mut world.tally,
         outcome::of_head_reading(got),
@@ -89,11 +71,16 @@ pub fn to_head(mut world: World, chance: u64) -> World {
     world
 }
 
+fn stranger_asked(at_box: &Collector) -> u64 {
+    let sent = scene::request(at_box, STRANGER, 40);
+    sent.outcome
+}
+
 // One of five calls that the box refuses.
 fn refused(at_box: &mut Collector, kind: u64, id: u8) -> u64 {
     match kind {
         0 => scene::take(at_box, STRANGER),
-        1 => scene::request(at_box, STRANGER, 40),
+        1 => stranger_asked(at_box),
         2 => scene::register(at_box, 0),
         3 => scene::register(at_box, 240),
         _ => scene::register(at_box, id),

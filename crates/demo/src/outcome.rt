@@ -1,4 +1,6 @@
 // What a call came to, as a number: 01's cause where it was refused.
+use crate::target::Sent;
+use crate::target::Space;
 use collector::RegisterAnswer;
 use collector::RequestAnswer;
 use collector::TakeAnswer;
@@ -33,18 +35,19 @@ pub fn of_raise(answer: RaiseAnswer) -> u64 {
     }
 }
 
-pub fn of_write(answer: WriteAnswer) -> u64 {
+// What a writer of answers came to.
+pub fn sent(space: Space, answer: WriteAnswer) -> Sent {
     match answer {
-        WriteAnswer::Written(_) => DONE,
-        WriteAnswer::Refused(e) => e.number() as u64,
-    }
-}
-
-// How many octets were written: none where the call was refused.
-pub fn length_of(answer: WriteAnswer) -> usize {
-    match answer {
-        WriteAnswer::Written(n) => n,
-        WriteAnswer::Refused(_) => 0,
+        WriteAnswer::Written(len) => Sent {
+            space,
+            len,
+            outcome: DONE,
+        },
+        WriteAnswer::Refused(e) => Sent {
+            space,
+            len: 0,
+            outcome: e.number() as u64,
+        },
     }
 }
 
@@ -77,19 +80,16 @@ pub fn of_box_reading(answer: collector::ReadAnswer) -> u64 {
     }
 }
 
-pub fn of_request(answer: RequestAnswer) -> u64 {
+// What the writer of requests came to.
+pub fn requested(space: Space, answer: RequestAnswer) -> Sent {
     match answer {
-        RequestAnswer::Written(_) => DONE,
-        RequestAnswer::NotRegistered => 11,
-        RequestAnswer::Refused(e) => e.number() as u64,
-    }
-}
-
-pub fn request_length(answer: RequestAnswer) -> usize {
-    match answer {
-        RequestAnswer::Written(n) => n,
-        RequestAnswer::NotRegistered => 0,
-        RequestAnswer::Refused(_) => 0,
+        RequestAnswer::Written(n) => sent(space, WriteAnswer::Written(n)),
+        RequestAnswer::Refused(e) => sent(space, WriteAnswer::Refused(e)),
+        RequestAnswer::NotRegistered => Sent {
+            space,
+            len: 0,
+            outcome: 11,
+        },
     }
 }
 

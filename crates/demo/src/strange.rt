@@ -1,6 +1,8 @@
 // Octets that neither a head nor the box has sent: damaged and cut ones, frames of other kinds and of other nodes.
 use crate::fields::station;
 use crate::outcome;
+use crate::target::ROOM;
+use crate::target::Sent;
 use crate::target::Space;
 use control::soc::SocFlags;
 use control::soc::SocFrame;
@@ -18,7 +20,7 @@ fn set(space: &mut Space, at: usize, octet: u8) {
 }
 
 // Damages a frame so that the frame rules refuse it with this cause, 1 to 7, and answers how much of it is left.
-pub fn damage(space: &mut Space, len: usize, cause: u64) -> usize {
+fn damage(space: &mut Space, len: usize, cause: u64) -> usize {
     match cause {
         1 => return 13,
         2 => set(space, 12, 0x08),
@@ -42,7 +44,7 @@ pub fn damage(space: &mut Space, len: usize, cause: u64) -> usize {
 }
 
 // Turns a request or an answer into a frame of the stranger, by kind: as it is, an IdentResponse, or a PReq to a node.
-pub fn disguise(space: &mut Space, kind: u64, id: u8) {
+fn disguise(space: &mut Space, kind: u64, id: u8) {
     set(space, 16, STRANGER);
     match kind {
         0 => {}
@@ -59,8 +61,8 @@ pub fn disguise(space: &mut Space, kind: u64, id: u8) {
     }
 }
 
-// Puts an SoC of the box into `space`, and answers its length.
-pub fn soc(space: &mut Space) -> usize {
+// An SoC of the box.
+pub fn soc() -> Sent {
     let flags = SocFlags {
         mc: false,
         ps: false,
@@ -72,5 +74,24 @@ pub fn soc(space: &mut Space) -> usize {
     let made = SocFrame::new(station(240), flags, time, RelativeTime(3));
     let eth_header = made.eth_header;
     let f = made.frame;
-    outcome::length_of(serialize_frame(eth_header, PowerlinkFrame::Soc(f), b"", space))
+    let mut space = [0u8; ROOM];
+    let got = serialize_frame(eth_header, PowerlinkFrame::Soc(f), b"", &mut space);
+    outcome::sent(space, got)
+}
+
+// Makes of a frame octets of one of ten kinds: damaged ones, or a frame of another kind or node.
+pub fn spoiled(frame: &[u8], kind: u64, id: u8) -> Sent {
+    let mut space = [0u8; ROOM];
+    put(&mut space, 0, frame);
+    let mut len = frame.len();
+    if kind < 7 {
+        len = damage(&mut space, len, kind + 1);
+    } else {
+        disguise(&mut space, kind - 7, id);
+    }
+    Sent {
+        space,
+        len,
+        outcome: 0,
+    }
 }

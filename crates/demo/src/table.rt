@@ -1,6 +1,7 @@
 // The tables that a fitter reads.
 use crate::head::Head;
 use crate::journal;
+use crate::lines::cause_name;
 use crate::print::column;
 use crate::print::number;
 use crate::print::say;
@@ -42,35 +43,13 @@ pub fn heads(scene: Scene) -> Scene {
     scene
 }
 
-// 01's table, in few words.
-fn cause_name(cause: usize) {
-    match cause {
-        1 => say(b"input or target too short"),
-        2 => say(b"EtherType not 88AB h"),
-        3 => say(b"section empty, or PRes not to 255"),
-        4 => say(b"message type unknown"),
-        5 => say(b"NMT state unknown"),
-        6 => say(b"service unknown"),
-        7 => say(b"requested service unknown"),
-        8 => say(b"entry of mode 0, or profile above 4,095"),
-        9 => say(b"16 already waiting"),
-        10 => say(b"no StatusResponse"),
-        11 => say(b"ID not registered"),
-        12 => say(b"fewer free places than entries"),
-        13 => say(b"ID not 1 to 239"),
-        14 => say(b"ID registered already"),
-        15 => say(b"four registered"),
-        _ => say(b"nothing booked to take"),
-    }
-}
-
 // How often each cause was given; a cause that never was makes the run worth less than it should be.
 fn causes(tally: &mut Tally) {
     for cause in 1..17usize {
         column(counted(tally, cause));
         number(b"  cause ", cause as u64);
         say(b", ");
-        cause_name(cause);
+        cause_name(cause as u64);
         say(b"\n");
         demand(tally, 0 < counted(tally, cause));
     }

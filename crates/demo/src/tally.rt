@@ -9,6 +9,9 @@ pub const FAULTS: usize = 22;
 // Records made of what was taken.
 pub const RECORDS: usize = 23;
 
+// Lines to check that were played.
+pub const CASES: usize = 24;
+
 pub type Tally = [u64; 32];
 
 // No run counts as far as the largest number.

@@ -1,4 +1,4 @@
-// Targets of writers.
+// Targets of writers, and what is written to them.
 use octets::slices::front;
 use octets::slices::tail;
 
@@ -9,6 +9,13 @@ pub const ROOM: usize = 192;
 pub const FILL: u8 = 0xFC;
 
 pub type Space = [u8; ROOM];
+
+// What a writer came to: the space that its target is the front of, how many octets it wrote there, and its outcome.
+pub struct Sent {
+    pub space: Space,
+    pub len: usize,
+    pub outcome: u64,
+}
 
 // The first `len` octets of `space`, or all where it has fewer.
 pub fn target_in(space: &mut [u8], len: usize) -> &mut [u8] {
@@ -35,13 +42,13 @@ fn only_fill(s: &[u8]) -> bool {
     true
 }
 
-// Whether a writer that answers `n` has written all of `len` octets or none, and nothing behind.
-pub fn only_these(space: &Space, n: usize, len: usize) -> bool {
-    if n == 0 {
-        return only_fill(space);
+// Whether a writer has written all of `len` octets or none, and nothing behind.
+pub fn only_these(sent: Sent, len: usize) -> bool {
+    if sent.len != 0 {
+        if sent.len != len {
+            return false;
+        }
     }
-    if n != len {
-        return false;
-    }
-    only_fill(tail(space, n))
+    let space = sent.space;
+    only_fill(tail(&space, sent.len))
 }
