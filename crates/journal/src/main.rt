@@ -1,9 +1,10 @@
 // Lists the journal that comes on standard input (01, "Journal"). What is listed, and when it is over, the calls of
 // `list_part` decide; here is reading, carrying over what they leave, and writing. A message on standard error says if
 // reading or writing fails.
-ghost use Prim.Native.Nat.{_+_, _≤_};
+ghost use Prim.Native.Nat.{_+_, _-_, _≤_};
 ghost use mathlib.Core.Path.{_≡_};
-ghost use lib.ListN.{length};
+ghost use lib.ListN.{length, take, drop};
+ghost use lib.Seq.{paste};
 ghost use Rattle.journal.specs.Rest.{Listed, Waits, isOver};
 use journal_records::listing::Phase;
 use journal_records::listing::list_part;
@@ -40,7 +41,7 @@ fn is_over(phase: Phase) -> bool
 // Lists a part, and writes `out` as often as it fills.
 fn list(phase: Phase, bytes: &[u8], last: bool, out: &mut [u8]) -> Rest
     requires { ⌜ 65536 ≡ length (now out) ⌝ }
-    ensures { λ r. ⌜ Listed (now (bytes .entry)) last r ⌝ }
+    ensures { λ r. ⌜ Listed phase (now (bytes .entry)) last r ⌝ }
 {
     let mut to_come = phase;
     let mut at = 0;
@@ -65,7 +66,7 @@ fn list(phase: Phase, bytes: &[u8], last: bool, out: &mut [u8]) -> Rest
 // Moves the octets from `from` to `to` to the front, and answers how many they are.
 fn keep(text: &mut [u8], from: usize, to: usize) -> usize
     requires { ⌜ (from ≤ to) × (to ≤ length (now text)) ⌝ }
-    ensures { λ r. ⌜ r + from ≡ to ⌝ }
+    ensures { λ r. ⌜ (r ≡ to - from) × (now (text .exit) ≡ paste (now (text .entry)) 0 (drop from (now (text .entry))) (to - from)) ⌝ }
 {
     let mut at = from;
     while at < to {
@@ -78,7 +79,7 @@ fn keep(text: &mut [u8], from: usize, to: usize) -> usize
 // Reads behind the octets that are held, and lists.
 fn turn(phase: Phase, text: &mut [u8], held: usize, out: &mut [u8]) -> Rest
     requires { ⌜ (held ≤ 20) × ((65536 ≡ length (now text)) × (65536 ≡ length (now out))) ⌝ }
-    ensures { λ r. ⌜ Waits r ⌝ }
+    ensures { λ r. ⌜ Waits phase (take held (now (text .entry))) r (now (text .exit)) ⌝ }
 {
     let got = libc::read(STDIN_FILENO, &mut text[held..]);
     if got < 0 {

@@ -3,8 +3,8 @@
 use Prim.Native.Nat.{ℕ, zero, suc, _+_, _-_, _≤_, _<_}
 use mathlib.Core.Bool.{Bool, true, false}
 use mathlib.Core.Logic.{_⊎_, inl, inr}
-use mathlib.Core.Path.{_≡_, refl, sym, ap, _∙_}
-use mathlib.Core.List.{List, [], _++_, append-assoc}
+use mathlib.Core.Path.{_≡_, refl, sym, ap, subst, _∙_}
+use mathlib.Core.List.{List, [], _++_, append-assoc, append-nil}
 use native.Mathlib.Nat.{not-suc-le-zero}
 use native.Mathlib.Omega.{arith}
 use lib.Dec.{eqb}
@@ -13,7 +13,7 @@ use lib.Seq.{drop-drop, take-append-seam}
 use borrow.Author.Tests.{eqb-true, eqb-false}
 use Rattle.journal_records.specs.InParts.{Run, over, call, ListsInParts}
 use Rattle.journal_records.specs.Listing.{version1, listing}
-use Rattle.journal_records.specs.Parts.{Piece, ahead, stepOf, partOf, Lists, textFrom, needed}
+use Rattle.journal_records.specs.Parts.{Piece, ahead, stepOf, partOf, told, Lists, textFrom, needed}
 use Rattle.journal_records.specs.declared.listing.Part.{Part}
 use Rattle.journal_records.specs.declared.listing.Phase.{Phase}
 use Rattle.journal_records.specs.declared.listing.Phase.the-variants.{Over}
@@ -141,7 +141,46 @@ module _ {p : Phase} {s : List ℕ} {last : Bool} {r : Part} {out after : List �
 run-text : {p : Phase} {input text : List ℕ} → Run p input text → text ≡ textFrom p input
 run-text over = refl
 run-text (call {s = s} {rest = rest} {r = r} {after = after} L l run) =
-    ap (λ (t : List ℕ). take (r .written) after ++ t) (run-text run) ∙ sym (call-text L rest l)
+    ap (λ (t : List ℕ). take (r .written) after ++ t) (run-text run) ∙ sym (call-text L rest (λ e. let all = l e in cc))
+
+-- ---- a run of calls that are lent all that is left
+
+module _ (out : List ℕ) (room : 55 ≤ length out) where
+  -- what a call that is lent the rest does
+  abbrev last-call : Phase → List ℕ → Piece
+  last-call p s = partOf p s true (length out)
+
+  made : (p : Phase) (s : List ℕ) → Lists p s true (told (last-call p s)) out (last-call p s .text ++ drop (length (last-call p s .text)) out)
+  made p s = record { answer = refl; holds = refl }
+
+  one-call : (p : Phase) (s : List ℕ) → Run (last-call p s .phase) (drop (last-call p s .consumed) s ++ []) (textFrom (last-call p s .phase) (drop (last-call p s .consumed) s ++ []))
+      → Run p s (textFrom p s)
+  one-call p s run =
+      subst (λ (l : List ℕ). Run p l (textFrom p l)) (append-nil s)
+      (subst (Run p (s ++ [])) (sym (call-text (made p s) [] (λ e. refl))) (call (made p s) (λ e. refl) run))
+
+  runs : (n : ℕ) (p : Phase) (s : List ℕ) → length s < n → Run p s (textFrom p s)
+  runs zero p s h = absurd (not-suc-le-zero h)
+  runs (suc n) p s h = one-call p s (by-progress (call-progress (made p s) room) (runs n))
+    where
+      q : Piece
+      q = last-call p s
+
+      by-progress : (0 < q .consumed) ⊎ ((q .phase ≡ Over) ⊎ ((true ≡ false) × (length s < needed p)))
+          → ((p : Phase) (s : List ℕ) → length s < n → Run p s (textFrom p s))
+          → Run (q .phase) (drop (q .consumed) s ++ []) (textFrom (q .phase) (drop (q .consumed) s ++ []))
+      by-progress (inl c) ih =
+          ih (q .phase) (drop (q .consumed) s ++ [])
+          (rw (append-nil, length-drop) (omega (arith, part-bounded true p s (length out) .most)))
+      by-progress (inr (inl e)) ih = rw e over
+      by-progress (inr (inr c)) ih = let e = c .0 in let z : _≡_ {A = ℕ} 0 1 = cc in let y : ⊥ = omega arith in absurd y
 
 pub lists-in-parts : ListsInParts
-lists-in-parts = record { text = call-text; within = call-within; progress = call-progress; listed = run-text }
+lists-in-parts =
+    record {
+      text = call-text;
+      within = call-within;
+      progress = call-progress;
+      listed = run-text;
+      ends = λ p left out room. runs out room (suc (length left)) p left (omega arith);
+    }

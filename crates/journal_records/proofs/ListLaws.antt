@@ -13,7 +13,7 @@ use borrow.Author.Tests.{le-leb, lt-leb, eq-eqb, ne-eqb}
 use Rattle.octets.specs.Numbers.{le, leAt}
 use Rattle.types.specs.Codes.{pick, need}
 use Rattle.error_entry.specs.Entry.{entryOf}
-use Rattle.journal_records.specs.Listing.{nodeOf, recordedEntry, version1, headerLine, recordLine, refusedLine, goodRecord, linesIn, lines, marked, listing, fieldsLine}
+use Rattle.journal_records.specs.Listing.{nodeOf, recordedEntry, version1, headerLine, recordLine, refusedLine, goodRecord, linesIn, lines, marked, layoutOf, listing, fieldsLine}
 use Rattle.journal_records.specs.Record.{validRecord}
 
 -- ---- lines
@@ -130,9 +130,9 @@ module _ (s : List ℕ) (long : 5 ≤ length s) where
   listing-unmarked e = rw (le-leb 5 (length s) long, e)
 
   pub listing-version : marked s ≡ true → (leAt 2 3 s ≡ 1 → ⊥) → listing s ≡ refusedLine 18
-  unfolding listing
+  unfolding listing layoutOf
   listing-version e f = rw (le-leb 5 (length s) long, e, ne-eqb (leAt 2 3 s) 1 f)
 
   pub listing-good : marked s ≡ true → leAt 2 3 s ≡ 1 → listing s ≡ headerLine version1 ++ lines version1 (drop 5 s)
-  unfolding listing
+  unfolding listing layoutOf
   listing-good e f = rw (le-leb 5 (length s) long, e, eq-eqb (leAt 2 3 s) 1 f)

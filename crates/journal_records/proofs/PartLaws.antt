@@ -11,7 +11,7 @@ use lib.ListN.{length, take, drop, length-append, length-drop}
 use lib.Seq.{sets, sets-eq, length-sets, length-take-le, take-at, drop-at, drop-drop}
 use borrow.Author.Tests.{eqb-false, eq-eqb, ne-eqb}
 use borrow.Rule.Slice.PartMut.{midOf, putMid, mid-len}
-use Rattle.status_response.proofs.Places.{sets-rest}
+use Rattle.records.proofs.PutLaws.{sets-rest}
 use Rattle.journal_records.specs.Parts.{Piece, ahead, stepOf, stepsOf, partOf, told, Prints, Lists}
 use Rattle.journal_records.specs.declared.listing.Part.{Part}
 use Rattle.journal_records.specs.declared.listing.Phase.{Phase}
@@ -167,7 +167,7 @@ module _ {p : Phase} {s : List ℕ} {last : Bool} {out₀ out : List ℕ} {q : P
     left : putMid w (length out - w) out part ≡ sets out w (taken .text)
     left =
         ap (putMid w (length out - w) out) (P .holds ∙ ap (λ (j : Piece). sets (midOf w (length out - w) out) 0 (j .text)) same-step)
-        ∙ sets-rest w out (taken .text) (fit taken refl)
+        ∙ sets-rest w out (taken .text) (omega (arith, fit taken refl))
 
     pub turn-most : c + r .consumed ≤ length s
     turn-most = rw told-so (further taken refl)

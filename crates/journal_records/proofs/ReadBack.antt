@@ -1,21 +1,26 @@
 -- Records that are written are listed with their fields.
 -- Assumes nothing.
 use Prim.Native.Nat.{ℕ, _≤_}
-use mathlib.Core.Bool.{true}
-use mathlib.Core.Path.{_≡_, refl, ap, _∙_}
+use mathlib.Core.Bool.{Bool, true, false}
+use mathlib.Core.Path.{_≡_, refl, sym, ap, _∙_}
 use mathlib.Core.List.{List, [], _∷_, _++_}
 use native.Mathlib.Nat.{mod-eq-of-lt, mod-lt}
 use native.Mathlib.Omega.{arith}
-use lib.ListN.{length, length-append}
-use lib.Seq.{drop-at}
+use lib.Dec.{leb}
+use lib.ListN.{length, take, drop, length-append}
+use lib.Seq.{take-at, drop-at}
 use Rattle.octets.specs.Numbers.{leAt}
+use Rattle.types.specs.Codes.{need}
 use Rattle.types.specs.Modes.{modeIn}
+use Rattle.types.specs.declared.NodeId.{NodeId}
 use Rattle.error_entry.specs.Entry.{typeNumber, entryTypeOf, entryOf, entryBytes}
 use Rattle.error_entry.specs.declared.ErrorEntry.{ErrorEntry}
 use Rattle.error_entry.proofs.ReadBack.{entry-back}
-use Rattle.journal_records.specs.Listing.{nodeOf, recordedEntry, version1, headerLine, recordLine, fieldsLine, goodRecord, linesIn, lines, marked, listing}
-use Rattle.journal_records.specs.ReadBack.{Recorded, Writable, EachWritable, recordsBytes, masked, fieldsLines, journalStart, RecordsReadBack, exampleOctets, exampleLines}
-use Rattle.journal_records.specs.Record.{recordBytes, validRecord}
+use Rattle.journal_records.specs.Listing.{nodeOf, recordedEntry, version1, headerLine, recordLine, fieldsLine, goodRecord, linesIn, lines, marked, layoutOf, listing}
+use Rattle.journal_records.specs.ReadBack.{Recorded, InWidth, Journaled, none, more, masked, fieldsLines, journalStart, RecordsReadBack, exampleOctets, exampleLines}
+use Rattle.journal_records.specs.Record.{recordBytes, validRecord, WritesRecord}
+use Rattle.journal_records.specs.declared.JournalAnswer.{JournalAnswer}
+use Rattle.journal_records.specs.declared.JournalAnswer.the-variants.{Written, BufferTooShort, RecordInvalid}
 use Rattle.journal_records.specs.Text.{digit, hex, decimalIn, decimal}
 use Rattle.journal_records.proofs.ListLaws.{lines-none, lines-good, listing-good}
 use Rattle.journal_records.proofs.RecordLaws.{record-length}
@@ -25,8 +30,8 @@ masked-bytes : (e : ErrorEntry) → entryBytes e ≡ entryBytes (masked e)
 unfolding entryBytes typeNumber
 masked-bytes e = rw (mod-eq-of-lt (mod-lt (e .«entry_type» .profile) {m = 4096} (omega arith)))
 
-module _ (x : Recorded) (w : Writable x) (rest : List ℕ) where
-  record-entry : recordedEntry (recordBytes (x .node) (x .entry) ++ rest) ≡ masked (x .entry)
+module _ (x : Recorded) (w : InWidth x) (v : validRecord (x .node .0) (x .entry) ≡ true) (rest : List ℕ) where
+  record-entry : recordedEntry (recordBytes (x .node .0) (x .entry) ++ rest) ≡ masked (x .entry)
   unfolding recordBytes
   record-entry =
       ap (λ (l : List ℕ). entryOf (l ++ rest)) (masked-bytes (x .entry))
@@ -39,26 +44,43 @@ module _ (x : Recorded) (w : Writable x) (rest : List ℕ) where
         information = w .information;
       })
 
-  record-node : nodeOf (recordBytes (x .node) (x .entry) ++ rest) ≡ x .node
+  record-node : nodeOf (recordBytes (x .node .0) (x .entry) ++ rest) ≡ x .node .0
   unfolding recordBytes
   record-node = refl
 
-  still-valid : validRecord (x .node) (masked (x .entry)) ≡ true
+  still-valid : validRecord (x .node .0) (masked (x .entry)) ≡ true
   unfolding validRecord
-  still-valid = w .valid
+  still-valid = v
 
-  record-long : 21 ≤ length (recordBytes (x .node) (x .entry) ++ rest)
-  record-long = rw length-append (omega (arith, record-length (x .node) (x .entry)))
+  record-long : 21 ≤ length (recordBytes (x .node .0) (x .entry) ++ rest)
+  record-long = rw length-append (omega (arith, record-length (x .node .0) (x .entry)))
 
-  first-record : lines version1 (recordBytes (x .node) (x .entry) ++ rest) ≡ fieldsLine (x .node) (masked (x .entry)) ++ lines version1 rest
+  first-record : lines version1 (recordBytes (x .node .0) (x .entry) ++ rest) ≡ fieldsLine (x .node .0) (masked (x .entry)) ++ lines version1 rest
   first-record =
-      lines-good (recordBytes (x .node) (x .entry) ++ rest) record-long (rw (record-node, record-entry) still-valid)
-      ∙ rw (record-node, record-entry, drop-at (recordBytes (x .node) (x .entry)) rest 21 (record-length (x .node) (x .entry)))
+      lines-good (recordBytes (x .node .0) (x .entry) ++ rest) record-long (rw (record-node, record-entry) still-valid)
+      ∙ rw (record-node, record-entry, drop-at (recordBytes (x .node .0) (x .entry)) rest 21 (record-length (x .node .0) (x .entry)))
 
-records-lines : (xs : List Recorded) → EachWritable xs → lines version1 (recordsBytes xs) ≡ fieldsLines xs
-records-lines [] w = lines-none [] refl
-records-lines (x ∷ xs) w =
-    first-record x (w .0) (recordsBytes xs) ∙ ap (λ (l : List ℕ). fieldsLine (x .node) (masked (x .entry)) ++ l) (records-lines xs (w .1))
+-- a call that says a record is written has tested it, and put its octets to the front
+module _ {node : NodeId} {e : ErrorEntry} {r : JournalAnswer} {n : ℕ} {target after : List ℕ} (W : WritesRecord node e r target after) (w : r ≡ Written n) where
+  tested : (validRecord (node .0) e ≡ true) × (n ≡ 21)
+  tested = by-tests (leb 21 (length target)) (validRecord (node .0) e) refl (W .answer)
+    where
+      by-tests : (b v : Bool) → validRecord (node .0) e ≡ v → r ≡ need b BufferTooShort (need v RecordInvalid (Written 21))
+          → (validRecord (node .0) e ≡ true) × (n ≡ 21)
+      by-tests true true h a = (h, (cc))
+      by-tests true false h a = let z : _≡_ {A = ℕ} 0 1 = cc in let y : ⊥ = omega arith in absurd y
+      by-tests false v h a = let z : _≡_ {A = ℕ} 0 1 = cc in let y : ⊥ = omega arith in absurd y
+
+  at-front : take n after ≡ recordBytes (node .0) e
+  at-front = rw (W .holds, w) (take-at (recordBytes (node .0) e) (drop n target) n (record-length (node .0) e ∙ sym (tested .1)))
+
+records-lines : {xs : List Recorded} {octets : List ℕ} → Journaled xs octets → lines version1 octets ≡ fieldsLines xs
+records-lines none = lines-none [] refl
+records-lines (more {x} {xs} {r} {n} {octets = octets} ranges W a j) =
+    let is-written : r ≡ Written n = cc in
+    ap (λ (l : List ℕ). lines version1 (l ++ octets)) (at-front W is-written)
+    ∙ first-record x ranges (tested W is-written .0) octets
+    ∙ ap (λ (l : List ℕ). fieldsLine (x .node .0) (masked (x .entry)) ++ l) (records-lines j)
 
 start-long : (t : List ℕ) → 5 ≤ length (journalStart ++ t)
 start-long t = rw length-append (omega arith)
@@ -72,15 +94,15 @@ unfolding leAt
 start-version t = refl
 
 example-listed : listing exampleOctets ≡ exampleLines
-unfolding listing marked leAt headerLine version1 lines linesIn goodRecord validRecord recordLine entryOf entryTypeOf modeIn digit hex decimal decimalIn
+unfolding listing layoutOf marked leAt headerLine version1 lines linesIn goodRecord validRecord recordLine entryOf entryTypeOf modeIn digit hex decimal decimalIn
 example-listed = refl
 
 pub records-read-back : RecordsReadBack
 records-read-back =
     record {
       records =
-          λ xs w.
-          listing-good (journalStart ++ recordsBytes xs) (start-long (recordsBytes xs)) (start-marked (recordsBytes xs)) (start-version (recordsBytes xs))
-          ∙ ap (λ (l : List ℕ). headerLine version1 ++ l) (records-lines xs w);
+          λ xs octets j.
+          listing-good (journalStart ++ octets) (start-long octets) (start-marked octets) (start-version octets)
+          ∙ ap (λ (l : List ℕ). headerLine version1 ++ l) (records-lines j);
       example = example-listed;
     }

@@ -11,12 +11,13 @@ use lib.Seq.{sets, set-comm}
 use borrow.Rule.Slice.PartMut.{midOf, putMid}
 use borrow.Author.Tests.{le-leb, lt-leb, leb-true, leb-false}
 use Rattle.octets.proofs.Sets.{sets-front}
+use Rattle.types.specs.Modes.{modeCode}
 use Rattle.types.specs.declared.NodeId.{NodeId}
 use Rattle.types.specs.declared.error_mode.ErrorEntryMode.{ErrorEntryMode}
 use Rattle.error_entry.specs.Entry.{entryBytes}
 use Rattle.error_entry.specs.declared.ErrorEntry.{ErrorEntry}
-use Rattle.status_response.specs.Steps.{unlessTerminator}
-use Rattle.status_response.proofs.Places.{entry-length, sets-rest}
+use Rattle.records.proofs.PutLaws.{sets-rest}
+use Rattle.records.proofs.RecordLaws.{bytes-length}
 use Rattle.journal_records.specs.Record.{recordBytes, validRecord, WritesRecord}
 use Rattle.journal_records.specs.declared.JournalAnswer.the-variants.{Written, BufferTooShort, RecordInvalid}
 
@@ -29,9 +30,9 @@ module _ (node : ℕ) (e : ErrorEntry) where
   unfolding validRecord
   id-high l h = rw (le-leb 1 node l, lt-leb node 239 h)
 
-  pub by-mode : (m : ErrorEntryMode) → 1 ≤ node → node ≤ 239 → e .«entry_type» .mode ≡ m → unlessTerminator m true false ≡ validRecord node e
+  pub by-mode : (m : ErrorEntryMode) → 1 ≤ node → node ≤ 239 → e .«entry_type» .mode ≡ m → leb 1 (modeCode m) ≡ validRecord node e
   unfolding validRecord
-  by-mode m l h em = rw (le-leb 1 node l, le-leb node 239 h) (ap (λ (k : ErrorEntryMode). unlessTerminator k true false) (sym em))
+  by-mode m l h em = rw (le-leb 1 node l, le-leb node 239 h) (ap (λ (k : ErrorEntryMode). leb 1 (modeCode k)) (sym em))
 
   pub valid-id : validRecord node e ≡ true → node ≤ 239
   unfolding validRecord
@@ -46,7 +47,7 @@ module _ (node : ℕ) (e : ErrorEntry) where
 
   pub record-length : length (recordBytes node e) ≡ 21
   unfolding recordBytes
-  record-length = rw (entry-length e)
+  record-length = rw (bytes-length e)
 
 -- a store in front of a copy may come after it
 pub set-sets : (l : List ℕ) (i j v : ℕ) (vs : List ℕ) → i < j → set (sets l j vs) i v ≡ sets (set l i v) j vs
@@ -80,6 +81,6 @@ module _ (node : NodeId) (e : ErrorEntry) (t : List ℕ) where
     record-put part h p =
         let q : set (putMid 1 (length t - 1) t part) 0 (node .0) ≡ sets t 0 (recordBytes (node .0) e) =
         ap (λ (l : List ℕ). set (putMid 1 (length t - 1) t l) 0 (node .0)) p
-        ∙ ap (λ (l : List ℕ). set l 0 (node .0)) (sets-rest 1 t (entryBytes e) (omega (arith, entry-length e)))
+        ∙ ap (λ (l : List ℕ). set l 0 (node .0)) (sets-rest 1 t (entryBytes e) (omega arith))
         ∙ set-sets t 0 1 (node .0) (entryBytes e) (omega arith) in
         rw q (record-written h)

@@ -8,7 +8,7 @@ use native.Mathlib.Nat.{zero-add}
 use lib.ListN.{length}
 use borrow.Author.Tests.{le-leb, lt-leb, eq-eqb, ne-eqb}
 use Rattle.octets.specs.Numbers.{leAt}
-use Rattle.journal_records.specs.Listing.{nodeOf, recordedEntry, version1, headerLine, recordLine, goodRecord, marked, fieldsLine}
+use Rattle.journal_records.specs.Listing.{nodeOf, recordedEntry, version1, layoutOf, headerLine, recordLine, goodRecord, marked, fieldsLine}
 use Rattle.journal_records.specs.Parts.{Piece, waiting, refusal, headerStep, cutStep, recordStep, phaseStep, stepOf, Prints}
 use Rattle.journal_records.specs.Record.{validRecord}
 use Rattle.journal_records.specs.Text.{Puts}
@@ -32,11 +32,11 @@ module _ (s : List ℕ) (last : Bool) where
     header-unmarked e = rw (le-leb 5 (length s) long, e)
 
     pub header-version : marked s ≡ true → (leAt 2 3 s ≡ 1 → ⊥) → headerStep s last ≡ refusal 18
-    unfolding headerStep
+    unfolding headerStep layoutOf
     header-version e f = rw (le-leb 5 (length s) long, e, ne-eqb (leAt 2 3 s) 1 f)
 
     pub header-good : marked s ≡ true → leAt 2 3 s ≡ 1 → headerStep s last ≡ record { phase = Records; consumed = 5; text = headerLine version1 }
-    unfolding headerStep
+    unfolding headerStep layoutOf
     header-good e f = rw (le-leb 5 (length s) long, e, eq-eqb (leAt 2 3 s) 1 f)
 
   pub record-cut : length s < 21 → recordStep s last ≡ cutStep (length s) last

@@ -6,7 +6,7 @@ use mathlib.Core.Logic.{_⊎_}
 use mathlib.Core.Path.{_≡_}
 use mathlib.Core.List.{List, [], _++_}
 use lib.ListN.{length, take, drop}
-use Rattle.journal_records.specs.Listing.{listing}
+use Rattle.journal_records.specs.Listing.{lineMost, listing}
 use Rattle.journal_records.specs.Parts.{Lists, textFrom, needed}
 use Rattle.journal_records.specs.declared.listing.Part.{Part}
 use Rattle.journal_records.specs.declared.listing.Phase.{Phase}
@@ -29,6 +29,8 @@ pub record ListsInParts : Type 0 where
   pub within : {p : Phase} {s : List ℕ} {last : Bool} {r : Part} {out after : List ℕ} → Lists p s last r out after
       → (r .consumed ≤ length s) × (r .written ≤ length out) × (length after ≡ length out)
   -- with room for a line, a call consumes something, or it is over, or more octets have to come
-  pub progress : {p : Phase} {s : List ℕ} {last : Bool} {r : Part} {out after : List ℕ} → Lists p s last r out after → 55 ≤ length out
+  pub progress : {p : Phase} {s : List ℕ} {last : Bool} {r : Part} {out after : List ℕ} → Lists p s last r out after → lineMost ≤ length out
       → (0 < r .consumed) ⊎ ((r .phase ≡ Over) ⊎ ((last ≡ false) × (length s < needed p)))
   pub listed : {input text : List ℕ} → Run Header input text → text ≡ listing input
+  -- and there is such a run: whatever calls came before, with room for a line it goes on to its end
+  pub ends : (p : Phase) (left out : List ℕ) → lineMost ≤ length out → Run p left (textFrom p left)

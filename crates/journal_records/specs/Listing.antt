@@ -56,9 +56,21 @@ recordLine l s = joined (map (λ (c : Column). c .text s) (l .columns))
 unfoldable pub refusedLine : ℕ → List ℕ
 refusedLine n = joined ((114 ∷ 101 ∷ 102 ∷ 117 ∷ 115 ∷ 101 ∷ 100 ∷ []) ∷ decimal n ∷ [])
 
+-- the octets of the longest line of a version
+abbrev pub lineMost : ℕ
+lineMost = 55
+
 -- the octets begin with a whole record, whose ID is 1 to 239 and whose mode is not 0
 unfoldable pub goodRecord : Layout → List ℕ → Bool
 goodRecord l s = leb (l .size) (length s) && validRecord (nodeOf s) (recordedEntry s)
+
+-- a version whose layout is known, or another
+pub data Version : Type 0 where
+  known : Layout → Version
+  other : Version
+
+unfoldable pub layoutOf : ℕ → Version
+layoutOf v = pick (eqb v 1) (known version1) other
 
 -- a line for each record, and at the first fault that of cause 19; n bounds how many lines there are
 unfoldable pub linesIn : Layout → ℕ → List ℕ → List ℕ
@@ -75,11 +87,14 @@ lines l s = linesIn l (length s) s
 unfoldable pub marked : List ℕ → Bool
 marked s = eqb (getD s 0 0) 80 && (eqb (getD s 1 0) 76 && eqb (getD s 2 0) 66)
 
--- 17, then 18, both alone; then the header's line and the records'
+-- the header's line and the records', by the layout of the version; 18 for another version
+abbrev pub listedAs : Version → List ℕ → List ℕ
+listedAs (known l) s = headerLine l ++ lines l s
+listedAs other s = refusedLine 18
+
+-- 17, then 18, both alone
 unfoldable pub listing : List ℕ → List ℕ
-listing s =
-    need (leb 5 (length s) && marked s) (refusedLine 17)
-    (need (eqb (leAt 2 3 s) 1) (refusedLine 18) (headerLine version1 ++ lines version1 (drop 5 s)))
+listing s = need (leb 5 (length s) && marked s) (refusedLine 17) (listedAs (layoutOf (leAt 2 3 s)) (drop 5 s))
 
 -- the line of a node's entry, by its fields
 unfoldable pub fieldsLine : ℕ → ErrorEntry → List ℕ

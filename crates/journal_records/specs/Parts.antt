@@ -9,7 +9,7 @@ use lib.Seq.{sets}
 use lib.Dec.{leb, eqb}
 use Rattle.octets.specs.Numbers.{leAt}
 use Rattle.types.specs.Codes.{pick, need}
-use Rattle.journal_records.specs.Listing.{version1, headerLine, recordLine, refusedLine, goodRecord, lines, marked, listing}
+use Rattle.journal_records.specs.Listing.{Version, known, other, version1, layoutOf, headerLine, recordLine, refusedLine, lineMost, goodRecord, lines, marked, listing}
 use Rattle.journal_records.specs.declared.listing.Part.{Part}
 use Rattle.journal_records.specs.declared.listing.Phase.{Phase}
 use Rattle.journal_records.specs.declared.listing.Phase.the-variants.{Header, Records, Over}
@@ -27,12 +27,16 @@ waiting p = record { phase = p; consumed = 0; text = [] }
 abbrev pub refusal : ℕ → Piece
 refusal n = record { phase = Over; consumed = 0; text = refusedLine n }
 
+-- the line of the version's columns, or 18
+abbrev pub headed : Version → Piece
+headed (known l) = record { phase = Records; consumed = 5; text = headerLine l }
+headed other = refusal 18
+
 -- more may come of under 5 octets, unless they are the last
 unfoldable pub headerStep : List ℕ → Bool → Piece
 headerStep s last =
     need (leb 5 (length s)) (pick last (refusal 17) (waiting Header))
-    (need (marked s) (refusal 17)
-    (need (eqb (leAt 2 3 s) 1) (refusal 18) (record { phase = Records; consumed = 5; text = headerLine version1 })))
+    (need (marked s) (refusal 17) (headed (layoutOf (leAt 2 3 s))))
 
 -- n octets, too few for a record
 unfoldable pub cutStep : ℕ → Bool → Piece
@@ -50,7 +54,7 @@ phaseStep Over s last = waiting Over
 
 -- one line, where there is room for the longest
 unfoldable pub stepOf : Phase → List ℕ → Bool → ℕ → Piece
-stepOf p s last room = need (leb 55 room) (waiting p) (phaseStep p s last)
+stepOf p s last room = need (leb lineMost room) (waiting p) (phaseStep p s last)
 
 -- what was done, in front of what is done next
 abbrev pub ahead : ℕ → List ℕ → Piece → Piece

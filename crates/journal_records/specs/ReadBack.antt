@@ -1,33 +1,33 @@
 -- Records that are written are listed with their fields.
 -- Assumes nothing.
 use Prim.Native.Nat.{ℕ, _%_, _^_, _<_}
-use mathlib.Core.Bool.{true}
 use mathlib.Core.Path.{_≡_}
 use mathlib.Core.List.{List, [], _∷_, _++_}
+use lib.ListN.{take}
+use Rattle.types.specs.declared.NodeId.{NodeId}
 use Rattle.error_entry.specs.declared.ErrorEntry.{ErrorEntry}
 use Rattle.journal_records.specs.Listing.{version1, headerLine, fieldsLine, listing}
-use Rattle.journal_records.specs.Record.{recordBytes, validRecord}
+use Rattle.journal_records.specs.Record.{WritesRecord}
+use Rattle.journal_records.specs.declared.JournalAnswer.{JournalAnswer}
+use Rattle.journal_records.specs.declared.JournalAnswer.the-variants.{Written}
 
 -- a node ID with an entry
 pub record Recorded : Type 0 where
-  pub node : ℕ
+  pub node : NodeId
   pub entry : ErrorEntry
 
--- one that is written, of numbers of their widths; a profile may have more than its 12 bits
-pub record Writable (x : Recorded) : Type 0 where
-  pub valid : validRecord (x .node) (x .entry) ≡ true
+-- its numbers are of their widths; a profile may have more than its 12 bits
+pub record InWidth (x : Recorded) : Type 0 where
   pub code : x .entry .«error_code» < 2 ^ 16
   pub seconds : x .entry .timestamp .seconds < 2 ^ 32
   pub nanoseconds : x .entry .timestamp .nanoseconds < 2 ^ 32
   pub information : x .entry .«additional_information» < 2 ^ 64
 
-abbrev pub EachWritable : List Recorded → Type 0
-EachWritable [] = Unit {0}
-EachWritable (x ∷ xs) = Writable x × EachWritable xs
-
-abbrev pub recordsBytes : List Recorded → List ℕ
-recordsBytes [] = []
-recordsBytes (x ∷ xs) = recordBytes (x .node) (x .entry) ++ recordsBytes xs
+-- octets of records, one behind the other: those that calls of `write` have put to the front of their targets
+pub data Journaled : List Recorded → List ℕ → Type 0 where
+  none : Journaled [] []
+  more : {x : Recorded} {xs : List Recorded} {r : JournalAnswer} {n : ℕ} {target after octets : List ℕ} → InWidth x
+      → WritesRecord (x .node) (x .entry) r target after → r ≡ Written n → Journaled xs octets → Journaled (x ∷ xs) (take n after ++ octets)
 
 -- the entry as it is written: the profile masked to 12 bits
 abbrev pub masked : ErrorEntry → ErrorEntry
@@ -47,7 +47,7 @@ masked e =
 
 abbrev pub fieldsLines : List Recorded → List ℕ
 fieldsLines [] = []
-fieldsLines (x ∷ xs) = fieldsLine (x .node) (masked (x .entry)) ++ fieldsLines xs
+fieldsLines (x ∷ xs) = fieldsLine (x .node .0) (masked (x .entry)) ++ fieldsLines xs
 
 -- `PLB` and version 1, which the caller writes
 abbrev pub journalStart : List ℕ
@@ -67,5 +67,5 @@ exampleLines =
     ∷ 55 ∷ 32 ∷ 49 ∷ 50 ∷ 51 ∷ 52 ∷ 32 ∷ 49 ∷ 32 ∷ 50 ∷ 32 ∷ 53 ∷ 32 ∷ 54 ∷ 32 ∷ 48 ∷ 48 ∷ 48 ∷ 48 ∷ 48 ∷ 48 ∷ 48 ∷ 48 ∷ 48 ∷ 48 ∷ 48 ∷ 48 ∷ 48 ∷ 48 ∷ 48 ∷ 48 ∷ 10 ∷ []
 
 pub record RecordsReadBack : Type 0 where
-  pub records : (xs : List Recorded) → EachWritable xs → listing (journalStart ++ recordsBytes xs) ≡ headerLine version1 ++ fieldsLines xs
+  pub records : (xs : List Recorded) (octets : List ℕ) → Journaled xs octets → listing (journalStart ++ octets) ≡ headerLine version1 ++ fieldsLines xs
   pub example : listing exampleOctets ≡ exampleLines

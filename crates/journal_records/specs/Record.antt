@@ -8,10 +8,10 @@ use lib.ListN.{length, drop}
 use lib.Dec.{leb}
 use Rattle.types.specs.Causes.{Cause, row}
 use Rattle.types.specs.Codes.{pick, need}
+use Rattle.types.specs.Modes.{modeCode}
 use Rattle.types.specs.declared.NodeId.{NodeId}
 use Rattle.error_entry.specs.Entry.{entryBytes}
 use Rattle.error_entry.specs.declared.ErrorEntry.{ErrorEntry}
-use Rattle.status_response.specs.Steps.{unlessTerminator}
 use Rattle.journal_records.specs.declared.JournalAnswer.{JournalAnswer}
 use Rattle.journal_records.specs.declared.JournalAnswer.the-variants.{Written, BufferTooShort, RecordInvalid}
 
@@ -20,7 +20,7 @@ recordBytes node e = node ∷ entryBytes e
 
 -- the ID is 1 to 239, and the mode is not 0
 unfoldable pub validRecord : ℕ → ErrorEntry → Bool
-validRecord node e = leb 1 node && (leb node 239 && unlessTerminator (e .«entry_type» .mode) true false)
+validRecord node e = leb 1 node && (leb node 239 && leb 1 (modeCode (e .«entry_type» .mode)))
 
 -- 1, then 19
 abbrev pub journalAnswer : ℕ → ErrorEntry → ℕ → JournalAnswer

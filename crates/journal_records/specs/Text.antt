@@ -32,6 +32,10 @@ joined [] = 10 ∷ []
 joined (t ∷ []) = t ++ 10 ∷ []
 joined (t ∷ u ∷ ts) = t ++ 32 ∷ joined (u ∷ ts)
 
+-- a place up to which a column may begin: no line is as long
+abbrev pub placeMost : ℕ
+placeMost = 100
+
 -- the text is put into `out` from place `at` on, and r is the place after it
 pub record Puts (text : List ℕ) (at r : ℕ) (out after : List ℕ) : Type 0 where
   pub next : r ≡ at + length text

@@ -18,6 +18,9 @@ use types::NodeId;
 // The octets of mark and version.
 pub const HEADER_LEN: usize = 5;
 
+// The octets of the header's line.
+const HEADER_LINE_LEN: usize = 37;
+
 // The octets of the longest line. With room for fewer nothing is listed.
 pub const LINE_MAX: usize = 55;
 
@@ -107,7 +110,7 @@ fn header(bytes: &[u8], last: bool, out: &mut [u8]) -> Part
     Part {
         phase: Phase::Records,
         consumed: HEADER_LEN,
-        written: 37,
+        written: HEADER_LINE_LEN,
     }
 }
 

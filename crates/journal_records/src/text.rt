@@ -4,7 +4,7 @@ ghost use mathlib.Core.List.{[], _∷_, _++_};
 ghost use Prim.Native.Nat.{_+_, _≤_, _<_};
 ghost use lib.ListN.{set};
 ghost use lib.Seq.{sets};
-ghost use Rattle.journal_records.specs.Text.{Puts, decimal, hex};
+ghost use Rattle.journal_records.specs.Text.{Puts, decimal, hex, placeMost};
 ghost use Rattle.journal_records.specs.Text.{digit as Text·digit};
 ghost use Rattle.journal_records.specs.Listing.{fieldsLine};
 use error_entry::ErrorEntry;
@@ -29,7 +29,7 @@ fn digit(d: u8) -> u8
 // Writes `v` in decimal from place `at` on, and answers the place after it. The digits in front of the last are those
 // of a tenth.
 fn put_decimal(v: u32, at: usize, out: &mut [u8]) -> usize
-    requires { ⌜ at ≤ 100 ⌝ }
+    requires { ⌜ at ≤ placeMost ⌝ }
     ensures { λ r. ⌜ Puts (decimal v) at r (now (out .entry)) (now (out .exit)) ⌝ }
 {
     if v < 10 {
@@ -43,7 +43,7 @@ fn put_decimal(v: u32, at: usize, out: &mut [u8]) -> usize
 
 // Writes `v` with `k` hexadecimal digits from place `at` on, the last one first.
 fn put_hex(v: u64, k: usize, at: usize, out: &mut [u8])
-    requires { ⌜ (at ≤ 100) × (k ≤ 16) ⌝ }
+    requires { ⌜ (at ≤ placeMost) × (k ≤ 16) ⌝ }
     ensures { λ _. ⌜ now (out .exit) ≡ sets (now (out .entry)) at (hex k v) ⌝ }
 {
     let mut i = k;
@@ -57,7 +57,7 @@ fn put_hex(v: u64, k: usize, at: usize, out: &mut [u8])
 
 // Writes a decimal column from place `at` on and what ends it, and answers the place after that.
 pub(crate) fn put_number(v: u32, end: u8, at: usize, out: &mut [u8]) -> usize
-    requires { ⌜ at ≤ 100 ⌝ }
+    requires { ⌜ at ≤ placeMost ⌝ }
     ensures { λ r. ⌜ Puts (decimal v ++ end ∷ []) at r (now (out .entry)) (now (out .exit)) × (r ≤ at + 11) ⌝ }
 {
     let next = put_decimal(v, at, out);
@@ -67,7 +67,7 @@ pub(crate) fn put_number(v: u32, end: u8, at: usize, out: &mut [u8]) -> usize
 
 // Writes a hexadecimal column from place `at` on and what ends it, and answers the place after that.
 fn put_code(v: u64, k: usize, end: u8, at: usize, out: &mut [u8]) -> usize
-    requires { ⌜ (at ≤ 100) × (k ≤ 16) ⌝ }
+    requires { ⌜ (at ≤ placeMost) × (k ≤ 16) ⌝ }
     ensures { λ r. ⌜ Puts (hex k v ++ end ∷ []) at r (now (out .entry)) (now (out .exit)) × (r ≤ at + 17) ⌝ }
 {
     put_hex(v, k, at, out);

@@ -1,16 +1,17 @@
--- `list` meets its contract. The loop's invariant: the place is within the part. The measure is what is left of it.
+-- `list` meets its contract. The loop's invariant: of what is due, what was handed out so far is the front. The measure is what is
+-- left of the part.
 -- Assumes nothing.
-use Prim.Native.Nat.{_-_, _≤_}
+use Prim.Native.Nat.{_-_}
 use mathlib.Core.Path.{_≡_, refl, sym, _∙_}
 use native.Mathlib.Omega.{arith}
 use lib.ListN.{length}
 use borrow.Author.Needs.{needs}
-use Rattle.journal.proofs.Parts.{further, same-size, less, settled}
+use Rattle.journal.proofs.Parts.{SoFar, at-first, further, same-size, less, on, settled}
 use Rattle.journal.proofs.list.Statement.{statement}
 use Rattle.journal.proofs.list.Tie as tie
 
 abbrev Inv-loop : tie.InvT-loop
-Inv-loop bytes last out₀ to-come₀ at₀ out to-come at = (at ≤ length bytes) × (length out ≡ length out₀)
+Inv-loop bytes last out₀ to-come₀ at₀ out to-come at = SoFar to-come₀ bytes last to-come at × (length out ≡ length out₀)
 
 abbrev μ-loop : tie.MeasureT-loop
 μ-loop bytes last out₀ to-come₀ at₀ out to-come at = length bytes - at
@@ -20,28 +21,28 @@ same-length c =
     let p = c .before .before .before .before .before .before in
     let t = p .before .before in
     let l = t .before .loop in
-    same-size _ _ (l .inv .0) (t .tail .ensures) (p .list-part .ensures) ∙ l .inv .1
+    same-size (l .inv .0) (t .tail .ensures) (p .list-part .ensures) ∙ l .inv .1
 
 add-at : tie.Need-add-at Inv-loop μ-loop
 add-at c =
     let p = c .before .before .before .before .before .before in
     let t = p .before .before in
     let l = t .before .loop in
-    record { fits = omega (arith, further _ _ (l .inv .0) (t .tail .ensures) (p .list-part .ensures)) }
+    record { fits = omega (arith, further (l .inv .0) (t .tail .ensures) (p .list-part .ensures)) }
 
 same-length-2 : tie.Need-same-length-2 Inv-loop μ-loop
 same-length-2 c =
     let p = c .before .before .before .before .before .before .before .before in
     let t = p .before .before in
     let l = t .before .loop in
-    same-size _ _ (l .inv .0) (t .tail .ensures) (p .list-part .ensures) ∙ l .inv .1
+    same-size (l .inv .0) (t .tail .ensures) (p .list-part .ensures) ∙ l .inv .1
 
 same-length-3 : tie.Need-same-length-3 Inv-loop μ-loop
 same-length-3 c =
     let p = c .before .before .before .before .before .before .before .before .before in
     let t = p .before .before in
     let l = t .before .loop in
-    same-size _ _ (l .inv .0) (t .tail .ensures) (p .list-part .ensures) ∙ l .inv .1
+    same-size (l .inv .0) (t .tail .ensures) (p .list-part .ensures) ∙ l .inv .1
 
 returns-3 : tie.Need-returns-3 Inv-loop μ-loop
 returns-3 c =
@@ -49,21 +50,21 @@ returns-3 c =
     let t = p .before .before in
     let l = t .before .loop in
     let o = c .before .before in
-    settled _ _ (l .inv .0) (t .tail .ensures) (p .list-part .ensures) (t .before .before .before .before .pre ∙ sym (l .inv .1)) (sym (o .is-over .ensures) ∙ c .before .if2 .left) (c .if3 .taken)
+    settled (l .inv .0) (t .tail .ensures) (p .list-part .ensures) (t .before .before .before .before .pre ∙ sym (l .inv .1)) (sym (o .is-over .ensures) ∙ c .before .if2 .left) (c .if3 .taken)
 
 loop-less : tie.Need-loop-less Inv-loop μ-loop
 loop-less c =
     let p = c .before .before .before .before .before .before .before .before .before in
     let t = p .before .before in
     let l = t .before .loop in
-    less _ _ (l .inv .0) (t .tail .ensures) (p .list-part .ensures) (c .if3 .left)
+    less (l .inv .0) (t .tail .ensures) (p .list-part .ensures) (c .if3 .left)
 
 loop-again : tie.Need-loop-again Inv-loop μ-loop
 loop-again c =
     let p = c .before .before .before .before .before .before .before .before .before in
     let t = p .before .before in
     let l = t .before .loop in
-    (further _ _ (l .inv .0) (t .tail .ensures) (p .list-part .ensures), same-size _ _ (l .inv .0) (t .tail .ensures) (p .list-part .ensures) ∙ l .inv .1)
+    (on (l .inv .0) (t .tail .ensures) (p .list-part .ensures), same-size (l .inv .0) (t .tail .ensures) (p .list-part .ensures) ∙ l .inv .1)
 
 pub list-spec : {M : Type 1} → statement M
 list-spec =
@@ -71,7 +72,7 @@ list-spec =
     (tie.spec
     Inv-loop
     μ-loop
-    (λ c. (omega arith, refl))
+    (λ c. (at-first _ _ _, refl))
     (λ c κs. search needs)
     (λ c κs. search needs)
     (λ c κs. search needs)

@@ -1,15 +1,16 @@
--- `main` is safe and ends: less than a record is held, the buffers keep their lengths, and the turns that are left fall.
+-- `main` is safe and ends. Its loop's invariant: what was handed out to be written is the front of the listing of what was read, and
+-- the rest of it is due of the octets held and those to come; less than a record is held. The turns that are left fall.
 -- Assumes nothing.
 use Prim.Native.Nat.{_≤_}
 use mathlib.Core.Path.{_≡_}
-use lib.ListN.{length}
+use lib.ListN.{length, take}
 use borrow.Author.Needs.{needs}
-use Rattle.journal.proofs.Parts.{waits-few}
+use Rattle.journal.proofs.Turns.{Read, nothing-read, reads-on, carried}
 use Rattle.journal.proofs.main.Statement.{statement}
 use Rattle.journal.proofs.main.Tie as tie
 
 abbrev Inv-loop : tie.InvT-loop
-Inv-loop text₀ out₀ to-come₀ held₀ turns₀ text out to-come held turns = (held ≤ 20) × ((65536 ≡ length text) × (65536 ≡ length out))
+Inv-loop text₀ out₀ to-come₀ held₀ turns₀ text out to-come held turns = Read to-come (take held text) × ((held ≤ 20) × ((65536 ≡ length text) × (65536 ≡ length out)))
 
 abbrev μ-loop : tie.MeasureT-loop
 μ-loop text₀ out₀ to-come₀ held₀ turns₀ text out to-come held turns = turns
@@ -21,7 +22,7 @@ large-buffer-requires-2 : tie.Need-large-buffer-requires-2 Inv-loop μ-loop
 large-buffer-requires-2 c κs = search needs
 
 loop-holds : tie.Need-loop-holds Inv-loop μ-loop
-loop-holds c = search needs
+loop-holds c = (nothing-read, (search needs, (search needs, search needs)))
 
 slice-aggregate-turn : tie.Need-slice-aggregate-turn Inv-loop μ-loop
 slice-aggregate-turn c = search needs
@@ -51,7 +52,8 @@ loop-again : tie.Need-loop-again Inv-loop μ-loop
 loop-again c =
     let p = c .before in
     let t = p .before .before .before .before in
-    (waits-few _ _ _ (t .turn .ensures) (p .phase .given .1), (search needs, search needs))
+    let w = carried _ _ _ _ _ _ (t .turn .ensures) (p .phase .given .1) in
+    (reads-on (t .before .before .before .before .loop .inv .0) w, (w .few, (search needs, search needs)))
 
 returns-2 : tie.Need-returns-2 Inv-loop μ-loop
 returns-2 c = search needs

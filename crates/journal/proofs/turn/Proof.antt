@@ -1,7 +1,9 @@
 -- `turn` meets its contract: what is kept is what `list` left.
 -- Assumes nothing.
+use Prim.Native.Nat.{_≤_}
 use native.Mathlib.Omega.{arith}
-use Rattle.journal.proofs.Parts.{read-room, read-within, kept}
+use lib.ListN.{length}
+use Rattle.journal.proofs.Turns.{read-within, in-range, carries, goes}
 use borrow.Author.Needs.{needs}
 use Rattle.journal.proofs.turn.Statement.{statement}
 use Rattle.journal.proofs.turn.Tie as tie
@@ -59,9 +61,10 @@ keep-requires c κs =
     let n = f .before .before in
     let t = n .before in
     let d = t .before .before .before .before .before in
-    let pre = d .before .before .before .before .pre in (
-      kept _ _ _ (t .tail .ensures) (read-room _ (d .read .last .1 .0) _ (d .read .kept .1 .0) (pre .0, pre .1 .0)) (n .count .ensures .0 .0) _ _ _ _ _ (l .list .ensures) (k .phase .given .1) (f .front .ensures) .0,
-      read-within _ _ _ (t .tail .ensures) (read-room _ (d .read .last .1 .0) _ (d .read .kept .1 .0) (pre .0, pre .1 .0)) (n .count .ensures .0 .0),
+    let a = d .before .before .before .before in
+    let held : a .args .held ≤ length (a .args .text .now) = omega (arith, a .pre .0, a .pre .1 .0) in (
+      in-range _ (d .read .last .1 .0) _ (d .read .kept .1 .0) held _ (t .tail .ensures) (n .count .ensures .0 .0) (goes _ _ _ _ _ _ (l .list .ensures) (k .phase .given .1)) (f .front .ensures),
+      read-within _ (d .read .last .1 .0) _ (d .read .kept .1 .0) held _ (t .tail .ensures) (n .count .ensures .0 .0),
     )
 
 same-length-2 : tie.Need-same-length-2
@@ -88,8 +91,10 @@ returns-3 c =
     let n = f .before .before in
     let t = n .before in
     let d = t .before .before .before .before .before in
-    let pre = d .before .before .before .before .pre in
-    omega (arith, p .keep .ensures, kept _ _ _ (t .tail .ensures) (read-room _ (d .read .last .1 .0) _ (d .read .kept .1 .0) (pre .0, pre .1 .0)) (n .count .ensures .0 .0) _ _ _ _ _ (l .list .ensures) (k .phase .given .1) (f .front .ensures) .1)
+    let a = d .before .before .before .before in
+    let held : a .args .held ≤ length (a .args .text .now) = omega (arith, a .pre .0, a .pre .1 .0) in
+    carries _ (d .read .last .1 .0) _ (d .read .kept .1 .0) held _ (t .tail .ensures) (n .count .ensures .0 .0) (goes _ _ _ _ _ _ (l .list .ensures) (k .phase .given .1)) (f .front .ensures)
+    (p .keep .ensures .0) (p .keep .ensures .1)
 
 pub turn-spec : {M : Type 1} → statement M
 turn-spec =
