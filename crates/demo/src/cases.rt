@@ -29,7 +29,7 @@ pub fn raising(tally: Tally) -> Tally {
 pub fn short_targets(tally: Tally) -> Tally {
     let mut p = fresh(tally, 7, 7);
     p = p.raises_many(1).answers(71).is(1);
-    p = p.raises_many(1).answers_whole().has_length(92);
-    p = p.raises_many(2).answers_whole().has_length(92);
+    p = p.raises_many(1).answers_whole().is(92);
+    p = p.raises_many(2).answers_whole().is(92);
     p.tally
 }

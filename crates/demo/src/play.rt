@@ -50,22 +50,11 @@ fn end(right: bool) {
 }
 
 impl Play {
-    // The line of a case, for what the last call came to, and whether that is what 01 has.
+    // The line of a case: what the last call came to, an outcome or a length, and whether that is what 01 has.
     pub fn is(mut self, expected: u64) -> Play {
         let right = self.got == expected;
         name(counted(&self.tally, CASES));
         print::outcome(self.got);
-        end(right);
-        count(&mut self.tally, CASES);
-        demand(&mut self.tally, right);
-        self
-    }
-
-    // The same for the length of an answer.
-    pub fn has_length(mut self, expected: u64) -> Play {
-        let right = self.got == expected;
-        name(counted(&self.tally, CASES));
-        print::number(b"", self.got);
         end(right);
         count(&mut self.tally, CASES);
         demand(&mut self.tally, right);
