@@ -48,6 +48,7 @@ cmp /dev/null "$dir/out"
 if [ -w /dev/full ]; then
     "$demo" /dev/full >"$dir/out" 2>"$dir/errors"
     says 'a full disk' 'demo: cannot write the journal\n'
+    cmp /dev/null "$dir/out"
 fi
 (
     trap '' XFSZ

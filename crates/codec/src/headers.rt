@@ -52,7 +52,7 @@ fn mac_at(s: &[u8]) -> MacAddress
 }
 
 // The header that the first 14 octets are, those past the end counting as 0.
-pub fn eth_header_at(buffer: &[u8]) -> EthernetHeader
+pub(crate) fn eth_header_at(buffer: &[u8]) -> EthernetHeader
     ensures { λ r. ⌜ r ≡ ethHeaderOf (now (buffer .entry)) ⌝ }
 {
     EthernetHeader {

@@ -4,7 +4,6 @@
 // Its state is octets that the caller lends. What they mean is told in specs/Layout.antt; every pattern means something,
 // and all zeros mean a fresh state.
 ghost use mathlib.Core.Path.{_≡_};
-ghost use lib.ListN.{replicate};
 ghost use Rattle.collector.specs.Calls.{Fresh, Registers, Reads, Requests, Takes};
 ghost use Rattle.collector.specs.Layout.{accountOf};
 ghost use Rattle.collector.specs.Rules.{isRegistered};

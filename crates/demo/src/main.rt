@@ -38,13 +38,8 @@ use libc::STDERR_FILENO;
 use line::LINE_LEN;
 use octets::slices::front;
 use outcome::DONE;
-use print::number;
 use print::say;
-use tally::RECORDS;
 use tally::Tally;
-use tally::counted;
-use tally::demand;
-use tally::plus;
 use world::Scene;
 use world::World;
 

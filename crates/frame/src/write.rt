@@ -1,5 +1,4 @@
 // Writing the two headers, and a frame with its Ethernet header in front (powerlink-rs: CodecHelpers).
-ghost use mathlib.Core.Path.{_≡_};
 ghost use Rattle.section.specs.Write.{Writes};
 ghost use Rattle.types.specs.Header.{ethBytes};
 ghost use Rattle.frame.specs.Write.{plHeaderBytes, frameBytes};

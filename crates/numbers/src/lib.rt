@@ -1,4 +1,4 @@
-// What goes between a library and its callers in C: answers as numbers, and what was read as arrays of numbers.
+// What goes between a library and its callers in C: answers and entries as numbers, whole frames from numbers.
 pub mod answers;
 pub mod copied;
 pub mod frames;

@@ -1,9 +1,7 @@
 // Numbers of 16 bits, high octet first: the EtherType is the one number of a frame that is sent so (IEEE 802.3, 3.2.6).
 ghost use mathlib.Core.Path.{_≡_};
-ghost use lib.Seq.{sets};
 ghost use Rattle.octets.specs.Numbers.{beAt, beBytes};
 use crate::slices::byte_at;
-use crate::slices::put;
 use crate::slices::tail;
 
 // The number that the 2 octets of `s` from place `at` on make.
@@ -19,11 +17,4 @@ pub fn u16_be(v: u16) -> [u8; 2]
     ensures { λ r. ⌜ r ≡ beBytes 2 v ⌝ }
 {
     [(v / 0x100 % 0x100) as u8, (v % 0x100) as u8]
-}
-
-// Writes the octets of a number at place `at`.
-pub fn put_u16_be(dst: &mut [u8], at: usize, v: u16)
-    ensures { λ _. ⌜ now (dst .exit) ≡ sets (now (dst .entry)) at (beBytes 2 v) ⌝ }
-{
-    put(dst, at, &u16_be(v));
 }

@@ -1,6 +1,6 @@
 // Replays the sample on standard input: cases with the answers of powerlink-rs, as tests/compare/calls/sample.rs lays them
-// out (tests/compare/sample.sh writes them). Each case's call is made, as a caller in C makes it, and all that comes of it
-// is compared. The last line says how many cases agree, how many differ, or why the file is refused.
+// out (tests/compare/sample.sh writes them). Each case's call is made, of the function that a caller in C calls, and all
+// that comes of it is compared. The last line says how many cases agree, how many differ, or why the file is refused.
 mod frames;
 mod judge;
 mod parts;
