@@ -15,7 +15,7 @@ use crate::state::count;
 use crate::state::ea;
 use crate::state::slot;
 use codec::FrameAnswer;
-use codec::deserialize_frame;
+use codec::read_frame;
 use frame::PowerlinkFrame;
 use status_response::fields::StatusAnswer;
 use status_response::fields::deserialize;
@@ -34,9 +34,7 @@ pub enum Heard {
 pub(crate) fn hear(buffer: &[u8]) -> Heard
     ensures { λ r. ⌜ r ≡ heardIn (readFrame (now (buffer .entry))) ⌝ }
 {
-    let read = deserialize_frame(buffer);
-    let answer = read.answer;
-    let frame = match answer {
+    let frame = match read_frame(buffer) {
         FrameAnswer::Refused(e) => return Heard::Refused(e),
         FrameAnswer::Frame(f) => f,
     };

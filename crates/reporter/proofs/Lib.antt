@@ -3,7 +3,6 @@ pub mod Answering
 pub mod CallLaws
 pub mod Closing
 pub mod Entries
-pub mod Hearing
 pub mod Meaning
 pub mod Opening
 pub mod Raising

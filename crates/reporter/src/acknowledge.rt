@@ -9,7 +9,7 @@ use crate::state::en;
 use crate::state::open;
 use crate::state::start;
 use codec::FrameAnswer;
-use codec::deserialize_frame;
+use codec::read_frame;
 use frame::PowerlinkFrame;
 use types::C_ADR_MN_DEF_NODE_ID;
 use types::hal::PowerlinkError;
@@ -51,9 +51,7 @@ fn hear_frame(id: u8, frame: PowerlinkFrame) -> Heard
 pub(crate) fn hear(id: u8, buffer: &[u8]) -> Heard
     ensures { λ r. ⌜ r ≡ heardIn id (readFrame (now (buffer .entry))) ⌝ }
 {
-    let read = deserialize_frame(buffer);
-    let answer = read.answer;
-    match answer {
+    match read_frame(buffer) {
         FrameAnswer::Refused(e) => Heard::Refused(e),
         FrameAnswer::Frame(frame) => hear_frame(id, frame),
     }

@@ -10,8 +10,7 @@ use Rattle.types.specs.declared.service.ServiceId.{ServiceId}
 use Rattle.frame.specs.declared.PowerlinkFrame.{PowerlinkFrame}
 use Rattle.frame.proofs.PowerlinkFrame as frame
 use Rattle.frame.proofs.Variants.{AtEach, at-each}
-use Rattle.codec.specs.Frame.{readFrame, deserializeFrame, Reads}
-use Rattle.codec.specs.declared.DeserializedFrame.{DeserializedFrame}
+use Rattle.codec.specs.Frame.{readFrame}
 use Rattle.codec.specs.declared.FrameAnswer.{FrameAnswer}
 use Rattle.collector.specs.Rules.{heardIn, heardFrame, heardService}
 use Rattle.collector.specs.declared.reading.Heard.the-variants.{Other}
@@ -19,9 +18,8 @@ use Rattle.collector.proofs.reading.hear.Statement.{statement}
 use Rattle.collector.proofs.reading.hear.Tie as tie
 
 -- by the answer of the frame that was read
-by-answer : (f : List ℕ) (r : DeserializedFrame) → Reads f r → (a : FrameAnswer) → r .answer ≡ a → heardIn a ≡ heardIn (readFrame f)
-unfolding deserializeFrame
-by-answer f r d a is = ap heardIn (sym is ∙ ap (λ (x : DeserializedFrame). x .answer) (d .read))
+by-answer : (f : List ℕ) (r a : FrameAnswer) → r ≡ readFrame f → r ≡ a → heardIn a ≡ heardIn (readFrame f)
+by-answer f r a read is = ap heardIn (sym is ∙ read)
 
 -- the services but StatusResponse
 abbrev others : List ℕ
@@ -32,13 +30,13 @@ no-status source =
     (λ v. refl, (λ v. refl, (λ v. refl, (λ v. refl, (λ v. refl, (λ v. refl, (λ v. refl, (λ v. refl, (λ v. refl, (λ v. refl, (λ v. refl, tt)))))))))))
 
 returns : tie.Need-returns
-returns c = by-answer _ _ (c .before .before .before .deserialize-frame .ensures) _ (c .before .answer .given .1)
+returns c = by-answer _ _ _ (c .before .before .before .read-frame .ensures) (c .before .e .given .1)
 
 returns-2 : tie.Need-returns-2
 returns-2 c =
     let w = c .before .before in
-    at-each frame.enum (λ (f : PowerlinkFrame). Other) heardFrame (0 ∷ 1 ∷ 2 ∷ 3 ∷ []) (w .answer2 .given .0 .0) (search needs) (c .match2 .keys2)
-    ∙ by-answer _ _ (w .before .before .deserialize-frame .ensures) _ (w .answer2 .given .1)
+    at-each frame.enum (λ (f : PowerlinkFrame). Other) heardFrame (0 ∷ 1 ∷ 2 ∷ 3 ∷ []) (w .f .given .0 .0) (search needs) (c .match2 .keys2)
+    ∙ by-answer _ _ _ (w .before .before .read-frame .ensures) (w .f .given .1)
 
 returns-3 : tie.Need-returns-3
 returns-3 c =
@@ -46,7 +44,7 @@ returns-3 c =
     let w = f .before .before .before in
     ap (λ (s : ServiceId). heardService s (f .frame .given .0 .0 .source)) (sym (c .enum-told .given .1))
     ∙ ap heardFrame (sym (f .frame .given .1))
-    ∙ by-answer _ _ (w .before .before .deserialize-frame .ensures) _ (w .answer2 .given .1)
+    ∙ by-answer _ _ _ (w .before .before .read-frame .ensures) (w .f .given .1)
 
 returns-4 : tie.Need-returns-4
 returns-4 c =
@@ -56,7 +54,7 @@ returns-4 c =
     at-each service.enum (λ (s : ServiceId). Other) (λ (s : ServiceId). heardService s (g .source)) others (g .«service_id») (no-status (g .source))
     (c .match3 .keys2)
     ∙ ap heardFrame (sym (f .frame .given .1))
-    ∙ by-answer _ _ (w .before .before .deserialize-frame .ensures) _ (w .answer2 .given .1)
+    ∙ by-answer _ _ _ (w .before .before .read-frame .ensures) (w .f .given .1)
 
 pub hear-spec : {M : Type 1} → statement M
 hear-spec =
