@@ -8,7 +8,7 @@ use mathlib.Core.List.{List, [], _++_, append-assoc, append-nil}
 use native.Mathlib.Nat.{not-suc-le-zero}
 use native.Mathlib.Omega.{arith}
 use lib.Dec.{eqb}
-use lib.ListN.{length, take, drop, length-append, length-drop}
+use lib.ListN.{length, take, drop, replicate, length-append, length-drop, length-replicate}
 use lib.Seq.{drop-drop, take-append-seam}
 use borrow.Author.Tests.{eqb-true, eqb-false}
 use Rattle.journal_records.specs.InParts.{Run, over, call, ListsInParts}
@@ -138,14 +138,21 @@ module _ {p : Phase} {s : List ℕ} {last : Bool} {r : Part} {out after : List �
   call-progress : 55 ≤ length out → (0 < r .consumed) ⊎ ((r .phase ≡ Over) ⊎ ((last ≡ false) × (length s < needed p)))
   call-progress h = rw (L .answer) (part-progress p s last (length out) h)
 
-run-text : {p : Phase} {input text : List ℕ} → Run p input text → text ≡ textFrom p input
+run-text : {room : ℕ} {p : Phase} {input text : List ℕ} → Run room p input text → text ≡ textFrom p input
 run-text over = refl
-run-text (call {s = s} {rest = rest} {r = r} {after = after} L l run) =
+run-text (call {s = s} {rest = rest} {r = r} {after = after} L h l run) =
     ap (λ (t : List ℕ). take (r .written) after ++ t) (run-text run) ∙ sym (call-text L rest (λ e. let all = l e in cc))
 
 -- ---- a run of calls that are lent all that is left
 
-module _ (out : List ℕ) (room : 55 ≤ length out) where
+module _ (room : ℕ) (line : 55 ≤ room) where
+  out : List ℕ
+  out = replicate room 0
+
+  all-room : room ≡ length out
+  unfolding out
+  all-room = sym (length-replicate room 0)
+
   -- what a call that is lent the rest does
   abbrev last-call : Phase → List ℕ → Piece
   last-call p s = partOf p s true (length out)
@@ -153,22 +160,22 @@ module _ (out : List ℕ) (room : 55 ≤ length out) where
   made : (p : Phase) (s : List ℕ) → Lists p s true (told (last-call p s)) out (last-call p s .text ++ drop (length (last-call p s .text)) out)
   made p s = record { answer = refl; holds = refl }
 
-  one-call : (p : Phase) (s : List ℕ) → Run (last-call p s .phase) (drop (last-call p s .consumed) s ++ []) (textFrom (last-call p s .phase) (drop (last-call p s .consumed) s ++ []))
-      → Run p s (textFrom p s)
+  one-call : (p : Phase) (s : List ℕ) → Run room (last-call p s .phase) (drop (last-call p s .consumed) s ++ []) (textFrom (last-call p s .phase) (drop (last-call p s .consumed) s ++ []))
+      → Run room p s (textFrom p s)
   one-call p s run =
-      subst (λ (l : List ℕ). Run p l (textFrom p l)) (append-nil s)
-      (subst (Run p (s ++ [])) (sym (call-text (made p s) [] (λ e. refl))) (call (made p s) (λ e. refl) run))
+      subst (λ (l : List ℕ). Run room p l (textFrom p l)) (append-nil s)
+      (subst (Run room p (s ++ [])) (sym (call-text (made p s) [] (λ e. refl))) (call (made p s) (omega (arith, all-room)) (λ e. refl) run))
 
-  runs : (n : ℕ) (p : Phase) (s : List ℕ) → length s < n → Run p s (textFrom p s)
+  runs : (n : ℕ) (p : Phase) (s : List ℕ) → length s < n → Run room p s (textFrom p s)
   runs zero p s h = absurd (not-suc-le-zero h)
-  runs (suc n) p s h = one-call p s (by-progress (call-progress (made p s) room) (runs n))
+  runs (suc n) p s h = one-call p s (by-progress (call-progress (made p s) (omega (arith, all-room))) (runs n))
     where
       q : Piece
       q = last-call p s
 
       by-progress : (0 < q .consumed) ⊎ ((q .phase ≡ Over) ⊎ ((true ≡ false) × (length s < needed p)))
-          → ((p : Phase) (s : List ℕ) → length s < n → Run p s (textFrom p s))
-          → Run (q .phase) (drop (q .consumed) s ++ []) (textFrom (q .phase) (drop (q .consumed) s ++ []))
+          → ((p : Phase) (s : List ℕ) → length s < n → Run room p s (textFrom p s))
+          → Run room (q .phase) (drop (q .consumed) s ++ []) (textFrom (q .phase) (drop (q .consumed) s ++ []))
       by-progress (inl c) ih =
           ih (q .phase) (drop (q .consumed) s ++ [])
           (rw (append-nil, length-drop) (omega (arith, part-bounded true p s (length out) .most)))
@@ -182,5 +189,5 @@ lists-in-parts =
       within = call-within;
       progress = call-progress;
       listed = run-text;
-      ends = λ p left out room. runs out room (suc (length left)) p left (omega arith);
+      ends = λ room line p left. runs room line (suc (length left)) p left (omega arith);
     }

@@ -13,12 +13,13 @@ use Rattle.journal_records.specs.declared.listing.Phase.{Phase}
 use Rattle.journal_records.specs.declared.listing.Phase.the-variants.{Header, Over}
 
 -- Calls of `list_part` until the phase is `Over`. The octets that are not yet consumed are s ++ rest at each: s is lent, of any
--- length, and rest is what the input still holds, nothing where `last` says so. `text` is what the calls print in all.
-pub data Run : Phase → List ℕ → List ℕ → Type 0 where
-  over : {left : List ℕ} → Run Over left []
+-- length, and rest is what the input still holds, nothing where `last` says so. Each call is lent `room` octets or more for its
+-- text. `text` is what the calls print in all.
+pub data Run (room : ℕ) : Phase → List ℕ → List ℕ → Type 0 where
+  over : {left : List ℕ} → Run room Over left []
   call : {p : Phase} {s rest : List ℕ} {last : Bool} {r : Part} {out after text : List ℕ} → Lists p s last r out after
-      → (last ≡ true → rest ≡ []) → Run (r .phase) (drop (r .consumed) s ++ rest) text
-      → Run p (s ++ rest) (take (r .written) after ++ text)
+      → room ≤ length out → (last ≡ true → rest ≡ []) → Run room (r .phase) (drop (r .consumed) s ++ rest) text
+      → Run room p (s ++ rest) (take (r .written) after ++ text)
 
 pub record ListsInParts : Type 0 where
   -- one call prints the start of the text that is due, and leaves the rest due
@@ -31,6 +32,7 @@ pub record ListsInParts : Type 0 where
   -- with room for a line, a call consumes something, or it is over, or more octets have to come
   pub progress : {p : Phase} {s : List ℕ} {last : Bool} {r : Part} {out after : List ℕ} → Lists p s last r out after → lineMost ≤ length out
       → (0 < r .consumed) ⊎ ((r .phase ≡ Over) ⊎ ((last ≡ false) × (length s < needed p)))
-  pub listed : {input text : List ℕ} → Run Header input text → text ≡ listing input
-  -- and there is such a run: whatever calls came before, with room for a line it goes on to its end
-  pub ends : (p : Phase) (left out : List ℕ) → lineMost ≤ length out → Run p left (textFrom p left)
+  -- whatever room the calls have, what they print in all is the listing
+  pub listed : {room : ℕ} {input text : List ℕ} → Run room Header input text → text ≡ listing input
+  -- and there is such a run wherever each call has room for a line: from any phase and any octets left, calls go on to the end
+  pub ends : (room : ℕ) → lineMost ≤ room → (p : Phase) (left : List ℕ) → Run room p left (textFrom p left)
