@@ -5,7 +5,7 @@ ghost use Prim.Native.Nat.{_+_, _-_, _≤_};
 ghost use mathlib.Core.Path.{_≡_};
 ghost use lib.ListN.{length, take, drop};
 ghost use lib.Seq.{paste};
-ghost use Rattle.journal.specs.Rest.{Listed, Waits, isOver};
+ghost use Rattle.journal.specs.Rest.{Listed, Left, Waits, isOver};
 use journal_records::listing::Phase;
 use journal_records::listing::list_part;
 use libc::STDERR_FILENO;
@@ -76,6 +76,20 @@ fn keep(text: &mut [u8], from: usize, to: usize) -> usize
     to - from
 }
 
+// Lists the first `n` octets, and moves what is left of them to the front.
+fn list_held(phase: Phase, text: &mut [u8], n: usize, last: bool, out: &mut [u8]) -> Rest
+    requires { ⌜ (n ≤ length (now text)) × (65536 ≡ length (now out)) ⌝ }
+    ensures { λ r. ⌜ Left phase (take n (now (text .entry))) last r (now (text .exit)) ⌝ }
+{
+    match list(phase, front(text, n), last, out) {
+        Rest::Over => Rest::Over,
+        Rest::More { phase, at } => Rest::More {
+            phase,
+            at: keep(text, at, n),
+        },
+    }
+}
+
 // Reads behind the octets that are held, and lists.
 fn turn(phase: Phase, text: &mut [u8], held: usize, out: &mut [u8]) -> Rest
     requires { ⌜ (held ≤ 20) × ((65536 ≡ length (now text)) × (65536 ≡ length (now out))) ⌝ }
@@ -87,13 +101,7 @@ fn turn(phase: Phase, text: &mut [u8], held: usize, out: &mut [u8]) -> Rest
         return Rest::Over;
     }
     let n = held + io::count(got, tail(text, held));
-    match list(phase, front(text, n), n == held, out) {
-        Rest::Over => Rest::Over,
-        Rest::More { phase, at } => Rest::More {
-            phase,
-            at: keep(text, at, n),
-        },
-    }
+    list_held(phase, text, n, n == held, out)
 }
 
 // A proved loop has to end, and nothing says that the input does: so the turns are counted down from a number that no

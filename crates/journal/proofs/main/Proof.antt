@@ -1,11 +1,11 @@
--- `main` is safe and ends. Its loop's invariant: what was handed out to be written is the front of the listing of what was read, and
--- the rest of it is due of the octets held and those to come; less than a record is held. The turns that are left fall.
+-- `main` is safe and ends. Its loop's invariant: the octets held are left of some input, and the rest of its listing is due of them
+-- and of those to come; less than a record is held. The turns that are left fall.
 -- Assumes nothing.
 use Prim.Native.Nat.{_≤_}
 use mathlib.Core.Path.{_≡_}
 use lib.ListN.{length, take}
 use borrow.Author.Needs.{needs}
-use Rattle.journal.proofs.Turns.{Read, nothing-read, reads-on, carried}
+use Rattle.journal.proofs.Turns.{Read, nothing-read, reads-on, carried, few-kept}
 use Rattle.journal.proofs.main.Statement.{statement}
 use Rattle.journal.proofs.main.Tie as tie
 
@@ -53,7 +53,7 @@ loop-again c =
     let p = c .before in
     let t = p .before .before .before .before in
     let w = carried _ _ _ _ _ _ (t .turn .ensures) (p .phase .given .1) in
-    (reads-on (t .before .before .before .before .loop .inv .0) w, (w .few, (search needs, search needs)))
+    (reads-on (t .before .before .before .before .loop .inv .0) w, (few-kept w, (search needs, search needs)))
 
 returns-2 : tie.Need-returns-2 Inv-loop μ-loop
 returns-2 c = search needs
