@@ -4,6 +4,7 @@
 # thousands of records, so its first and last lines are shown.
 demo:
 	rt check demo journal
+	@rm -f target/demo.journal
 	./target/bin/demo target/demo.journal
 	./target/bin/journal < target/demo.journal > target/demo.listing
 	@sed -e '8s/.*/../' -e 8q target/demo.listing

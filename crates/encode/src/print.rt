@@ -1,5 +1,4 @@
 // Text, numbers and octets on standard output.
-ghost use Prim.Native.Nat.{_<_};
 use libc::STDOUT_FILENO;
 
 pub fn say(text: &[u8]) {
@@ -21,12 +20,11 @@ pub fn hex_all(s: &[u8]) {
 }
 
 fn hex(b: u8) {
-    say(&[b' ', digit(b / 16), digit(b % 16)]);
+    say(&[b' ', digit(b / 16), digit(b)]);
 }
 
-// The digits of `io::print_hex` are small letters, and these are capitals.
-fn digit(n: u8) -> u8
-    requires { ⌜ n < 16 ⌝ }
-{
+// The digit of the low four bits. Those of `io::print_hex` are small letters, and these are capitals.
+fn digit(b: u8) -> u8 {
+    let n = b % 16;
     if n < 10 { b'0' + n } else { b'A' + (n - 10) }
 }
