@@ -9,7 +9,8 @@ use lib.ListN.{length}
 use Rattle.types.specs.declared.NodeId.{NodeId}
 use Rattle.status_response.specs.Steps.{statusEntries}
 use Rattle.collector.specs.Layout.{boxOf, accountOf, accountIn, slotOf, freshBytes, registerBytes, readBytes, bookedBytes, bookingBytes, takeBytes}
-use Rattle.collector.specs.Rules.{Box, freshBox, Same, registerAnswer, registerCause, registerRow, afterRegister, bookAnswer, accountAnswer, readAnswer, readCause, readRow, afterRead, requestAnswer, requestCause, requestRow, requestFrame, afterRequest, takeAnswer, takeCause, takeRow, afterTake}
+use Rattle.collector.specs.Rules.{Box, freshBox, Same, registerAnswer, registerCause, registerRow, afterRegister, bookAnswer, accountAnswer, readAnswer, readCause, readRow, afterRead, flagsAnswer, flagsCause, flagsRow, requestAnswer, requestCause, requestRow, requestFrame, afterRequest, takeAnswer, takeCause, takeRow, afterTake}
+use Rattle.collector.specs.declared.FlagsAnswer.{FlagsAnswer}
 use Rattle.collector.specs.declared.ReadAnswer.{ReadAnswer}
 use Rattle.collector.specs.declared.ReadAnswer.the-variants.{Booked, Known, Refused, NotStatusResponse, NotRegistered, BookFull}
 use Rattle.collector.specs.declared.RegisterAnswer.{RegisterAnswer}
@@ -35,6 +36,10 @@ pub record Reads (frame : List ℕ) (r : ReadAnswer) (state after : List ℕ) : 
   pub bytes : after ≡ readBytes r frame state
 
 -- the state is lent to be read: it stays
+pub record Flags (i : NodeId) (r : FlagsAnswer) (state : List ℕ) : Type 0 where
+  pub answer : r ≡ flagsAnswer (accountOf state (i .0))
+  pub cause : flagsCause r ≡ flagsRow (accountOf state (i .0))
+
 pub record Requests (i : NodeId) (f : RequestFields) (r : RequestAnswer) (state target written : List ℕ) : Type 0 where
   pub answer : r ≡ requestAnswer (i .0) f target (accountOf state (i .0))
   pub cause : requestCause r ≡ requestRow target (accountOf state (i .0))

@@ -29,6 +29,8 @@ use Rattle.status_response.specs.Fields.{readFields}
 use Rattle.status_response.specs.Steps.{statusEntries}
 use Rattle.status_response.specs.declared.fields.StatusAnswer.{StatusAnswer}
 use Rattle.status_response.specs.declared.fields.StatusAnswer.the-variants as status
+use Rattle.collector.specs.declared.FlagsAnswer.{FlagsAnswer}
+use Rattle.collector.specs.declared.FlagsAnswer.the-variants as flagging
 use Rattle.collector.specs.declared.ReadAnswer.{ReadAnswer}
 use Rattle.collector.specs.declared.ReadAnswer.the-variants.{Booked, Known, Refused, NotStatusResponse, NotRegistered, BookFull}
 use Rattle.collector.specs.declared.RegisterAnswer.{RegisterAnswer}
@@ -205,6 +207,21 @@ afterRead (Refused e) f b = b
 afterRead NotStatusResponse f b = b
 afterRead NotRegistered f b = b
 afterRead BookFull f b = b
+
+-- ---- the flags
+
+-- what every frame of the box to a head carries: "EA, er 0"; or 11
+abbrev pub flagsAnswer : Option Account → FlagsAnswer
+flagsAnswer none = flagging.NotRegistered
+flagsAnswer (some p) = flagging.Flags (record { ea = p .ea; er = false })
+
+abbrev pub flagsCause : FlagsAnswer → Cause
+flagsCause (flagging.Flags f) = row 0 []
+flagsCause flagging.NotRegistered = row 11 []
+
+abbrev pub flagsRow : Option Account → Cause
+flagsRow none = row 11 []
+flagsRow (some p) = row 0 []
 
 -- ---- request
 

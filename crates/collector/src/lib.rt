@@ -4,7 +4,7 @@
 // Its state is octets that the caller lends. What they mean is told in specs/Layout.antt; every pattern means something,
 // and all zeros mean a fresh state.
 ghost use mathlib.Core.Path.{_≡_};
-ghost use Rattle.collector.specs.Calls.{Fresh, Registers, Reads, Requests, Takes};
+ghost use Rattle.collector.specs.Calls.{Fresh, Registers, Reads, Flags, Requests, Takes};
 ghost use Rattle.collector.specs.Layout.{accountOf};
 ghost use Rattle.collector.specs.Rules.{isRegistered};
 
@@ -15,6 +15,7 @@ mod state;
 
 use asking::write_request;
 use book::take_first;
+use control::soa::SoAFlags;
 use error_entry::ErrorEntry;
 use octets::slices::tail;
 use reading::Heard;
@@ -79,6 +80,11 @@ pub enum RequestAnswer {
     Refused(PowerlinkError),
 }
 
+pub enum FlagsAnswer {
+    Flags(SoAFlags),
+    NotRegistered,
+}
+
 pub enum TakeAnswer {
     Taken(ErrorEntry),
     NotRegistered,
@@ -130,6 +136,21 @@ pub fn read(state: &mut Collector, buffer: &[u8]) -> ReadAnswer
         // The payload from octet 4 of the section on, untrimmed: an answer without entries ends in zeros.
         Heard::Status(source) => read_status(state, source.0, tail(buffer, 18)),
     }
+}
+
+// What every frame of the managing node to a registered node has to carry: EA in a PReq to it, EA and ER in an SoA with it as
+// target. Any other EA can close a batch that is not booked.
+pub fn flags(state: &Collector, id: NodeId) -> FlagsAnswer
+    ensures { λ r. ⌜ Flags id r (now (state .entry)) ⌝ }
+{
+    let k = slot(state, id.0);
+    if NODES <= k {
+        return FlagsAnswer::NotRegistered;
+    }
+    FlagsAnswer::Flags(SoAFlags {
+        ea: ea(state, k),
+        er: false,
+    })
 }
 
 // Writes the SoA that asks a registered node for its StatusResponse and tells it EA.

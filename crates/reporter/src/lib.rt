@@ -121,6 +121,13 @@ pub fn answer(state: &mut Reporter, fields: AnswerFields, target: &mut [u8]) -> 
     }
 }
 
+// EN, which a PRes of this node carries too.
+pub fn en(state: &Reporter) -> bool
+    ensures { λ r. ⌜ r ≡ headOf (now (state .entry)) .en ⌝ }
+{
+    state::en(state)
+}
+
 // How many octets the next answer takes.
 pub fn answer_len(state: &Reporter) -> usize
     ensures { λ r. ⌜ r ≡ answerLength (length (opened (headOf (now (state .entry))) .batch)) ⌝ }

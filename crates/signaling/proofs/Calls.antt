@@ -39,10 +39,10 @@ use Rattle.collector.specs.declared.RequestAnswer.the-variants as requesting
 use Rattle.collector.specs.declared.RequestFields.{RequestFields}
 use Rattle.collector.specs.declared.TakeAnswer.{TakeAnswer}
 use Rattle.collector.specs.declared.TakeAnswer.the-variants as taking
-use Rattle.signaling.specs.Calls.{NotFrom, sourceOf, node}
+use Rattle.signaling.specs.Calls.{NotFrom, sourceOf, node, eaOf}
 use Rattle.signaling.proofs.Facts.{clash, either}
 use Rattle.signaling.proofs.Frames.{request-reads}
-use Rattle.signaling.proofs.Invariant.{eaOf, bookOf}
+use Rattle.signaling.proofs.Invariant.{bookOf}
 
 -- ---- writing
 

@@ -12,7 +12,7 @@ use Rattle.collector.specs.Layout.{accountOf, takeBytes}
 use Rattle.collector.specs.Rules.{Account}
 use Rattle.collector.specs.declared.TakeAnswer.the-variants as taking
 use Rattle.collector.proofs.Meaning.{register-length, read-length, take-length}
-use Rattle.signaling.specs.Calls.{Event, World, Step, raise, answer, headReads, register, boxReads, request, takes, Run, fresh, call, Drained, over, more}
+use Rattle.signaling.specs.Calls.{Event, World, Step, raise, answer, headReads, register, boxReads, request, takes, hosts, Run, fresh, call, Drained, over, more}
 use Rattle.signaling.proofs.Callable.{hands}
 use Rattle.signaling.proofs.Invariant.{bookOf}
 
@@ -26,6 +26,7 @@ step-size {w} (register j r after c) = ap length (c .bytes) ∙ register-length 
 step-size {w} (boxReads o bs r after d c) = ap length (c .bytes) ∙ read-length r bs (w .box)
 step-size (request j f r target written six c) = refl
 step-size {w} (takes j r after c) = ap length (c .bytes) ∙ take-length r j (w .box)
+step-size (hosts bs told) = refl
 
 pub box-size : {i : ℕ} {w : World} → Run i w → length (w .box) ≡ 5184
 box-size (fresh before head box m f) = ap length (f .bytes)

@@ -10,8 +10,10 @@ use lib.ListN.{length, take}
 use Rattle.types.specs.declared.error_mode.ErrorEntryMode.{ErrorEntryMode}
 use Rattle.types.specs.declared.error_mode.ErrorEntryMode.the-variants.{ErrorActive, ErrorCleared, EventOccurred}
 use Rattle.section.specs.declared.WriteAnswer.the-variants as write
+use Rattle.codec.specs.Frame.{readFrame}
 use Rattle.error_entry.specs.declared.ErrorEntry.{ErrorEntry}
-use Rattle.reporter.specs.Rules.{Head, freshHead, isRaisable, raiseAnswer, afterRaise, opened, answerFrame, eaAnswer}
+use Rattle.reporter.specs.Layout.{headOf, readBytes}
+use Rattle.reporter.specs.Rules.{Head, freshHead, isRaisable, raiseAnswer, afterRaise, opened, answerFrame, heardIn, eaAnswer, heardAnswer}
 use Rattle.reporter.specs.declared.RaiseAnswer.the-variants.{Raised}
 use Rattle.reporter.specs.declared.ReadAnswer.the-variants.{Closed}
 use Rattle.collector.specs.Layout.{freshBytes}
@@ -20,9 +22,9 @@ use Rattle.collector.specs.declared.ReadAnswer.the-variants as box
 use Rattle.collector.specs.declared.RegisterAnswer.the-variants.{Registered}
 use Rattle.collector.specs.declared.RequestAnswer.the-variants as requesting
 use Rattle.signaling.specs.Calls.{sent, Event, raised, answered, headRead, registered, boxRead, requested, Log, Run, fresh, call}
-use Rattle.signaling.specs.Example.{entry, five, LossAndRepeat, TwoExchanges}
+use Rattle.signaling.specs.Example.{entry, five, LossAndRepeat, TwoExchanges, FreeEaLoses}
 use Rattle.signaling.specs.Exchanges.{done, more, still}
-use Rattle.signaling.proofs.Callable.{freshes}
+use Rattle.signaling.proofs.Callable.{freshes, hears}
 use Rattle.signaling.proofs.Draining.{draining}
 use Rattle.signaling.proofs.ExampleFrames.{numbers, fields, sizes, asked, fifth, first, second, answer-octets, first-says, second-says, hears-ea}
 use Rattle.signaling.proofs.Exchanging.{Exchanged, exchanging}
@@ -220,4 +222,25 @@ two-exchanges =
       waiting = rw (r .knows .rules);
       exchanges = more still (x .exchange) (more still (y .exchange) (done still));
       closed = rw (y .knows .rules);
+    }
+
+-- ---- a frame with any EA
+
+pub free-ea-loses : FreeEaLoses
+unfolding asked eaAnswer
+free-ea-loses =
+    let r = reached-answered in
+    let bs = requestFrame 7 asked true in
+    let e : heardAnswer (heardIn (headOf (r .state) .id) (readFrame bs)) (headOf (r .state)) ≡ Closed = rw (r .knows .means, hears-ea true) in
+    let c = rw e at (hears (r .state) bs (r .knows .headSize)) in
+    record {
+      w = world (r .state) (r .box) answered-twice;
+      run = r .run;
+      entries = refl;
+      place = r .knows .place;
+      frame = bs;
+      gives = hears-ea true;
+      after = readBytes Closed (r .state);
+      reads = c .0;
+      left = c .0 .head ∙ rw (r .knows .means);
     }

@@ -23,12 +23,12 @@ use Rattle.collector.specs.Rules.{Account, Box, heardIn as boxHeard, statusPayl
 use Rattle.collector.specs.declared.ReadAnswer.{ReadAnswer as BoxReadAnswer}
 use Rattle.collector.specs.declared.ReadAnswer.the-variants as box
 use Rattle.collector.specs.declared.reading.Heard.the-variants as boxHears
-use Rattle.signaling.specs.Calls.{sent, Event, answered, headRead, boxRead, answersSent, requestsSent, isBooked, node, World, Step, headReads, boxReads}
+use Rattle.signaling.specs.Calls.{sent, Event, answered, headRead, boxRead, answersSent, requestsSent, isBooked, node, World, Step, headReads, boxReads, eaOf}
 use Rattle.signaling.specs.Exchanges.{Quiet, AnswerAgain, RequestAgain, NoRepeat, Quietly, Exchange}
 use Rattle.signaling.proofs.Calls.{read-here}
 use Rattle.signaling.proofs.Facts.{either, not-not, beq-not, beq-true, beq-false, at-lt}
 use Rattle.signaling.proofs.Frames.{Says}
-use Rattle.signaling.proofs.Invariant.{eaOf, bookOf, headIn, placeFor}
+use Rattle.signaling.proofs.Invariant.{bookOf, headIn, placeFor}
 use Rattle.signaling.proofs.Quiet.{IsPlace, Ready, goes-on, headAfter, Calm, calm, quietly, no-repeat}
 use Rattle.signaling.proofs.Resting.{opened-twice, head-hears, shut, closed, quiet-ready, opens-or-not, Resting, rests-again}
 use Rattle.signaling.proofs.Steps.{keeps}

@@ -17,7 +17,7 @@ use Rattle.reporter.specs.declared.acknowledge.Heard.the-variants as heard
 use Rattle.collector.specs.Layout.{accountOf}
 use Rattle.collector.specs.Rules.{Account, statusPayload, enIn, heardIn as boxHeard}
 use Rattle.collector.specs.declared.reading.Heard.the-variants as boxHears
-use Rattle.signaling.specs.Calls.{Log, accepted, handedOut, answersSent, requestsSent, boxAt, headAt, ruled, openedAt, isBooked, World, node}
+use Rattle.signaling.specs.Calls.{Log, accepted, handedOut, answersSent, requestsSent, boxAt, headAt, ruled, openedAt, isBooked, World, node, eaOf}
 use Rattle.signaling.proofs.Frames.{Good}
 
 -- ---- what the frames say
@@ -75,11 +75,7 @@ past i l =
       accepted = accepted l;
     }
 
--- an ID without a place has EA 0 and nothing booked, as it is when registered
-abbrev pub eaOf : Option Account → Bool
-eaOf none = false
-eaOf (some p) = p .ea
-
+-- an ID without a place has nothing booked, as it is when registered
 abbrev pub bookOf : Option Account → List ErrorEntry
 bookOf none = []
 bookOf (some p) = p .book

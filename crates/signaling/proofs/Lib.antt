@@ -10,6 +10,7 @@ pub mod Exchanging
 pub mod Facts
 pub mod Frames
 pub mod Head
+pub mod Host
 pub mod Invariant
 pub mod Making
 pub mod Progress

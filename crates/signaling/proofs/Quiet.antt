@@ -13,9 +13,10 @@ use borrow.Author.Tests.{eqb-true}
 use Rattle.section.specs.declared.WriteAnswer.the-variants as write
 use Rattle.codec.specs.Frame.{readFrame}
 use Rattle.error_entry.specs.declared.ErrorEntry.{ErrorEntry}
-use Rattle.reporter.specs.Rules.{Head, afterRaise, afterAnswer, heardIn}
+use Rattle.reporter.specs.Rules.{Head, afterRaise, afterAnswer, heardIn, heardAnswer, afterRead}
 use Rattle.reporter.specs.declared.RaiseAnswer.{RaiseAnswer}
 use Rattle.reporter.specs.declared.RaiseAnswer.the-variants.{Raised, EntryInvalid, QueueFull}
+use Rattle.reporter.specs.declared.acknowledge.Heard.{Heard}
 use Rattle.reporter.specs.declared.acknowledge.Heard.the-variants as heard
 use Rattle.collector.specs.Layout.{boxOf}
 use Rattle.collector.specs.Rules.{Account, Box, withAccount, afterRegister, heardIn as boxHeard, statusPayload, afterBooking, afterRead as boxAfterRead, withoutFirst, afterTake}
@@ -28,12 +29,12 @@ use Rattle.collector.specs.declared.TakeAnswer.{TakeAnswer}
 use Rattle.collector.specs.declared.TakeAnswer.the-variants as taking
 use Rattle.collector.specs.declared.reading.Heard.{Heard as BoxHeard}
 use Rattle.collector.specs.declared.reading.Heard.the-variants as boxHears
-use Rattle.signaling.specs.Calls.{sent, foreign, Event, raised, answered, headRead, registered, boxRead, requested, taken, acceptedBy, accepted, handedOut, answersSent, requestsSent, World, Step, raise, answer, headReads, register, boxReads, request, takes}
+use Rattle.signaling.specs.Calls.{sent, foreign, Event, raised, answered, headRead, registered, boxRead, requested, taken, hosted, acceptedBy, accepted, handedOut, answersSent, requestsSent, eaOf, World, Step, raise, answer, headReads, register, boxReads, request, takes, hosts}
 use Rattle.signaling.specs.Exchanges.{Quiet, NoRepeat, Quietly, still, next, again}
 use Rattle.signaling.proofs.Calls.{unheard, read-elsewhere, register-same}
 use Rattle.signaling.proofs.Facts.{clash, either, at-snoc}
 use Rattle.signaling.proofs.Frames.{Says}
-use Rattle.signaling.proofs.Invariant.{eaOf, headIn, placeFor, Held}
+use Rattle.signaling.proofs.Invariant.{headIn, placeFor, Held}
 use Rattle.signaling.proofs.Steps.{answer-says, head-now, request-says}
 
 -- ---- every call but a Raise that is accepted: a place stays, nothing is accepted, and nothing is taken back
@@ -78,6 +79,7 @@ NoRaise (registered j r) = Unit {0}
 NoRaise (boxRead o bs r) = Unit {0}
 NoRaise (requested j r bs) = Unit {0}
 NoRaise (taken j r) = Unit {0}
+NoRaise (hosted bs) = Unit {0}
 
 -- the head is registered, and the book has places for all that is not in it
 pub record Ready (i : ℕ) (w : World) : Type 0 where
@@ -94,6 +96,7 @@ goes-on {i} {w} (register j r after c) k t y =
 goes-on {i} {w} (boxReads o bs r after d c) k t y =
     record { held = t; place = rw (c .box .accounts i) (read-stays i (boxOf (w .box)) (y .place) bs r); room = y .room }
 goes-on (request j f r target written six c) k t y = record { held = t; place = y .place; room = y .room }
+goes-on (hosts bs told) k t y = record { held = t; place = y .place; room = y .room }
 goes-on {i} {w} (takes j r after c) k t y =
     record {
       held = t;
@@ -111,6 +114,7 @@ quiet-raises-not i (registered j r) k = tt
 quiet-raises-not i (boxRead o bs r) k = tt
 quiet-raises-not i (requested j r bs) k = tt
 quiet-raises-not i (taken j r) k = tt
+quiet-raises-not i (hosted bs) k = tt
 
 -- ---- quiet calls
 
@@ -123,6 +127,7 @@ headAfter (registered j r) h = h
 headAfter (boxRead o bs r) h = h
 headAfter (requested j r bs) h = h
 headAfter (taken j r) h = h
+headAfter (hosted bs) h = h
 
 -- the head but for its opening, EA, and the frames sent but for those that say what both hold
 pub record Calm (i : ℕ) (x : Event) (w v : World) : Type 0 where
@@ -152,6 +157,12 @@ not-raised : (e : ErrorEntry) (r : RaiseAnswer) (h : Head) → acceptedBy r e �
 not-raised e Raised h k = clash cc
 not-raised e EntryInvalid h k = refl
 not-raised e QueueFull h k = refl
+
+-- what gives no EA leaves the head
+silent : (a : Heard) (h : Head) → ((ea : Bool) → a ≡ heard.Ea ea → ⊥) → afterRead (heardAnswer a h) h ≡ h
+silent (heard.Refused e) h k = refl
+silent heard.Nothing h k = refl
+silent (heard.Ea ea) h k = absurd (k ea refl)
 
 pub calm : {i : ℕ} {w v : World} {x : Event} → Held i w → Step i w x v → Quiet i x → Calm i x w v
 calm {i} {w} t (raise e r after n c) k =
@@ -183,7 +194,7 @@ calm {i} {w} t (headReads foreign bs r after d c) k =
     }
 calm {i} {w} t (headReads (sent q) bs r after d c) k =
     record {
-      head = head-now t bs r after c ∙ rw k;
+      head = head-now t bs r after c ∙ silent (heardIn i (readFrame bs)) (headIn w) k;
       bit = refl;
       answers = λ p a y. inl y;
       requests = λ q f y. inl y;
@@ -217,6 +228,14 @@ calm {i} {w} t (request j f (requesting.Written n) target written six c) k =
             | inl z ↦ inl (z .1)
             | inr z ↦ inr (rw (← (z .1)) (request-says t j f n target written six c))
           ];
+    }
+calm {i} {w} t (hosts bs told) k =
+    record {
+      head = refl;
+      bit = refl;
+      answers = λ p a y. inl y;
+      requests = λ q g y.
+          elim (at-snoc (requestsSent (w .log)) bs g q y) [ inl z ↦ inl (z .1) | inr z ↦ inr (rw (← (z .1)) told) ];
     }
 calm {i} {w} t (takes j r after c) k =
     record {

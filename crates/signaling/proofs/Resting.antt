@@ -12,7 +12,7 @@ use Rattle.error_entry.specs.declared.ErrorEntry.{ErrorEntry}
 use Rattle.reporter.specs.Rules.{Head, opened, heardIn, eaAnswer, afterRead}
 use Rattle.reporter.specs.declared.ReadAnswer.{ReadAnswer}
 use Rattle.reporter.specs.declared.acknowledge.Heard.the-variants as heard
-use Rattle.signaling.specs.Calls.{Origin, sent, Event, raised, answered, headRead, registered, boxRead, requested, taken, World, Step, headReads}
+use Rattle.signaling.specs.Calls.{Origin, sent, Event, raised, answered, headRead, registered, boxRead, requested, taken, hosted, World, Step, headReads}
 use Rattle.signaling.specs.Exchanges.{Quiet, NoRepeat, RequestAgain, Quietly}
 use Rattle.signaling.proofs.Facts.{beq-same, beq-not}
 use Rattle.signaling.proofs.Invariant.{headIn, Held}
@@ -96,6 +96,7 @@ opens-or-not (registered j r) h = inl refl
 opens-or-not (boxRead o bs r) h = inl refl
 opens-or-not (requested j r bs) h = inl refl
 opens-or-not (taken j r) h = inl refl
+opens-or-not (hosted bs) h = inl refl
 
 pub record Resting (i : ℕ) (h : Head) (w : World) : Type 0 where
   pub ready : Ready i w

@@ -28,10 +28,10 @@ use Rattle.collector.specs.declared.RequestAnswer.the-variants as requesting
 use Rattle.collector.specs.declared.RequestFields.{RequestFields}
 use Rattle.collector.specs.declared.TakeAnswer.{TakeAnswer}
 use Rattle.collector.specs.declared.TakeAnswer.the-variants as taking
-use Rattle.signaling.specs.Calls.{Origin, sent, foreign, Event, answered, headRead, boxRead, requested, taken, requestsSent, answersSent, headAt, boxAt, Delivered, AnswerSizes, node, World, Step, raise, answer, headReads, register, boxReads, request, takes, Run, fresh, call}
+use Rattle.signaling.specs.Calls.{Origin, sent, foreign, Event, answered, headRead, boxRead, requested, taken, requestsSent, answersSent, headAt, boxAt, Delivered, AnswerSizes, node, World, Step, raise, answer, headReads, register, boxReads, request, takes, hosts, Run, fresh, call, eaOf}
 use Rattle.signaling.proofs.Facts.{either, beq-false, at-lt}
 use Rattle.signaling.proofs.Frames.{Says, answer-reads}
-use Rattle.signaling.proofs.Invariant.{enSaid, batchSaid, past, eaOf, bookOf, Inv, headIn, placeFor, Held}
+use Rattle.signaling.proofs.Invariant.{enSaid, batchSaid, past, bookOf, Inv, headIn, placeFor, Held}
 use Rattle.signaling.proofs.Head.{raise-keeps, opened-keeps, answer-written, head-reads}
 use Rattle.signaling.proofs.Box.{box-passes, box-books, request-sends, take-moves}
 use Rattle.signaling.proofs.Calls.{written-frame, unheard, requested-frame, request-here, request-else, why-booked, read-elsewhere, read-here, register-same, take-elsewhere, why-taken}
@@ -158,6 +158,7 @@ keeps {i} {w} t (register j r after c) =
 keeps {i} {w} t (boxReads from bs r after d c) = record { head = t .head; inv = box-read-keeps t from bs r after d c }
 keeps {i} {w} t (request j f r target written six c) = record { head = t .head; inv = request-keeps t j f r target written six c }
 keeps {i} {w} t (takes j r after c) = record { head = t .head; inv = take-keeps t j r after c }
+keeps t (hosts bs told) = record { head = t .head; inv = request-sends (t .inv) bs told }
 
 -- ---- the start
 

@@ -1,17 +1,19 @@
 -- Demand 3: no error lost, none twice. What 01 says of a list of calls as a whole, from a fresh box, a fresh head and a line with
 -- nothing sent. Each call is any that its contract allows, so this holds of the code. 01's box is the collector, its head the reporter.
+-- Beside the calls stand the frames that the box's host sends by itself; 01's own lists are those without any.
 -- Assumes nothing.
 use Prim.Native.Nat.{ℕ, suc, _^_, _≤_, _<_}
 use mathlib.Core.Bool.{Bool, true, false, _||_}
 use mathlib.Core.Path.{_≡_}
 use mathlib.Core.List.{List, [], _∷_, _++_}
-use mathlib.Core.Option.{some}
+use mathlib.Core.Option.{Option, none, some}
 use lib.ListN.{length, take, getElem?}
 use lib.Dec.{leb, eqb}
 use Rattle.types.specs.Codes.{pick}
 use Rattle.types.specs.declared.NodeId.{NodeId}
 use Rattle.section.specs.declared.WriteAnswer.{WriteAnswer}
 use Rattle.section.specs.declared.WriteAnswer.the-variants as write
+use Rattle.control.specs.declared.soa.SoAFlags.{SoAFlags}
 use Rattle.frame.specs.declared.PowerlinkFrame.{PowerlinkFrame}
 use Rattle.frame.specs.declared.PowerlinkFrame.the-variants.{Soc, PReq, PRes, SoA, ASnd}
 use Rattle.codec.specs.Frame.{readFrame}
@@ -26,7 +28,11 @@ use Rattle.reporter.specs.declared.NewAnswer.the-variants.{Made}
 use Rattle.reporter.specs.declared.RaiseAnswer.{RaiseAnswer}
 use Rattle.reporter.specs.declared.RaiseAnswer.the-variants.{Raised, EntryInvalid, QueueFull}
 use Rattle.reporter.specs.declared.ReadAnswer.{ReadAnswer}
+use Rattle.reporter.specs.declared.acknowledge.Heard.the-variants as heard
 use Rattle.collector.specs.Calls as collector
+use Rattle.collector.specs.Layout.{accountOf}
+use Rattle.collector.specs.Rules.{Account}
+use Rattle.collector.specs.declared.FlagsAnswer.the-variants as flagging
 use Rattle.collector.specs.declared.ReadAnswer.{ReadAnswer as BoxReadAnswer}
 use Rattle.collector.specs.declared.ReadAnswer.the-variants as box
 use Rattle.collector.specs.declared.RegisterAnswer.{RegisterAnswer}
@@ -51,6 +57,7 @@ pub data Event : Type 0 where
   boxRead : Origin → List ℕ → BoxReadAnswer → Event
   requested : ℕ → RequestAnswer → List ℕ → Event
   taken : ℕ → TakeAnswer → Event
+  hosted : List ℕ → Event
 
 -- the newest first
 abbrev pub Log : Type 0
@@ -71,6 +78,7 @@ accepted (registered j r ∷ l) = accepted l
 accepted (boxRead o bs r ∷ l) = accepted l
 accepted (requested j r bs ∷ l) = accepted l
 accepted (taken j r ∷ l) = accepted l
+accepted (hosted bs ∷ l) = accepted l
 
 -- "what the Takes for the head's ID handed out, in order"
 abbrev pub handedBy : TakeAnswer → List ErrorEntry
@@ -87,6 +95,7 @@ handedOut i (registered j r ∷ l) = handedOut i l
 handedOut i (boxRead o bs r ∷ l) = handedOut i l
 handedOut i (requested j r bs ∷ l) = handedOut i l
 handedOut i (taken j r ∷ l) = handedOut i l ++ pick (eqb j i) (handedBy r) []
+handedOut i (hosted bs ∷ l) = handedOut i l
 
 -- "An Answer or request not refused sends a copy of the bytes it wrote, as many as the returned length"
 abbrev pub sentAnswer : WriteAnswer → List ℕ → List (List ℕ)
@@ -102,12 +111,14 @@ answersSent (registered j r ∷ l) = answersSent l
 answersSent (boxRead o bs r ∷ l) = answersSent l
 answersSent (requested j r bs ∷ l) = answersSent l
 answersSent (taken j r ∷ l) = answersSent l
+answersSent (hosted bs ∷ l) = answersSent l
 
 abbrev pub sentRequest : RequestAnswer → List ℕ → List (List ℕ)
 sentRequest (requesting.Written n) bs = take n bs ∷ []
 sentRequest requesting.NotRegistered bs = []
 sentRequest (requesting.Refused e) bs = []
 
+-- and the frames of the box's host go the same way, in the order of sending
 abbrev pub requestsSent : Log → List (List ℕ)
 requestsSent [] = []
 requestsSent (raised e r ∷ l) = requestsSent l
@@ -117,6 +128,7 @@ requestsSent (registered j r ∷ l) = requestsSent l
 requestsSent (boxRead o bs r ∷ l) = requestsSent l
 requestsSent (requested j r bs ∷ l) = requestsSent l ++ sentRequest r bs
 requestsSent (taken j r ∷ l) = requestsSent l
+requestsSent (hosted bs ∷ l) = requestsSent l ++ (bs ∷ [])
 
 -- the place of the last sent frame that an end was given: "in the order of sending; any may be skipped, late or repeated"
 abbrev pub givenAt : Origin → ℕ → ℕ
@@ -132,6 +144,7 @@ boxAt (registered j r ∷ l) = boxAt l
 boxAt (boxRead o bs r ∷ l) = givenAt o (boxAt l)
 boxAt (requested j r bs ∷ l) = boxAt l
 boxAt (taken j r ∷ l) = boxAt l
+boxAt (hosted bs ∷ l) = boxAt l
 
 abbrev pub headAt : Log → ℕ
 headAt [] = 0
@@ -142,6 +155,7 @@ headAt (registered j r ∷ l) = headAt l
 headAt (boxRead o bs r ∷ l) = headAt l
 headAt (requested j r bs ∷ l) = headAt l
 headAt (taken j r ∷ l) = headAt l
+headAt (hosted bs ∷ l) = headAt l
 
 -- "Open batch and waiting entries: what the rules above make of the list"
 abbrev pub ruled : ℕ → Log → Head
@@ -153,6 +167,7 @@ ruled i (registered j r ∷ l) = ruled i l
 ruled i (boxRead o bs r ∷ l) = ruled i l
 ruled i (requested j r bs ∷ l) = ruled i l
 ruled i (taken j r ∷ l) = ruled i l
+ruled i (hosted bs ∷ l) = ruled i l
 
 -- whether an answer first opens a batch
 abbrev pub openedBy : WriteAnswer → Head → Bool
@@ -169,6 +184,7 @@ openedAt i (registered j r ∷ l) = openedAt i l
 openedAt i (boxRead o bs r ∷ l) = openedAt i l
 openedAt i (requested j r bs ∷ l) = openedAt i l
 openedAt i (taken j r ∷ l) = openedAt i l
+openedAt i (hosted bs ∷ l) = openedAt i l
 
 -- "the box's reading of an answer sent since it first opened ends neither refused nor known"
 abbrev pub booksSince : Origin → BoxReadAnswer → ℕ → Bool
@@ -190,6 +206,7 @@ isBooked i (registered j r ∷ l) = isBooked i l
 isBooked i (boxRead o bs r ∷ l) = booksSince o r (openedAt i l) || isBooked i l
 isBooked i (requested j r bs ∷ l) = isBooked i l
 isBooked i (taken j r ∷ l) = isBooked i l
+isBooked i (hosted bs ∷ l) = isBooked i l
 
 -- the open batch, if it is unbooked
 abbrev pub unbooked : ℕ → Log → List ErrorEntry
@@ -235,8 +252,17 @@ pub record AnswerSizes (f : AnswerFields) : Type 0 where
 abbrev pub node : ℕ → NodeId
 node i = record { 0 = i }
 
+-- EA as the box has it for a head; 0 before the head is registered
+abbrev pub eaOf : Option Account → Bool
+eaOf none = false
+eaOf (some p) = p .ea
+
+-- What the box's host may send under 240 on the line of the requests: any octets, as long as those that give head i an EA give the box's
+abbrev pub Tells : ℕ → List ℕ → List ℕ → Type 0
+Tells i s bs = (ea : Bool) → heardIn i (readFrame bs) ≡ heard.Ea ea → ea ≡ eaOf (accountOf s i)
+
 -- One call between the head with ID i and the box, with its event: "the head's Raise, Answer and reading, and the box's registering,
--- reading, request and Take, these for any ID". What a call leaves is what its contract says; the other state stays.
+-- reading, request and Take, these for any ID"; or a frame that the box's host sends. What a call leaves is what its contract says; the other state stays.
 pub data Step (i : ℕ) (w : World) : Event → World → Type 0 where
   raise : (e : ErrorEntry) (r : RaiseAnswer) (after : List ℕ) → Numbers e → reporter.Raises e r (w .head) after
       → Step i w (raised e r) (record { head = after; box = w .box; log = raised e r ∷ w .log })
@@ -256,6 +282,8 @@ pub data Step (i : ℕ) (w : World) : Event → World → Type 0 where
       → Step i w (requested j r written) (record { head = w .head; box = w .box; log = requested j r written ∷ w .log })
   takes : (j : ℕ) (r : TakeAnswer) (after : List ℕ) → collector.Takes (node j) r (w .box) after
       → Step i w (taken j r) (record { head = w .head; box = after; log = taken j r ∷ w .log })
+  hosts : (bs : List ℕ) → Tells i (w .box) bs
+      → Step i w (hosted bs) (record { head = w .head; box = w .box; log = hosted bs ∷ w .log })
 
 -- "The list starts from a fresh box, a fresh head and a line with nothing sent"
 pub data Run (i : ℕ) : World → Type 0 where
@@ -302,3 +330,10 @@ pub record NoneLost (i : ℕ) (w : World) : Type 0 where
 
 pub record Demand3 : Type 0 where
   pub holds : (i : ℕ) (w : World) → Run i w → NoneLost i w
+
+-- ---- the frames of the box's host
+
+-- a frame that carries what `flags` told is one that the host may send
+pub record FlagsTell : Type 0 where
+  pub tells : (i : ℕ) (s bs : List ℕ) (f : SoAFlags) → collector.Flags (node i) (flagging.Flags f) s → heardIn i (readFrame bs) ≡ heard.Ea (f .ea)
+      → Tells i s bs

@@ -1,4 +1,5 @@
--- What Demand3 and Progress ask for can be met: a list of calls with a loss and a repeat that books two batches, and two exchanges.
+-- What Demand3 and Progress ask for can be met: a list of calls with a loss and a repeat that books two batches, and two exchanges. And
+-- what a frame with any EA would do.
 -- Assumes nothing.
 use Prim.Native.Nat.{ℕ}
 use mathlib.Core.Bool.{true, false}
@@ -8,14 +9,18 @@ use mathlib.Core.Option.{some}
 use lib.ListN.{length}
 use Rattle.types.specs.declared.error_mode.ErrorEntryMode.{ErrorEntryMode}
 use Rattle.types.specs.declared.error_mode.ErrorEntryMode.the-variants.{ErrorActive, ErrorCleared, EventOccurred}
+use Rattle.codec.specs.Frame.{readFrame}
 use Rattle.error_entry.specs.declared.ErrorEntry.{ErrorEntry}
+use Rattle.reporter.specs.Calls as reporter
 use Rattle.reporter.specs.Layout.{headOf}
+use Rattle.reporter.specs.Rules.{heardIn}
 use Rattle.reporter.specs.declared.ReadAnswer.{ReadAnswer}
 use Rattle.reporter.specs.declared.ReadAnswer.the-variants as head
+use Rattle.reporter.specs.declared.acknowledge.Heard.the-variants as heard
 use Rattle.collector.specs.Layout.{accountOf}
 use Rattle.collector.specs.declared.ReadAnswer.{ReadAnswer as BoxReadAnswer}
 use Rattle.collector.specs.declared.ReadAnswer.the-variants as box
-use Rattle.signaling.specs.Calls.{Origin, sent, raised, answered, headRead, registered, boxRead, requested, taken, Log, accepted, answersSent, requestsSent, isBooked, ruled, World, Run, Drained}
+use Rattle.signaling.specs.Calls.{Origin, sent, raised, answered, headRead, registered, boxRead, requested, taken, hosted, Log, accepted, answersSent, requestsSent, isBooked, ruled, World, Run, Drained}
 use Rattle.signaling.specs.Exchanges.{pending, Exchanges, Room}
 
 abbrev pub entry : ErrorEntryMode → ℕ → ErrorEntry
@@ -43,6 +48,7 @@ boxReadings (registered j r ∷ l) = boxReadings l
 boxReadings (boxRead o bs r ∷ l) = boxReadings l ++ ((o, r) ∷ [])
 boxReadings (requested j r bs ∷ l) = boxReadings l
 boxReadings (taken j r ∷ l) = boxReadings l
+boxReadings (hosted bs ∷ l) = boxReadings l
 
 -- what the head was given and said, the oldest first
 abbrev pub headReadings : Log → List (Origin × ReadAnswer)
@@ -54,6 +60,7 @@ headReadings (registered j r ∷ l) = headReadings l
 headReadings (boxRead o bs r ∷ l) = headReadings l
 headReadings (requested j r bs ∷ l) = headReadings l
 headReadings (taken j r ∷ l) = headReadings l
+headReadings (hosted bs ∷ l) = headReadings l
 
 -- a head with ID 7 and the box
 pub record LossAndRepeat : Type 0 where
@@ -83,3 +90,16 @@ pub record TwoExchanges : Type 0 where
   pub waiting : pending 7 w ≡ five
   pub exchanges : Exchanges 7 2 w v
   pub closed : pending 7 v ≡ []
+
+-- Why a frame of the box's host may not give any EA: the first answer is lost, the box has EA 0 and an empty book, and a frame from 240 with
+-- EA 1 closes the batch. Its four entries are then neither booked nor open nor waiting.
+pub record FreeEaLoses : Type 0 where
+  pub w : World
+  pub run : Run 7 w
+  pub entries : accepted (w .log) ≡ five
+  pub place : accountOf (w .box) 7 ≡ some (record { ea = false; book = [] })
+  pub frame : List ℕ
+  pub gives : heardIn 7 (readFrame frame) ≡ heard.Ea true
+  pub after : List ℕ
+  pub reads : reporter.Reads frame head.Closed (w .head) after
+  pub left : headOf after ≡ record { id = 7; en = true; batch = []; waiting = entry ErrorCleared 0x8165 ∷ [] }

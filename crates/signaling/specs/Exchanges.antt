@@ -17,26 +17,27 @@ use Rattle.collector.specs.Layout.{accountOf}
 use Rattle.collector.specs.Rules.{Account}
 use Rattle.collector.specs.declared.ReadAnswer.{ReadAnswer as BoxReadAnswer}
 use Rattle.collector.specs.declared.RequestAnswer.the-variants as requesting
-use Rattle.signaling.specs.Calls.{sent, foreign, Event, raised, answered, headRead, registered, boxRead, requested, taken, answersSent, requestsSent, ruled, unbooked, World, Step, Run}
+use Rattle.signaling.specs.Calls.{sent, foreign, Event, raised, answered, headRead, registered, boxRead, requested, taken, hosted, answersSent, requestsSent, ruled, unbooked, World, Step, Run}
 
 -- "w entries (waiting and open)"
 abbrev pub pending : ℕ → World → List ErrorEntry
 pending i w = ruled i (w .log) .batch ++ ruled i (w .log) .waiting
 
 -- "nothing raised meanwhile": a Raise that is refused raises nothing. "No answer or request of theirs read outside an exchange":
--- requests for other heads, and what comes from elsewhere, may be read. All else may be called.
+-- what gives this head no EA, as requests for other heads, and what comes from elsewhere, may be read. All else may be called.
 abbrev pub Quiet : ℕ → Event → Type 0
 Quiet i (raised e Raised) = ⊥
 Quiet i (raised e EntryInvalid) = Unit {0}
 Quiet i (raised e QueueFull) = Unit {0}
 Quiet i (answered r bs) = Unit {0}
-Quiet i (headRead (sent q) bs r) = heardIn i (readFrame bs) ≡ heard.Nothing
+Quiet i (headRead (sent q) bs r) = (ea : Bool) → heardIn i (readFrame bs) ≡ heard.Ea ea → ⊥
 Quiet i (headRead foreign bs r) = Unit {0}
 Quiet i (registered j r) = Unit {0}
 Quiet i (boxRead (sent p) bs r) = ⊥
 Quiet i (boxRead foreign bs r) = Unit {0}
 Quiet i (requested j r bs) = Unit {0}
 Quiet i (taken j r) = Unit {0}
+Quiet i (hosted bs) = Unit {0}
 
 -- "On the line a repeat arrives before any later frame of the same sender": the frame that was read last is read once more
 abbrev pub AnswerAgain : ℕ → List ℕ → Event → Type 0

@@ -1,0 +1,31 @@
+-- What `flags` told may be put into a frame of the box's host.
+-- Assumes nothing.
+use Prim.Native.Nat.{ℕ}
+use mathlib.Core.Bool.{Bool}
+use mathlib.Core.Path.{_≡_, sym, ap, _∙_}
+use mathlib.Core.List.{List}
+use mathlib.Core.Option.{Option, none, some}
+use Rattle.control.specs.declared.soa.SoAFlags.{SoAFlags}
+use Rattle.codec.specs.Frame.{readFrame}
+use Rattle.reporter.specs.Rules.{heardIn}
+use Rattle.reporter.specs.declared.acknowledge.Heard.the-variants as heard
+use Rattle.collector.specs.Calls as collector
+use Rattle.collector.specs.Layout.{accountOf}
+use Rattle.collector.specs.Rules.{Account, flagsAnswer}
+use Rattle.collector.specs.declared.FlagsAnswer.{FlagsAnswer}
+use Rattle.collector.specs.declared.FlagsAnswer.the-variants as flagging
+use Rattle.signaling.specs.Calls.{eaOf, Tells, FlagsTell, node}
+use Rattle.signaling.proofs.Facts.{clash}
+
+-- the EA that an answer of `flags` holds
+abbrev told : Bool → FlagsAnswer → Bool
+told other (flagging.Flags f) = f .ea
+told other flagging.NotRegistered = other
+
+flags-ea : (f : SoAFlags) (o : Option Account) → flagging.Flags f ≡ flagsAnswer o → f .ea ≡ eaOf o
+flags-ea f none e = clash cc
+flags-ea f (some p) e = ap (told (p .ea)) e
+
+pub flags-tell : FlagsTell
+flags-tell =
+    record { tells = λ i s bs f c me ea hears. let e : ea ≡ f .ea = cc in e ∙ flags-ea f (accountOf s i) (c .answer) }
