@@ -13,65 +13,29 @@ use Rattle.codec.specs.Frame.{readFrame}
 use Rattle.error_entry.specs.declared.ErrorEntry.{ErrorEntry}
 use Rattle.reporter.specs.Rules.{Head, heardIn}
 use Rattle.reporter.specs.declared.acknowledge.Heard.the-variants as heard
+use Rattle.collector.specs.declared.ReadAnswer.the-variants as box
+use Rattle.collector.specs.declared.TakeAnswer.the-variants as taking
+use Rattle.signaling.specs.Calls.{sent, boxRead, Tally, onEntries, onAnswers, onRequests, sends, gives, hands, adds}
 use Rattle.signaling.proofs.Facts.{beq-same, beq-not, at-lt, join-book}
-use Rattle.signaling.proofs.Invariant.{enSaid, batchSaid, Past, Inv}
+use Rattle.signaling.proofs.Invariant.{enSaid, batchSaid, Inv}
 use Rattle.signaling.proofs.Transit.{answers-later, answers-fresh, answers-booked, requests-send, requests-booked}
 
--- ---- what each call adds to the past
+module _ {i : ℕ} {ea : Bool} {book : List ErrorEntry} {c : Tally} (t : Inv i ea book c) where
+  abbrev h : Head
+  h = c .ruled .head
 
-module _ (c : Past) where
-  abbrev pub afterBoxRead : ℕ → Bool → Past
-  afterBoxRead p booked =
-      record {
-        answers = c .answers;
-        boxAt = p;
-        openedAt = c .openedAt;
-        requests = c .requests;
-        headAt = c .headAt;
-        booked = booked;
-        handed = c .handed;
-        accepted = c .accepted;
-      }
-
-  abbrev pub afterRequesting : List ℕ → Past
-  afterRequesting bs =
-      record {
-        answers = c .answers;
-        boxAt = c .boxAt;
-        openedAt = c .openedAt;
-        requests = c .requests ++ (bs ∷ []);
-        headAt = c .headAt;
-        booked = c .booked;
-        handed = c .handed;
-        accepted = c .accepted;
-      }
-
-  abbrev pub afterHanding : ErrorEntry → Past
-  afterHanding e =
-      record {
-        answers = c .answers;
-        boxAt = c .boxAt;
-        openedAt = c .openedAt;
-        requests = c .requests;
-        headAt = c .headAt;
-        booked = c .booked;
-        handed = c .handed ++ (e ∷ []);
-        accepted = c .accepted;
-      }
-
-module _ {i : ℕ} {h : Head} {ea : Bool} {book : List ErrorEntry} {c : Past} (t : Inv i h ea book c) where
   -- ---- reading
 
-  module _ (p : ℕ) (bs : List ℕ) (le : c .boxAt ≤ p) (at : getElem? (c .answers) p ≡ some bs) where
+  module _ (p : ℕ) (bs : List ℕ) (le : c .answers .at ≤ p) (at : getElem? (c .answers .frames) p ≡ some bs) where
     -- a reading that changes nothing in the box
-    pub box-passes : Inv i h ea book (afterBoxRead c p (c .booked))
+    pub box-passes : Inv i ea book (onAnswers (gives (sent p)) c)
     box-passes =
         record {
           id = t .id;
           batch = t .batch;
           waiting = t .waiting;
           source = t .source;
-          answers = answers-later (t .answers) p le (at-lt (c .answers) bs p at);
+          answers = answers-later (t .answers) p le (at-lt (c .answers .frames) bs p at);
           turned = t .turned;
           requests = t .requests;
           idle = t .idle;
@@ -81,29 +45,29 @@ module _ {i : ℕ} {h : Head} {ea : Bool} {book : List ErrorEntry} {c : Past} (t
         }
 
     pub box-books : enSaid bs ≡ not ea → length book + length (batchSaid bs) ≤ 64
-        → Inv i h (enSaid bs) (book ++ batchSaid bs) (afterBoxRead c p (leb (c .openedAt) p || c .booked))
+        → Inv i (enSaid bs) (book ++ batchSaid bs) (adds i (boxRead (sent p) bs box.Booked) c)
     box-books fresh room =
         let (differ, past, bit, same-batch, open?) = answers-fresh (t .answers) (t .idle) p bs le at fresh in
         let en = h .en in
-        let was : c .booked ≡ false = t .since ∙ ap (λ (b : Bool). Bool·beq b en) differ ∙ beq-not en in
-        let now : leb (c .openedAt) p || c .booked ≡ true = ap (λ (b : Bool). b || c .booked) (le-leb _ _ past) in
+        let was : c .ruled .isBooked ≡ false = t .since ∙ ap (λ (b : Bool). Bool·beq b en) differ ∙ beq-not en in
+        let now : leb (c .ruled .openedAt) p || c .ruled .isBooked ≡ true = ap (λ (b : Bool). b || c .ruled .isBooked) (le-leb _ _ past) in
         record {
           id = t .id;
           batch = t .batch;
           waiting = t .waiting;
           source = t .source;
-          answers = answers-booked (t .answers) p le (at-lt (c .answers) bs p at) past (enSaid bs);
-          turned = length (c .requests);
+          answers = answers-booked (t .answers) p le (at-lt (c .answers .frames) bs p at) past (enSaid bs);
+          turned = length (c .requests .frames);
           requests = rw bit (requests-booked (t .requests) differ open?);
           idle = λ e. bit;
           since = now ∙ sym (beq-same en) ∙ ap (λ (b : Bool). Bool·beq b en) (sym bit);
-          total = rw (now, same-batch) (join-book (c .handed) book (h .batch) (h .waiting) (rw was at (t .total)));
+          total = rw (now, same-batch) (join-book (c .entries .handedOut) book (h .batch) (h .waiting) (rw was at (t .total)));
           room = simp length-append room;
         }
 
   -- ---- request and Take
 
-  pub request-sends : (bs : List ℕ) → ((x : Bool) → heardIn i (readFrame bs) ≡ heard.Ea x → x ≡ ea) → Inv i h ea book (afterRequesting c bs)
+  pub request-sends : (bs : List ℕ) → ((x : Bool) → heardIn i (readFrame bs) ≡ heard.Ea x → x ≡ ea) → Inv i ea book (onRequests (sends (λ fs. fs ++ (bs ∷ []))) c)
   request-sends bs says =
       record {
         id = t .id;
@@ -120,7 +84,7 @@ module _ {i : ℕ} {h : Head} {ea : Bool} {book : List ErrorEntry} {c : Past} (t
       }
 
   -- a Take moves the oldest entry of the book behind those handed out
-  pub take-moves : (e : ErrorEntry) (es : List ErrorEntry) → book ≡ e ∷ es → Inv i h ea es (afterHanding c e)
+  pub take-moves : (e : ErrorEntry) (es : List ErrorEntry) → book ≡ e ∷ es → Inv i ea es (onEntries (hands true (taking.Taken e)) c)
   take-moves e es first =
       record {
         id = t .id;
@@ -132,6 +96,6 @@ module _ {i : ℕ} {h : Head} {ea : Bool} {book : List ErrorEntry} {c : Past} (t
         requests = t .requests;
         idle = t .idle;
         since = t .since;
-        total = rw (append-assoc (c .handed) (e ∷ []) es) (rw first at (t .total));
+        total = rw (append-assoc (c .entries .handedOut) (e ∷ []) es) (rw first at (t .total));
         room = omega (arith, t .room, ap length first);
       }

@@ -50,8 +50,8 @@ module _ {i : ℕ} {w : World} (run : Run i w) where
   t = held run
 
   all-kept : (further : List ErrorEntry) → Drained i (w .box) further
-      → handedOut i (w .log) ++ further ++ (unbooked i (w .log) ++ ruled i (w .log) .waiting) ≡ accepted (w .log)
-  all-kept further d = rw (← (drained-book d), ← (t .head)) (t .inv .total)
+      → handedOut i (w .log) ++ further ++ (unbooked i (w .log) ++ ruled i (w .log) .waiting) ≡ accepted i (w .log)
+  all-kept further d = rw (← (drained-book d)) (t .inv .total)
 
   kept : NoneLost i w
   kept =

@@ -44,26 +44,26 @@ record Steady (i : ℕ) (h : Head) (ea : Bool) (n m : ℕ) (w : World) : Type 0 
   ready : Ready i w
   head : headIn w ≡ h
   bit : eaOf (placeFor i w) ≡ ea
-  mine : (p : ℕ) (a : List ℕ) → n ≤ p → getElem? (answersSent (w .log)) p ≡ some a → Says a h
-  its : (q : ℕ) (f : List ℕ) (x : Bool) → m ≤ q → getElem? (requestsSent (w .log)) q ≡ some f → heardIn i (readFrame f) ≡ heard.Ea x
+  mine : (p : ℕ) (a : List ℕ) → n ≤ p → getElem? (answersSent i (w .log)) p ≡ some a → Says a h
+  its : (q : ℕ) (f : List ℕ) (x : Bool) → m ≤ q → getElem? (requestsSent i (w .log)) q ≡ some f → heardIn i (readFrame f) ≡ heard.Ea x
       → x ≡ ea
 
 -- places from here on
 steady-from : {i : ℕ} {h : Head} {ea : Bool} {w : World} → Ready i w → headIn w ≡ h → eaOf (placeFor i w) ≡ ea
-    → Steady i h ea (length (answersSent (w .log))) (length (requestsSent (w .log))) w
-steady-from {w} y eh eb =
+    → Steady i h ea (length (answersSent i (w .log))) (length (requestsSent i (w .log))) w
+steady-from {i} {w} y eh eb =
     record {
       ready = y;
       head = eh;
       bit = eb;
-      mine = λ p a le e. absurd (omega (arith, at-lt (answersSent (w .log)) a p e));
-      its = λ q f x le e me. absurd (omega (arith, at-lt (requestsSent (w .log)) f q e));
+      mine = λ p a le e. absurd (omega (arith, at-lt (answersSent i (w .log)) a p e));
+      its = λ q f x le e me. absurd (omega (arith, at-lt (requestsSent i (w .log)) f q e));
     }
 
 module _ {i : ℕ} {h : Head} {ea : Bool} {n m : ℕ} where
   steady-by : {w v : World} {x : Event} → Ready i v → Calm i x w v → headAfter x (headIn w) ≡ h → eaOf (placeFor i w) ≡ ea
-      → ((p : ℕ) (a : List ℕ) → n ≤ p → getElem? (answersSent (w .log)) p ≡ some a → Says a h)
-      → ((q : ℕ) (f : List ℕ) (x : Bool) → m ≤ q → getElem? (requestsSent (w .log)) q ≡ some f → heardIn i (readFrame f) ≡ heard.Ea x → x ≡ ea)
+      → ((p : ℕ) (a : List ℕ) → n ≤ p → getElem? (answersSent i (w .log)) p ≡ some a → Says a h)
+      → ((q : ℕ) (f : List ℕ) (x : Bool) → m ≤ q → getElem? (requestsSent i (w .log)) q ≡ some f → heardIn i (readFrame f) ≡ heard.Ea x → x ≡ ea)
       → Steady i h ea n m v
   steady-by {v} y z eh eb mine its =
       let head : headIn v ≡ h = z .head ∙ eh in
@@ -86,18 +86,18 @@ module _ {i : ℕ} {h : Head} {ea : Bool} {n m : ℕ} where
 
 -- the answer that opens: from its place on, all answers say what the opened head holds
 first-steady : {i : ℕ} {w v : World} {n : ℕ} {bs : List ℕ} → Step i w (answered (write.Written n) bs) v → Ready i w
-    → Steady i (opened (headIn w)) (eaOf (placeFor i w)) (length (answersSent (w .log))) (length (requestsSent (w .log))) v
-first-steady {w} s y =
+    → Steady i (opened (headIn w)) (eaOf (placeFor i w)) (length (answersSent i (w .log))) (length (requestsSent i (w .log))) v
+first-steady {i} {w} s y =
     steady-by (quiet-ready s tt y) (calm (y .held) s tt) refl refl
-    (λ p a le e. absurd (omega (arith, at-lt (answersSent (w .log)) a p e)))
-    (λ q f x le e me. absurd (omega (arith, at-lt (requestsSent (w .log)) f q e)))
+    (λ p a le e. absurd (omega (arith, at-lt (answersSent i (w .log)) a p e)))
+    (λ q f x le e me. absurd (omega (arith, at-lt (requestsSent i (w .log)) f q e)))
 
 -- ---- the box reads
 
 -- where the open batch is not booked, there is room for it
 fits-batch : {i : ℕ} {w : World} → Ready i w → isBooked i (w .log) ≡ false → length (bookOf (placeFor i w)) + length (headIn w .batch) ≤ 64
 fits-batch y new =
-    let n = simp length-append at (ap length (rw new at (y .held .inv .total))) in
+    let n = simp length-append at (ap length (rw (new, ← (y .held .head)) at (y .held .inv .total))) in
     omega (arith, y .room, n)
 
 -- the batch that an answer with a new bit carries is not booked, so there is room for it
@@ -107,7 +107,7 @@ room-for {i} {w} y new =
     let ea = eaOf (placeFor i w) in
     let en = headIn w .en in
     let differ : ea ≡ not en = sym (not-not ea) ∙ ap not (sym (beq-false en ea new)) in
-    fits-batch y (y .held .inv .since ∙ ap (λ (b : Bool). Bool·beq b en) differ ∙ beq-not en)
+    fits-batch y (rw (← (y .held .head)) at (y .held .inv .since) ∙ ap (λ (b : Bool). Bool·beq b en) differ ∙ beq-not en)
 
 -- with room for its batch, an answer is known or booked
 outcome : (payload : List ℕ) (o : Option Account) (f : StatusFields) → IsPlace o → readFields payload ≡ said.Status f
@@ -143,11 +143,11 @@ box-agrees i h bs b says id is room =
 box-steady : {i : ℕ} {h : Head} {ea : Bool} {n m p : ℕ} {bs : List ℕ} {r : BoxReadAnswer} {w v : World} → n ≤ p
     → Step i w (boxRead (sent p) bs r) v
     → Steady i h ea n m w
-    → Steady i h (h .en) n (length (requestsSent (w .log))) v
+    → Steady i h (h .en) n (length (requestsSent i (w .log))) v
 box-steady {i} {h} {p} {bs} {r} {w} le (boxReads from octets answer after d c) y =
     let s : Step i w (boxRead (sent p) bs r) (record { head = w .head; box = after; log = boxRead (sent p) bs r ∷ w .log }) =
     boxReads (sent p) bs r after d c in
-    let id : h .id ≡ i = rw (← (y .head)) (y .ready .held .inv .id) in
+    let id : h .id ≡ i = rw (← (y .head), y .ready .held .head) (y .ready .held .inv .id) in
     record {
       ready = goes-on s tt (keeps (y .ready .held) s) (y .ready);
       head = y .head;
@@ -155,7 +155,7 @@ box-steady {i} {h} {p} {bs} {r} {w} le (boxReads from octets answer after d c) y
           rw (c .box .accounts i, c .answer)
           (box-agrees i h bs (boxOf (w .box)) (y .mine p bs le (d .1)) id (y .ready .place) (rw (← (y .head)) (room-for (y .ready))));
       mine = y .mine;
-      its = λ q f x le e me. absurd (omega (arith, at-lt (requestsSent (w .log)) f q e));
+      its = λ q f x le e me. absurd (omega (arith, at-lt (requestsSent i (w .log)) f q e));
     }
 
 -- the box has read an answer that was sent from the place n on

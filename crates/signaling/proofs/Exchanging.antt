@@ -15,7 +15,7 @@ use Rattle.collector.specs.Rules.{Account, bookAnswer, requestFrame}
 use Rattle.collector.specs.declared.ReadAnswer.the-variants as box
 use Rattle.collector.specs.declared.RequestAnswer.the-variants as requesting
 use Rattle.collector.specs.declared.RequestFields.{RequestFields}
-use Rattle.signaling.specs.Calls.{sent, answered, headRead, boxRead, requested, Log, answersSent, requestsSent, boxAt, headAt, Delivered, AnswerSizes}
+use Rattle.signaling.specs.Calls.{sent, answered, headRead, boxRead, requested, Log, answersSent, requestsSent, tally, Delivered, AnswerSizes}
 use Rattle.signaling.specs.Exchanges.{Exchange, still}
 use Rattle.signaling.proofs.Frames.{Says}
 use Rattle.signaling.proofs.Making.{world, Knows, held, answering, closing, booking, asking}
@@ -48,10 +48,10 @@ module _ (i : ℕ) (f : AnswerFields) (g : RequestFields) (sizes : AnswerSizes f
         → opened h .id ≡ i
         → Octets frame₁
         → bookAnswer (opened h .en) (opened h .batch) p ≡ box.Booked
-        → Delivered i (sent n) frame₁ (answersSent written) (boxAt l)
-        → length (answersSent l) ≤ n
-        → Delivered 240 (sent m) frame₂ (requestsSent (requested₁ n)) (headAt l)
-        → length (requestsSent l) ≤ m
+        → Delivered i (sent n) frame₁ (tally i written .answers)
+        → length (answersSent i l) ≤ n
+        → Delivered 240 (sent m) frame₂ (tally i (requested₁ n) .requests)
+        → length (requestsSent i l) ≤ m
         → heardIn i (readFrame frame₂) ≡ heard.Ea (opened h .en)
         → eaAnswer (opened h .en) (opened h) ≡ Closed
         → Exchanged i s b l (headRead (sent m) frame₂ Closed ∷ requested₁ n) (afterRead Closed (opened h)) booked

@@ -4,11 +4,12 @@ use Prim.Native.Nat.{ℕ, zero, suc, _≤_}
 use mathlib.Core.Bool.{Bool, true, false, not, _&&_, Bool·beq}
 use mathlib.Core.Path.{_≡_, refl, sym, ap, _∙_}
 use mathlib.Core.Logic.{inl, inr}
-use mathlib.Core.List.{List, [], _∷_, _++_, append-nil}
+use mathlib.Core.List.{List, [], _∷_, _++_}
 use mathlib.Core.Option.{some}
 use lib.ListN.{length, take, drop, getElem?, take-append-drop}
 use lib.Dec.{ltb}
 use Rattle.types.specs.Codes.{pick, need}
+use Rattle.section.specs.declared.WriteAnswer.the-variants as write
 use Rattle.codec.specs.Frame.{readFrame}
 use Rattle.error_entry.specs.declared.ErrorEntry.{ErrorEntry}
 use Rattle.reporter.specs.Rules.{Head, isRaisable, raiseAnswer, afterRaise, isEmpty, opens, opened, heardIn, eaAnswer, heardAnswer, afterRead}
@@ -18,66 +19,11 @@ use Rattle.reporter.specs.declared.ReadAnswer.the-variants.{Closed, Kept}
 use Rattle.reporter.specs.declared.acknowledge.Heard.{Heard}
 use Rattle.reporter.specs.declared.acknowledge.Heard.the-variants as heard
 use Rattle.collector.specs.Rules.{enIn}
-use Rattle.signaling.specs.Calls.{acceptedBy, Numbers}
+use Rattle.signaling.specs.Calls.{sent, raised, answered, Tally, onEntries, onAnswers, onRequests, onRuled, accepts, sends, gives, becomes, answers, adds, Numbers}
 use Rattle.signaling.proofs.Facts.{beq-same, beq-other, beq-true, both, at-snoc, at-lt, join-more, no-batch, is-cons}
 use Rattle.signaling.proofs.Frames.{Good, Says}
-use Rattle.signaling.proofs.Invariant.{enSaid, batchSaid, Past, Inv}
+use Rattle.signaling.proofs.Invariant.{enSaid, batchSaid, Inv}
 use Rattle.signaling.proofs.Transit.{answers-open, answers-send, answers-closed, requests-open, requests-later, requests-fresh, requests-closed}
-
--- ---- what each call adds to the past
-
-module _ (c : Past) where
-  abbrev pub afterRaised : List ErrorEntry → Past
-  afterRaised es =
-      record {
-        answers = c .answers;
-        boxAt = c .boxAt;
-        openedAt = c .openedAt;
-        requests = c .requests;
-        headAt = c .headAt;
-        booked = c .booked;
-        handed = c .handed;
-        accepted = c .accepted ++ es;
-      }
-
-  abbrev pub afterOpening : Bool → Past
-  afterOpening o =
-      record {
-        answers = c .answers;
-        boxAt = c .boxAt;
-        openedAt = pick o (length (c .answers)) (c .openedAt);
-        requests = c .requests;
-        headAt = c .headAt;
-        booked = pick o false (c .booked);
-        handed = c .handed;
-        accepted = c .accepted;
-      }
-
-  abbrev pub afterSending : List ℕ → Past
-  afterSending bs =
-      record {
-        answers = c .answers ++ (bs ∷ []);
-        boxAt = c .boxAt;
-        openedAt = c .openedAt;
-        requests = c .requests;
-        headAt = c .headAt;
-        booked = c .booked;
-        handed = c .handed;
-        accepted = c .accepted;
-      }
-
-  abbrev pub afterHeadRead : ℕ → Past
-  afterHeadRead q =
-      record {
-        answers = c .answers;
-        boxAt = c .boxAt;
-        openedAt = c .openedAt;
-        requests = c .requests;
-        headAt = q;
-        booked = c .booked;
-        handed = c .handed;
-        accepted = c .accepted;
-      }
 
 -- ---- entries
 
@@ -104,10 +50,17 @@ raisable : (e : ErrorEntry) (h : Head) → Raised ≡ raiseAnswer e h → isRais
 unfolding raiseAnswer
 raisable e h a = raised-by (isRaisable e) (ltb (length (h .waiting)) 16) a
 
-module _ {i : ℕ} {h : Head} {ea : Bool} {book : List ErrorEntry} {c : Past} (t : Inv i h ea book c) where
+-- what an answer that is sent opens
+abbrev pub opening : Tally → Tally
+opening c = onRuled (answers (write.Written 0) (length (c .answers .frames))) c
+
+module _ {i : ℕ} {ea : Bool} {book : List ErrorEntry} {c : Tally} (t : Inv i ea book c) where
+  abbrev h : Head
+  h = c .ruled .head
+
   -- ---- Raise
 
-  raise-joins : (e : ErrorEntry) → isRaisable e ≡ true → Numbers e → Inv i (afterRaise Raised e h) ea book (afterRaised c (e ∷ []))
+  raise-joins : (e : ErrorEntry) → isRaisable e ≡ true → Numbers e → Inv i ea book (onEntries (accepts Raised e) (onRuled (becomes (afterRaise Raised e)) c))
   raise-joins e may n =
       record {
         id = t .id;
@@ -119,21 +72,24 @@ module _ {i : ℕ} {h : Head} {ea : Bool} {book : List ErrorEntry} {c : Past} (t
         requests = t .requests;
         idle = t .idle;
         since = t .since;
-        total = join-more (c .handed ++ book) (pick (c .booked) [] (h .batch)) (h .waiting) (e ∷ []) (t .total);
+        total = join-more (c .entries .handedOut ++ book) (pick (c .ruled .isBooked) [] (h .batch)) (h .waiting) (e ∷ []) (t .total);
         room = t .room;
       }
 
-  pub raise-keeps : (e : ErrorEntry) (r : RaiseAnswer) → r ≡ raiseAnswer e h → Numbers e
-      → Inv i (afterRaise r e h) ea book (afterRaised c (acceptedBy r e))
-  raise-keeps e Raised a n = raise-joins e (raisable e h a) n
-  raise-keeps e EntryInvalid a n = rw append-nil t
-  raise-keeps e QueueFull a n = rw append-nil t
+  pub raise-keeps : (e : ErrorEntry) (r : RaiseAnswer) → r ≡ raiseAnswer e h → Numbers e → Inv i ea book (adds i (raised e r) c)
+  raise-keeps e Raised a n = rw (← a) (raise-joins e (raisable e h a) n)
+  raise-keeps e EntryInvalid a n = rw (← a) t
+  raise-keeps e QueueFull a n = rw (← a) t
 
   -- ---- Answer
 
   -- no batch was open and w waits: from now on the batch is open and not booked
   open-new : (x : ErrorEntry) (w : List ErrorEntry) → h .batch ≡ [] → h .waiting ≡ x ∷ w
-      → Inv i (record { id = h .id; en = not (h .en); batch = take 4 (h .waiting); waiting = drop 4 (h .waiting) }) ea book (afterOpening c true)
+      → Inv i ea book (onRuled (λ s. record {
+        head = record { id = h .id; en = not (h .en); batch = take 4 (h .waiting); waiting = drop 4 (h .waiting) };
+        openedAt = length (c .answers .frames);
+        isBooked = false;
+      }) c)
   open-new x w eb ew =
       let same : ea ≡ h .en = t .idle eb in
       record {
@@ -146,17 +102,17 @@ module _ {i : ℕ} {h : Head} {ea : Bool} {book : List ErrorEntry} {c : Past} (t
         requests = requests-open (t .requests) eb (not (h .en)) (take 4 (h .waiting));
         idle = λ e. is-cons (ap (λ (l : List ErrorEntry). take 4 l) ew) e;
         since = sym (beq-other (h .en)) ∙ ap (λ (b : Bool). Bool·beq b (not (h .en))) (sym same);
-        total = cc (take-append-drop 4 (h .waiting), no-batch (c .booked) (h .batch) eb, t .total);
+        total = cc (take-append-drop 4 (h .waiting), no-batch (c .ruled .isBooked) (h .batch) eb, t .total);
         room = t .room;
       }
 
-  open-by : (b w : List ErrorEntry) → h .batch ≡ b → h .waiting ≡ w → Inv i (opened h) ea book (afterOpening c (opens h))
+  open-by : (b w : List ErrorEntry) → h .batch ≡ b → h .waiting ≡ w → Inv i ea book (opening c)
   unfolding opened
   open-by [] [] eb ew = let o : opens h ≡ false = rw (eb, ew) in rw o t
   open-by (x ∷ b) w eb ew = let o : opens h ≡ false = rw eb in rw o t
   open-by [] (x ∷ w) eb ew = let o : opens h ≡ true = rw (eb, ew) in rw o (open-new x w eb ew)
 
-  answer-sends : (bs : List ℕ) → Says bs h → Inv i h ea book (afterSending c bs)
+  answer-sends : (bs : List ℕ) → Says bs h → Inv i ea book (onAnswers (sends (λ fs. fs ++ (bs ∷ []))) c)
   unfolding enSaid batchSaid
   answer-sends bs says =
       record {
@@ -164,7 +120,7 @@ module _ {i : ℕ} {h : Head} {ea : Bool} {book : List ErrorEntry} {c : Past} (t
         batch = t .batch;
         waiting = t .waiting;
         source = λ p a e.
-            elim (at-snoc (c .answers) bs a p e) [
+            elim (at-snoc (c .answers .frames) bs a p e) [
               | inl y ↦ t .source p a (y .1)
               | inr y ↦ rw (← (y .1), ← (t .id)) (says .status)
             ];
@@ -179,8 +135,8 @@ module _ {i : ℕ} {h : Head} {ea : Bool} {book : List ErrorEntry} {c : Past} (t
 
   -- ---- the head reads
 
-  module _ (q : ℕ) (bs : List ℕ) (le : c .headAt ≤ q) (at : getElem? (c .requests) q ≡ some bs) where
-    head-passes : Inv i h ea book (afterHeadRead c q)
+  module _ (q : ℕ) (bs : List ℕ) (le : c .requests .at ≤ q) (at : getElem? (c .requests .frames) q ≡ some bs) where
+    head-passes : Inv i ea book (onRequests (gives (sent q)) c)
     head-passes =
         record {
           id = t .id;
@@ -189,17 +145,17 @@ module _ {i : ℕ} {h : Head} {ea : Bool} {book : List ErrorEntry} {c : Past} (t
           source = t .source;
           answers = t .answers;
           turned = t .turned;
-          requests = requests-later (t .requests) q le (at-lt (c .requests) bs q at);
+          requests = requests-later (t .requests) q le (at-lt (c .requests .frames) bs q at);
           idle = t .idle;
           since = t .since;
           total = t .total;
           room = t .room;
         }
 
-    head-closes : heardIn i (readFrame bs) ≡ heard.Ea (h .en) → Inv i (afterRead Closed h) ea book (afterHeadRead c q)
+    head-closes : heardIn i (readFrame bs) ≡ heard.Ea (h .en) → Inv i ea book (onRequests (gives (sent q)) (onRuled (becomes (λ g. afterRead Closed g)) c))
     head-closes me =
         let (same, past) = requests-fresh (t .requests) q bs le at me in
-        let was : c .booked ≡ true = t .since ∙ ap (λ (b : Bool). Bool·beq b (h .en)) same ∙ beq-same (h .en) in
+        let was : c .ruled .isBooked ≡ true = t .since ∙ ap (λ (b : Bool). Bool·beq b (h .en)) same ∙ beq-same (h .en) in
         record {
           id = t .id;
           batch = tt;
@@ -207,7 +163,7 @@ module _ {i : ℕ} {h : Head} {ea : Bool} {book : List ErrorEntry} {c : Past} (t
           source = t .source;
           answers = answers-closed (t .answers);
           turned = t .turned;
-          requests = requests-closed (t .requests) q le (at-lt (c .requests) bs q at) past;
+          requests = requests-closed (t .requests) q le (at-lt (c .requests .frames) bs q at) past;
           idle = λ e. same;
           since = t .since;
           total = rw was (rw was at (t .total));
@@ -215,23 +171,21 @@ module _ {i : ℕ} {h : Head} {ea : Bool} {book : List ErrorEntry} {c : Past} (t
         }
 
     head-by : (x b : Bool) → heardIn i (readFrame bs) ≡ heard.Ea x → not (isEmpty (h .batch)) && Bool·beq (h .en) x ≡ b
-        → Inv i (afterRead (pick b Closed Kept) h) ea book (afterHeadRead c q)
+        → Inv i ea book (onRequests (gives (sent q)) (onRuled (becomes (λ g. afterRead (pick b Closed Kept) g)) c))
     head-by x false me e = head-passes
     head-by x true me e =
         head-closes (me ∙ ap heard.Ea (sym (beq-true (h .en) x (both (not (isEmpty (h .batch))) (Bool·beq (h .en) x) e .1))))
 
-    pub head-reads : (s : Heard) → heardIn i (readFrame bs) ≡ s → Inv i (afterRead (heardAnswer s h) h) ea book (afterHeadRead c q)
+    pub head-reads : (s : Heard) → heardIn i (readFrame bs) ≡ s → Inv i ea book (onRequests (gives (sent q)) (onRuled (becomes (λ g. afterRead (heardAnswer s g) g)) c))
     unfolding eaAnswer
     head-reads (heard.Refused e) me = head-passes
     head-reads heard.Nothing me = head-passes
     head-reads (heard.Ea x) me = head-by x _ me refl
 
-pub opened-keeps : {i : ℕ} {h : Head} {ea : Bool} {book : List ErrorEntry} {c : Past} → Inv i h ea book c
-    → Inv i (opened h) ea book (afterOpening c (opens h))
-opened-keeps {h} t = open-by t (h .batch) (h .waiting) refl refl
+pub opened-keeps : {i : ℕ} {ea : Bool} {book : List ErrorEntry} {c : Tally} → Inv i ea book c → Inv i ea book (opening c)
+opened-keeps {c} t = open-by t (c .ruled .head .batch) (c .ruled .head .waiting) refl refl
 
 -- an answer that is not refused: what it opens, and that it is sent
-pub answer-written : {i : ℕ} {h : Head} {ea : Bool} {book : List ErrorEntry} {c : Past} (t : Inv i h ea book c) (bs : List ℕ)
-    → Says bs (opened h)
-    → Inv i (opened h) ea book (afterSending (afterOpening c (opens h)) bs)
-answer-written t bs says = answer-sends (opened-keeps t) bs says
+pub answer-written : {i : ℕ} {ea : Bool} {book : List ErrorEntry} {c : Tally} (t : Inv i ea book c) (n : ℕ) (bs : List ℕ)
+    → Says (take n bs) (opened (c .ruled .head)) → Inv i ea book (adds i (answered (write.Written n) bs) c)
+answer-written t n bs says = answer-sends (opened-keeps t) (take n bs) says

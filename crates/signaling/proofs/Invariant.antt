@@ -1,7 +1,7 @@
 -- What holds after every list of calls.
 -- Assumes nothing.
 use Prim.Native.Nat.{ℕ, _≤_, _<_}
-use mathlib.Core.Bool.{Bool, false, not, Bool·beq}
+use mathlib.Core.Bool.{Bool, not, Bool·beq}
 use mathlib.Core.Path.{_≡_}
 use mathlib.Core.List.{List, [], _++_}
 use mathlib.Core.Option.{Option, none, some}
@@ -17,7 +17,7 @@ use Rattle.reporter.specs.declared.acknowledge.Heard.the-variants as heard
 use Rattle.collector.specs.Layout.{accountOf}
 use Rattle.collector.specs.Rules.{Account, statusPayload, enIn, heardIn as boxHeard}
 use Rattle.collector.specs.declared.reading.Heard.the-variants as boxHears
-use Rattle.signaling.specs.Calls.{Log, accepted, handedOut, answersSent, requestsSent, boxAt, headAt, ruled, openedAt, isBooked, World, node, eaOf}
+use Rattle.signaling.specs.Calls.{Tally, tally, ruled, World, node, eaOf}
 use Rattle.signaling.proofs.Frames.{Good}
 
 -- ---- what the frames say
@@ -49,50 +49,27 @@ pub record Requests (i : ℕ) (en ea : Bool) (batch : List ErrorEntry) (sent : L
   pub range : turned ≤ length sent
   pub given : at ≤ length sent
 
--- ---- what was called
-
--- what the log says, as far as the rules speak of it
-pub record Past : Type 0 where
-  pub answers : List (List ℕ)
-  pub boxAt : ℕ
-  pub openedAt : ℕ
-  pub requests : List (List ℕ)
-  pub headAt : ℕ
-  pub booked : Bool
-  pub handed : List ErrorEntry
-  pub accepted : List ErrorEntry
-
-abbrev pub past : ℕ → Log → Past
-past i l =
-    record {
-      answers = answersSent l;
-      boxAt = boxAt l;
-      openedAt = openedAt i l;
-      requests = requestsSent l;
-      headAt = headAt l;
-      booked = isBooked i l;
-      handed = handedOut i l;
-      accepted = accepted l;
-    }
+-- ---- what the calls come to
 
 -- an ID without a place has nothing booked, as it is when registered
 abbrev pub bookOf : Option Account → List ErrorEntry
 bookOf none = []
 bookOf (some p) = p .book
 
-pub record Inv (i : ℕ) (h : Head) (ea : Bool) (book : List ErrorEntry) (c : Past) : Type 0 where
-  pub id : h .id ≡ i
-  pub batch : Good (h .batch)
-  pub waiting : Good (h .waiting)
+pub record Inv (i : ℕ) (ea : Bool) (book : List ErrorEntry) (c : Tally) : Type 0 where
+  pub id : c .ruled .head .id ≡ i
+  pub batch : Good (c .ruled .head .batch)
+  pub waiting : Good (c .ruled .head .waiting)
   -- the box reads an answer as one of node i
-  pub source : (p : ℕ) (bs : List ℕ) → getElem? (c .answers) p ≡ some bs → boxHeard (readFrame bs) ≡ boxHears.Status (node i)
-  pub answers : Answers (h .en) ea (h .batch) (c .answers) (c .boxAt) (c .openedAt)
+  pub source : (p : ℕ) (bs : List ℕ) → getElem? (c .answers .frames) p ≡ some bs → boxHeard (readFrame bs) ≡ boxHears.Status (node i)
+  pub answers : Answers (c .ruled .head .en) ea (c .ruled .head .batch) (c .answers .frames) (c .answers .at) (c .ruled .openedAt)
   pub turned : ℕ
-  pub requests : Requests i (h .en) ea (h .batch) (c .requests) (c .headAt) turned
+  pub requests : Requests i (c .ruled .head .en) ea (c .ruled .head .batch) (c .requests .frames) (c .requests .at) turned
   -- no open batch: the last one is booked
-  pub idle : h .batch ≡ [] → ea ≡ h .en
-  pub since : c .booked ≡ Bool·beq ea (h .en)
-  pub total : c .handed ++ book ++ (pick (c .booked) [] (h .batch) ++ h .waiting) ≡ c .accepted
+  pub idle : c .ruled .head .batch ≡ [] → ea ≡ c .ruled .head .en
+  pub since : c .ruled .isBooked ≡ Bool·beq ea (c .ruled .head .en)
+  pub total : c .entries .handedOut ++ book ++ (pick (c .ruled .isBooked) [] (c .ruled .head .batch) ++ c .ruled .head .waiting)
+      ≡ c .entries .accepted
   pub room : length book ≤ 64
 
 -- what the head holds, and the place of node i
@@ -104,4 +81,4 @@ placeFor i w = accountOf (w .box) i
 
 pub record Held (i : ℕ) (w : World) : Type 0 where
   pub head : headIn w ≡ ruled i (w .log)
-  pub inv : Inv i (headIn w) (eaOf (placeFor i w)) (bookOf (placeFor i w)) (past i (w .log))
+  pub inv : Inv i (eaOf (placeFor i w)) (bookOf (placeFor i w)) (tally i (w .log))

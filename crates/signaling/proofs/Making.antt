@@ -28,7 +28,7 @@ use Rattle.collector.specs.declared.ReadAnswer.the-variants as box
 use Rattle.collector.specs.declared.RegisterAnswer.the-variants.{Registered}
 use Rattle.collector.specs.declared.RequestAnswer.the-variants as requesting
 use Rattle.collector.specs.declared.RequestFields.{RequestFields}
-use Rattle.signaling.specs.Calls.{sent, Event, raised, answered, headRead, registered, boxRead, requested, Log, answersSent, requestsSent, boxAt, headAt, ruled, World, Delivered, Numbers, AnswerSizes, node, Step, raise, answer, headReads, register, boxReads, request}
+use Rattle.signaling.specs.Calls.{sent, Event, raised, answered, headRead, registered, boxRead, requested, Log, tally, ruled, World, Delivered, Numbers, AnswerSizes, node, Step, raise, answer, headReads, register, boxReads, request}
 use Rattle.signaling.proofs.Callable.{makes, raises, answers, hears, freshes, registers, books, asks}
 use Rattle.signaling.proofs.Frames.{Says}
 
@@ -147,7 +147,7 @@ module _ {i : ℕ} {s b : List ℕ} {l : Log} {h : Head} {p : Account} (k : Know
         };
       }
 
-  pub closing : (q : ℕ) (bs : List ℕ) → Delivered 240 (sent q) bs (requestsSent l) (headAt l) → h .id ≡ i
+  pub closing : (q : ℕ) (bs : List ℕ) → Delivered 240 (sent q) bs (tally i l .requests) → h .id ≡ i
       → heardAnswer (heardIn i (readFrame bs)) h ≡ Closed → Next i s b l (headRead (sent q) bs Closed) (afterRead Closed h) p
   closing q bs given same ok =
       let c : heardAnswer (heardIn (headOf s .id) (readFrame bs)) (headOf s) ≡ Closed =
@@ -173,7 +173,7 @@ module _ {i : ℕ} {s b : List ℕ} {l : Log} {h : Head} {p : Account} (k : Know
     unfolding readAnswer
     read-as = rw (says .status, from, k .place, says .read, says .en, says .entries)
 
-    pub knowing : (q : ℕ) → Delivered i (sent q) bs (answersSent l) (boxAt l) → Octets bs → bookAnswer (g .en) (g .batch) p ≡ box.Known
+    pub knowing : (q : ℕ) → Delivered i (sent q) bs (tally i l .answers) → Octets bs → bookAnswer (g .en) (g .batch) p ≡ box.Known
         → Next i s b l (boxRead (sent q) bs box.Known) h p
     knowing q given octets ok =
         let r = rw (read-as, ok) at (books b bs (k .boxSize) octets) in
@@ -184,7 +184,7 @@ module _ {i : ℕ} {s b : List ℕ} {l : Log} {h : Head} {p : Account} (k : Know
           knows = record { headSize = k .headSize; boxSize = k .boxSize; means = k .means; rules = k .rules; place = k .place };
         }
 
-    pub booking : (q : ℕ) → Delivered i (sent q) bs (answersSent l) (boxAt l) → Octets bs → bookAnswer (g .en) (g .batch) p ≡ box.Booked
+    pub booking : (q : ℕ) → Delivered i (sent q) bs (tally i l .answers) → Octets bs → bookAnswer (g .en) (g .batch) p ≡ box.Booked
         → Next i s b l (boxRead (sent q) bs box.Booked) h (record { ea = g .en; book = p .book ++ g .batch })
     booking q given octets ok =
         let r = rw (read-as, ok) at (books b bs (k .boxSize) octets) in

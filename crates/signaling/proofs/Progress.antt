@@ -58,8 +58,8 @@ at-least {w} y (more {n} {t} {u} {v} l x xs) =
 -- free places for what is not booked
 ready : {i : ℕ} {w : World} → Held i w → Room i w → Ready i w
 ready {i} {w} t free =
-    let total : handedOut i (w .log) ++ free .account .book ++ (unbooked i (w .log) ++ ruled i (w .log) .waiting) ≡ accepted (w .log) =
-    rw (t .head, free .registered) at (t .inv .total) in
+    let total : handedOut i (w .log) ++ free .account .book ++ (unbooked i (w .log) ++ ruled i (w .log) .waiting) ≡ accepted i (w .log) =
+    rw (free .registered) at (t .inv .total) in
     let n = simp length-append at (ap length total) in
     let k = simp length-append at (free .free) in
     record { held = t; place = rw (free .registered) tt; room = omega (arith, n, k) }

@@ -1,15 +1,16 @@
 -- What a quiet call leaves as it was.
 -- Assumes nothing.
 use Prim.Native.Nat.{ℕ, _+_, _≤_}
-use mathlib.Core.Bool.{Bool}
+use mathlib.Core.Bool.{Bool, true, false}
 use mathlib.Core.Path.{_≡_, refl, _∙_}
 use mathlib.Core.Logic.{_⊎_, inl, inr}
-use mathlib.Core.List.{List, [], append-nil}
+use mathlib.Core.List.{List}
 use mathlib.Core.Option.{Option, none, some}
 use native.Mathlib.Omega.{arith}
 use lib.ListN.{length, take, getElem?, length-append}
 use lib.Dec.{eqb}
 use borrow.Author.Tests.{eqb-true}
+use Rattle.types.specs.Codes.{pick}
 use Rattle.section.specs.declared.WriteAnswer.the-variants as write
 use Rattle.codec.specs.Frame.{readFrame}
 use Rattle.error_entry.specs.declared.ErrorEntry.{ErrorEntry}
@@ -29,7 +30,7 @@ use Rattle.collector.specs.declared.TakeAnswer.{TakeAnswer}
 use Rattle.collector.specs.declared.TakeAnswer.the-variants as taking
 use Rattle.collector.specs.declared.reading.Heard.{Heard as BoxHeard}
 use Rattle.collector.specs.declared.reading.Heard.the-variants as boxHears
-use Rattle.signaling.specs.Calls.{sent, foreign, Event, raised, answered, headRead, registered, boxRead, requested, taken, hosted, acceptedBy, accepted, handedOut, answersSent, requestsSent, eaOf, World, Step, raise, answer, headReads, register, boxReads, request, takes, hosts}
+use Rattle.signaling.specs.Calls.{sent, foreign, Event, raised, answered, headRead, registered, boxRead, requested, taken, hosted, ifRaised, ifTaken, accepted, handedOut, answersSent, requestsSent, eaOf, World, Step, raise, answer, headReads, register, boxReads, request, takes, hosts}
 use Rattle.signaling.specs.Exchanges.{Quiet, NoRepeat, Quietly, still, next, again}
 use Rattle.signaling.proofs.Calls.{unheard, read-elsewhere, register-same}
 use Rattle.signaling.proofs.Facts.{clash, either, at-snoc}
@@ -72,7 +73,7 @@ module _ (i : ℕ) (b : Box) (is : IsPlace (b .accounts i)) where
   take-stays j taking.NothingBooked = is
 
 abbrev pub NoRaise : Event → Type 0
-NoRaise (raised e r) = acceptedBy r e ≡ []
+NoRaise (raised e r) = r ≡ Raised → ⊥
 NoRaise (answered r bs) = Unit {0}
 NoRaise (headRead o bs r) = Unit {0}
 NoRaise (registered j r) = Unit {0}
@@ -85,10 +86,23 @@ NoRaise (hosted bs) = Unit {0}
 pub record Ready (i : ℕ) (w : World) : Type 0 where
   pub held : Held i w
   pub place : IsPlace (placeFor i w)
-  pub room : length (accepted (w .log)) ≤ length (handedOut i (w .log)) + 64
+  pub room : length (accepted i (w .log)) ≤ length (handedOut i (w .log)) + 64
+
+none-raised : (e : ErrorEntry) (r : RaiseAnswer) (es : List ErrorEntry) → (r ≡ Raised → ⊥) → ifRaised r e es ≡ es
+none-raised e Raised es k = absurd (k refl)
+none-raised e EntryInvalid es k = refl
+none-raised e QueueFull es k = refl
+
+-- a Take takes back nothing
+hands-on : (mine : Bool) (r : TakeAnswer) (es : List ErrorEntry) → length es ≤ length (pick mine (ifTaken r es) es)
+hands-on false r es = omega arith
+hands-on true (taking.Taken e) es = simp length-append (omega arith)
+hands-on true taking.NotRegistered es = omega arith
+hands-on true taking.NothingBooked es = omega arith
 
 pub goes-on : {i : ℕ} {w v : World} {x : Event} → Step i w x v → NoRaise x → Held i v → Ready i w → Ready i v
-goes-on (raise e r after n c) k t y = record { held = t; place = y .place; room = rw (k, append-nil) (y .room) }
+goes-on {i} {w} (raise e r after n c) k t y =
+    record { held = t; place = y .place; room = rw (none-raised e r (accepted i (w .log)) k) (y .room) }
 goes-on (answer f r after target written sizes c) k t y = record { held = t; place = y .place; room = y .room }
 goes-on (headReads o bs r after d c) k t y = record { held = t; place = y .place; room = y .room }
 goes-on {i} {w} (register j r after c) k t y =
@@ -101,13 +115,13 @@ goes-on {i} {w} (takes j r after c) k t y =
     record {
       held = t;
       place = rw (c .box .accounts i) (take-stays i (boxOf (w .box)) (y .place) j r);
-      room = simp length-append (omega (arith, y .room));
+      room = omega (arith, y .room, hands-on (eqb j i) r (handedOut i (w .log)));
     }
 
 pub quiet-raises-not : (i : ℕ) (x : Event) → Quiet i x → NoRaise x
 quiet-raises-not i (raised e Raised) k = absurd (omega arith)
-quiet-raises-not i (raised e EntryInvalid) k = refl
-quiet-raises-not i (raised e QueueFull) k = refl
+quiet-raises-not i (raised e EntryInvalid) k = λ is. clash cc
+quiet-raises-not i (raised e QueueFull) k = λ is. clash cc
 quiet-raises-not i (answered r bs) k = tt
 quiet-raises-not i (headRead o bs r) k = tt
 quiet-raises-not i (registered j r) k = tt
@@ -133,10 +147,10 @@ headAfter (hosted bs) h = h
 pub record Calm (i : ℕ) (x : Event) (w v : World) : Type 0 where
   pub head : headIn v ≡ headAfter x (headIn w)
   pub bit : eaOf (placeFor i v) ≡ eaOf (placeFor i w)
-  pub answers : (p : ℕ) (a : List ℕ) → getElem? (answersSent (v .log)) p ≡ some a
-      → (getElem? (answersSent (w .log)) p ≡ some a) ⊎ Says a (headIn v)
-  pub requests : (q : ℕ) (f : List ℕ) → getElem? (requestsSent (v .log)) q ≡ some f
-      → (getElem? (requestsSent (w .log)) q ≡ some f) ⊎ ((x : Bool) → heardIn i (readFrame f) ≡ heard.Ea x → x ≡ eaOf (placeFor i w))
+  pub answers : (p : ℕ) (a : List ℕ) → getElem? (answersSent i (v .log)) p ≡ some a
+      → (getElem? (answersSent i (w .log)) p ≡ some a) ⊎ Says a (headIn v)
+  pub requests : (q : ℕ) (f : List ℕ) → getElem? (requestsSent i (v .log)) q ≡ some f
+      → (getElem? (requestsSent i (w .log)) q ≡ some f) ⊎ ((x : Bool) → heardIn i (readFrame f) ≡ heard.Ea x → x ≡ eaOf (placeFor i w))
 
 -- a Take leaves EA
 with-bit : (i j : ℕ) (p : Account) (b : Box) → p .ea ≡ eaOf (b .accounts j) → eaOf (withAccount j p b .accounts i) ≡ eaOf (b .accounts i)
@@ -153,8 +167,8 @@ take-bit i j b taking.NotRegistered = refl
 take-bit i j b taking.NothingBooked = refl
 
 -- a Raise that is refused leaves the head
-not-raised : (e : ErrorEntry) (r : RaiseAnswer) (h : Head) → acceptedBy r e ≡ [] → afterRaise r e h ≡ h
-not-raised e Raised h k = clash cc
+not-raised : (e : ErrorEntry) (r : RaiseAnswer) (h : Head) → (r ≡ Raised → ⊥) → afterRaise r e h ≡ h
+not-raised e Raised h k = absurd (k refl)
 not-raised e EntryInvalid h k = refl
 not-raised e QueueFull h k = refl
 
@@ -173,13 +187,13 @@ calm {i} {w} t (raise e r after n c) k =
       requests = λ q f y. inl y;
     }
 calm {i} {w} t (answer f (write.Refused e) after target written sizes c) k =
-    record { head = c .head; bit = refl; answers = λ p a y. inl (rw append-nil at y); requests = λ q f y. inl y }
+    record { head = c .head; bit = refl; answers = λ p a y. inl y; requests = λ q f y. inl y }
 calm {i} {w} t (answer f (write.Written n) after target written sizes c) k =
     record {
       head = c .head;
       bit = refl;
       answers = λ p a y.
-          elim (at-snoc (answersSent (w .log)) (take n written) a p y) [
+          elim (at-snoc (answersSent i (w .log)) (take n written) a p y) [
             | inl z ↦ inl (z .1)
             | inr z ↦ inr (rw (c .head, ← (z .1)) (answer-says t f n after target written sizes c))
           ];
@@ -215,16 +229,16 @@ calm {i} {w} t (boxReads foreign bs r after d c) k =
     }
 calm {i} {w} t (boxReads (sent p) bs r after d c) k = absurd k
 calm {i} {w} t (request j f requesting.NotRegistered target written six c) k =
-    record { head = refl; bit = refl; answers = λ p a y. inl y; requests = λ q f y. inl (rw append-nil at y) }
+    record { head = refl; bit = refl; answers = λ p a y. inl y; requests = λ q f y. inl y }
 calm {i} {w} t (request j f (requesting.Refused e) target written six c) k =
-    record { head = refl; bit = refl; answers = λ p a y. inl y; requests = λ q f y. inl (rw append-nil at y) }
+    record { head = refl; bit = refl; answers = λ p a y. inl y; requests = λ q f y. inl y }
 calm {i} {w} t (request j f (requesting.Written n) target written six c) k =
     record {
       head = refl;
       bit = refl;
       answers = λ p a y. inl y;
       requests = λ q g y.
-          elim (at-snoc (requestsSent (w .log)) (take n written) g q y) [
+          elim (at-snoc (requestsSent i (w .log)) (take n written) g q y) [
             | inl z ↦ inl (z .1)
             | inr z ↦ inr (rw (← (z .1)) (request-says t j f n target written six c))
           ];
@@ -235,7 +249,7 @@ calm {i} {w} t (hosts bs told) k =
       bit = refl;
       answers = λ p a y. inl y;
       requests = λ q g y.
-          elim (at-snoc (requestsSent (w .log)) bs g q y) [ inl z ↦ inl (z .1) | inr z ↦ inr (rw (← (z .1)) told) ];
+          elim (at-snoc (requestsSent i (w .log)) bs g q y) [ inl z ↦ inl (z .1) | inr z ↦ inr (rw (← (z .1)) told) ];
     }
 calm {i} {w} t (takes j r after c) k =
     record {

@@ -3,7 +3,7 @@
 use Prim.Native.Nat.{ℕ}
 use mathlib.Core.Bool.{Bool}
 use mathlib.Core.Path.{_≡_, refl, ap, _∙_}
-use mathlib.Core.List.{List, [], _∷_, append-nil}
+use mathlib.Core.List.{List, [], _∷_}
 use mathlib.Core.Option.{Option, none, some}
 use native.Mathlib.Omega.{arith}
 use lib.ListN.{length, take, drop}
@@ -14,7 +14,7 @@ use Rattle.section.specs.declared.WriteAnswer.the-variants as write
 use Rattle.codec.specs.Frame.{readFrame}
 use Rattle.reporter.specs.Calls as reporter
 use Rattle.reporter.specs.Layout.{headOf}
-use Rattle.reporter.specs.Rules.{Head, freshHead, opened, answerFrame, afterAnswer, heardIn, heardAnswer, afterRead}
+use Rattle.reporter.specs.Rules.{Head, freshHead, raiseAnswer, opened, answerFrame, afterAnswer, heardIn, heardAnswer, afterRead}
 use Rattle.reporter.specs.declared.AnswerFields.{AnswerFields}
 use Rattle.reporter.specs.declared.ReadAnswer.{ReadAnswer}
 use Rattle.reporter.specs.declared.acknowledge.Heard.the-variants as heard
@@ -28,10 +28,10 @@ use Rattle.collector.specs.declared.RequestAnswer.the-variants as requesting
 use Rattle.collector.specs.declared.RequestFields.{RequestFields}
 use Rattle.collector.specs.declared.TakeAnswer.{TakeAnswer}
 use Rattle.collector.specs.declared.TakeAnswer.the-variants as taking
-use Rattle.signaling.specs.Calls.{Origin, sent, foreign, Event, answered, headRead, boxRead, requested, taken, requestsSent, answersSent, headAt, boxAt, Delivered, AnswerSizes, node, World, Step, raise, answer, headReads, register, boxReads, request, takes, hosts, Run, fresh, call, eaOf}
+use Rattle.signaling.specs.Calls.{Origin, sent, foreign, Event, answered, headRead, boxRead, requested, taken, tally, ruled, Delivered, AnswerSizes, node, World, Step, raise, answer, headReads, register, boxReads, request, takes, hosts, Run, fresh, call, eaOf}
 use Rattle.signaling.proofs.Facts.{either, beq-false, at-lt}
 use Rattle.signaling.proofs.Frames.{Says, answer-reads}
-use Rattle.signaling.proofs.Invariant.{enSaid, batchSaid, past, bookOf, Inv, headIn, placeFor, Held}
+use Rattle.signaling.proofs.Invariant.{enSaid, batchSaid, bookOf, Inv, headIn, placeFor, Held}
 use Rattle.signaling.proofs.Head.{raise-keeps, opened-keeps, answer-written, head-reads}
 use Rattle.signaling.proofs.Box.{box-passes, box-books, request-sends, take-moves}
 use Rattle.signaling.proofs.Calls.{written-frame, unheard, requested-frame, request-here, request-else, why-booked, read-elsewhere, read-here, register-same, take-elsewhere, why-taken}
@@ -51,44 +51,43 @@ module _ {i : ℕ} {w : World} (t : Held i w) where
   answer-says f n after target written sizes c =
       let bs = answerFrame f (opened h) in
       let octets : take n written ≡ bs = rw (c .writes .holds) (written-frame bs target n (c .writes .answer)) in
-      rw octets (answer-reads f (opened h) sizes (opened-keeps (t .inv) .batch))
+      rw octets (answer-reads f (opened h) sizes (rw (t .head) (opened-keeps (t .inv) .batch)))
 
   answer-keeps : (f : AnswerFields) (r : WriteAnswer) (after target written : List ℕ) → AnswerSizes f
       → reporter.Answers f r (w .head) after target written
-      → Inv i (headOf after) (eaOf o) (bookOf o) (past i (answered r written ∷ w .log))
-  answer-keeps f (write.Refused e) after target written sizes c = rw (c .head, append-nil) (t .inv)
+      → Inv i (eaOf o) (bookOf o) (tally i (answered r written ∷ w .log))
+  answer-keeps f (write.Refused e) after target written sizes c = t .inv
   answer-keeps f (write.Written n) after target written sizes c =
-      rw (c .head, ← (t .head)) (answer-written (t .inv) (take n written) (answer-says f n after target written sizes c))
+      answer-written (t .inv) n written (rw (t .head) at (answer-says f n after target written sizes c))
 
   pub head-now : (bs : List ℕ) (r : ReadAnswer) (after : List ℕ) → reporter.Reads bs r (w .head) after
       → headOf after ≡ afterRead (heardAnswer (heardIn i (readFrame bs)) (headIn w)) (headIn w)
   head-now bs r after c =
-      c .head ∙ ap (λ (x : ReadAnswer). afterRead x h) (c .answer ∙ ap (λ (k : ℕ). heardAnswer (heardIn k (readFrame bs)) h) (t .inv .id))
+      c .head ∙ ap (λ (x : ReadAnswer). afterRead x h) (c .answer ∙ ap (λ (k : ℕ). heardAnswer (heardIn k (readFrame bs)) h) (rw (t .head) (t .inv .id)))
 
-  head-read-keeps : (from : Origin) (bs : List ℕ) (r : ReadAnswer) (after : List ℕ)
-      → Delivered 240 from bs (requestsSent (w .log)) (headAt (w .log))
-      → reporter.Reads bs r (w .head) after
-      → Inv i (headOf after) (eaOf o) (bookOf o) (past i (headRead from bs r ∷ w .log))
-  head-read-keeps foreign bs r after d c = rw (head-now bs r after c, unheard i (readFrame bs) h d) (t .inv)
-  head-read-keeps (sent q) bs r after d c = rw (head-now bs r after c) (head-reads (t .inv) q bs (d .0) (d .1) _ refl)
+  head-read-keeps : (from : Origin) (bs : List ℕ) (r : ReadAnswer)
+      → Delivered 240 from bs (tally i (w .log) .requests)
+      → Inv i (eaOf o) (bookOf o) (tally i (headRead from bs r ∷ w .log))
+  head-read-keeps foreign bs r d = rw (unheard i (readFrame bs) (ruled i (w .log)) d) (t .inv)
+  head-read-keeps (sent q) bs r d = head-reads (t .inv) q bs (d .0) (d .1) _ refl
 
   -- ---- the box's calls
 
-  books : (p : ℕ) (bs after : List ℕ) → Delivered i (sent p) bs (answersSent (w .log)) (boxAt (w .log))
+  books : (p : ℕ) (bs after : List ℕ) → Delivered i (sent p) bs (tally i (w .log) .answers)
       → collector.Reads bs box.Booked (w .box) after
-      → Inv i h (eaOf (accountOf after i)) (bookOf (accountOf after i)) (past i (boxRead (sent p) bs box.Booked ∷ w .log))
+      → Inv i (eaOf (accountOf after i)) (bookOf (accountOf after i)) (tally i (boxRead (sent p) bs box.Booked ∷ w .log))
   unfolding readAnswer enSaid batchSaid
   books p bs after d c =
       let me = t .inv .source p bs (d .1) in
       let y = why-booked (statusPayload bs) o (rw me at (c .answer)) in
-      let inv : Inv i h (y .place .ea) (y .place .book) (past i (w .log)) = rw (y .known) at (t .inv) in
+      let inv : Inv i (y .place .ea) (y .place .book) (tally i (w .log)) = rw (y .known) at (t .inv) in
       rw (c .box .accounts i, read-here i bs (boxOf (w .box)) me, y .known)
       (box-books inv p bs (d .0) (d .1) (beq-false _ _ (y .fresh)) (y .room))
 
   box-read-keeps : (from : Origin) (bs : List ℕ) (r : BoxReadAnswer) (after : List ℕ)
-      → Delivered i from bs (answersSent (w .log)) (boxAt (w .log))
+      → Delivered i from bs (tally i (w .log) .answers)
       → collector.Reads bs r (w .box) after
-      → Inv i h (eaOf (accountOf after i)) (bookOf (accountOf after i)) (past i (boxRead from bs r ∷ w .log))
+      → Inv i (eaOf (accountOf after i)) (bookOf (accountOf after i)) (tally i (boxRead from bs r ∷ w .log))
   box-read-keeps foreign bs r after d c = rw (c .box .accounts i, read-elsewhere i bs (boxOf (w .box)) r d) (t .inv)
   box-read-keeps (sent p) bs box.Booked after d c = books p bs after d c
   box-read-keeps (sent p) bs box.Known after d c = rw (c .box .accounts i) (box-passes (t .inv) p bs (d .0) (d .1))
@@ -115,27 +114,27 @@ module _ {i : ℕ} {w : World} (t : Held i w) where
 
   request-keeps : (j : ℕ) (f : RequestFields) (r : RequestAnswer) (target written : List ℕ) → length (f .«source_mac» .0) ≡ 6
       → collector.Requests (node j) f r (w .box) target written
-      → Inv i h (eaOf o) (bookOf o) (past i (requested j r written ∷ w .log))
-  request-keeps j f requesting.NotRegistered target written six c = rw append-nil (t .inv)
-  request-keeps j f (requesting.Refused e) target written six c = rw append-nil (t .inv)
+      → Inv i (eaOf o) (bookOf o) (tally i (requested j r written ∷ w .log))
+  request-keeps j f requesting.NotRegistered target written six c = t .inv
+  request-keeps j f (requesting.Refused e) target written six c = t .inv
   request-keeps j f (requesting.Written n) target written six c =
       request-sends (t .inv) (take n written) (request-says j f n target written six c)
 
   take-here : (r : TakeAnswer) (after : List ℕ) → collector.Takes (node i) r (w .box) after
-      → Inv i h (eaOf (accountOf after i)) (bookOf (accountOf after i)) (past i (taken i r ∷ w .log))
-  take-here taking.NotRegistered after c = rw (c .box .accounts i, eq-eqb i i refl, append-nil) (t .inv)
-  take-here taking.NothingBooked after c = rw (c .box .accounts i, eq-eqb i i refl, append-nil) (t .inv)
+      → Inv i (eaOf (accountOf after i)) (bookOf (accountOf after i)) (tally i (taken i r ∷ w .log))
+  take-here taking.NotRegistered after c = rw (c .box .accounts i, eq-eqb i i refl) (t .inv)
+  take-here taking.NothingBooked after c = rw (c .box .accounts i, eq-eqb i i refl) (t .inv)
   take-here (taking.Taken e) after c =
       let y = why-taken e o (c .answer) in
-      let inv : Inv i h (y .place .ea) (y .place .book) (past i (w .log)) = rw (y .known) at (t .inv) in
+      let inv : Inv i (y .place .ea) (y .place .book) (tally i (w .log)) = rw (y .known) at (t .inv) in
       rw (c .box .accounts i, eq-eqb i i refl, y .known) (take-moves inv e (drop 1 (y .place .book)) (y .first))
 
   take-keeps : (j : ℕ) (r : TakeAnswer) (after : List ℕ) → collector.Takes (node j) r (w .box) after
-      → Inv i h (eaOf (accountOf after i)) (bookOf (accountOf after i)) (past i (taken j r ∷ w .log))
+      → Inv i (eaOf (accountOf after i)) (bookOf (accountOf after i)) (tally i (taken j r ∷ w .log))
   take-keeps j r after c =
       either (eqb j i)
       (λ here. let same : j ≡ i = eqb-true j i here in rw same (take-here r after (rw same at c)))
-      (λ away. rw (c .box .accounts i, take-elsewhere i j (boxOf (w .box)) r away, away, append-nil) (t .inv))
+      (λ away. rw (c .box .accounts i, take-elsewhere i j (boxOf (w .box)) r away, away) (t .inv))
 
 -- ---- every call
 
@@ -143,14 +142,14 @@ pub keeps : {i : ℕ} {w v : World} {x : Event} → Held i w → Step i w x v �
 keeps {i} {w} t (raise e r after n c) =
     record {
       head = cc (c .head, c .answer, t .head);
-      inv = rw (c .head) (raise-keeps (t .inv) e r (c .answer) n);
+      inv = raise-keeps (t .inv) e r (c .answer ∙ ap (raiseAnswer e) (t .head)) n;
     }
 keeps {i} {w} t (answer f r after target written sizes c) =
     record { head = c .head ∙ ap (afterAnswer r) (t .head); inv = answer-keeps t f r after target written sizes c }
 keeps {i} {w} t (headReads from bs r after d c) =
     record {
       head = head-now t bs r after c ∙ ap (λ (h : Head). afterRead (heardAnswer (heardIn i (readFrame bs)) h) h) (t .head);
-      inv = head-read-keeps t from bs r after d c;
+      inv = head-read-keeps t from bs r d;
     }
 keeps {i} {w} t (register j r after c) =
     let y = register-same i j (boxOf (w .box)) r (c .answer) in
@@ -167,7 +166,7 @@ starts : {i : ℕ} {h : List ℕ} {b : List ℕ} → headOf h ≡ freshHead i �
 starts {i} eh eb =
     record {
       head = eh;
-      inv = rw (eh, eb)
+      inv = rw eb
           (record {
             id = refl;
             batch = tt;

@@ -63,128 +63,121 @@ pub data Event : Type 0 where
 abbrev pub Log : Type 0
 Log = List Event
 
--- "the entries of the Raises not refused, as given and in order"
-abbrev pub acceptedBy : RaiseAnswer → ErrorEntry → List ErrorEntry
-acceptedBy Raised e = e ∷ []
-acceptedBy EntryInvalid e = []
-acceptedBy QueueFull e = []
+-- ---- what a list of calls adds up to, in the words of 01
 
-abbrev pub accepted : Log → List ErrorEntry
-accepted [] = []
-accepted (raised e r ∷ l) = accepted l ++ acceptedBy r e
-accepted (answered r bs ∷ l) = accepted l
-accepted (headRead o bs r ∷ l) = accepted l
-accepted (registered j r ∷ l) = accepted l
-accepted (boxRead o bs r ∷ l) = accepted l
-accepted (requested j r bs ∷ l) = accepted l
-accepted (taken j r ∷ l) = accepted l
-accepted (hosted bs ∷ l) = accepted l
+pub record Entries : Type 0 where
+  -- "the entries of the Raises not refused, as given and in order"
+  pub accepted : List ErrorEntry
+  -- "what the Takes for the head's ID handed out, in order"
+  pub handedOut : List ErrorEntry
 
--- "what the Takes for the head's ID handed out, in order"
-abbrev pub handedBy : TakeAnswer → List ErrorEntry
-handedBy (taking.Taken e) = e ∷ []
-handedBy taking.NotRegistered = []
-handedBy taking.NothingBooked = []
+-- one direction of the line
+pub record Line : Type 0 where
+  -- "An Answer or request not refused sends a copy of the bytes it wrote, as many as the returned length"; the frames of the box's host go
+  -- the same way as its requests
+  pub frames : List (List ℕ)
+  -- the place of the last of them that the other end was given: "in the order of sending; any may be skipped, late or repeated"
+  pub at : ℕ
 
-abbrev pub handedOut : ℕ → Log → List ErrorEntry
-handedOut i [] = []
-handedOut i (raised e r ∷ l) = handedOut i l
-handedOut i (answered r bs ∷ l) = handedOut i l
-handedOut i (headRead o bs r ∷ l) = handedOut i l
-handedOut i (registered j r ∷ l) = handedOut i l
-handedOut i (boxRead o bs r ∷ l) = handedOut i l
-handedOut i (requested j r bs ∷ l) = handedOut i l
-handedOut i (taken j r ∷ l) = handedOut i l ++ pick (eqb j i) (handedBy r) []
-handedOut i (hosted bs ∷ l) = handedOut i l
+pub record Ruled : Type 0 where
+  -- "Open batch and waiting entries: what the rules above make of the list"
+  pub head : Head
+  -- the place among the answers of the first one sent since the last batch opened
+  pub openedAt : ℕ
+  -- whether that batch is booked: "the box's reading of an answer sent since it first opened ends neither refused nor known"; true
+  -- where none ever opened
+  pub isBooked : Bool
 
--- "An Answer or request not refused sends a copy of the bytes it wrote, as many as the returned length"
-abbrev pub sentAnswer : WriteAnswer → List ℕ → List (List ℕ)
-sentAnswer (write.Written n) bs = take n bs ∷ []
-sentAnswer (write.Refused e) bs = []
+pub record Tally : Type 0 where
+  pub entries : Entries
+  -- from the head to the box
+  pub answers : Line
+  -- from the box and its host to the head
+  pub requests : Line
+  pub ruled : Ruled
 
-abbrev pub answersSent : Log → List (List ℕ)
-answersSent [] = []
-answersSent (raised e r ∷ l) = answersSent l
-answersSent (answered r bs ∷ l) = answersSent l ++ sentAnswer r bs
-answersSent (headRead o bs r ∷ l) = answersSent l
-answersSent (registered j r ∷ l) = answersSent l
-answersSent (boxRead o bs r ∷ l) = answersSent l
-answersSent (requested j r bs ∷ l) = answersSent l
-answersSent (taken j r ∷ l) = answersSent l
-answersSent (hosted bs ∷ l) = answersSent l
+-- "The list starts from a fresh box, a fresh head and a line with nothing sent"
+abbrev pub nothingYet : ℕ → Tally
+nothingYet i =
+    record {
+      entries = record { accepted = []; handedOut = [] };
+      answers = record { frames = []; at = 0 };
+      requests = record { frames = []; at = 0 };
+      ruled = record { head = freshHead i; openedAt = 0; isBooked = true };
+    }
 
-abbrev pub sentRequest : RequestAnswer → List ℕ → List (List ℕ)
-sentRequest (requesting.Written n) bs = take n bs ∷ []
-sentRequest requesting.NotRegistered bs = []
-sentRequest (requesting.Refused e) bs = []
+-- a change of one of the four
 
--- and the frames of the box's host go the same way, in the order of sending
-abbrev pub requestsSent : Log → List (List ℕ)
-requestsSent [] = []
-requestsSent (raised e r ∷ l) = requestsSent l
-requestsSent (answered r bs ∷ l) = requestsSent l
-requestsSent (headRead o bs r ∷ l) = requestsSent l
-requestsSent (registered j r ∷ l) = requestsSent l
-requestsSent (boxRead o bs r ∷ l) = requestsSent l
-requestsSent (requested j r bs ∷ l) = requestsSent l ++ sentRequest r bs
-requestsSent (taken j r ∷ l) = requestsSent l
-requestsSent (hosted bs ∷ l) = requestsSent l ++ (bs ∷ [])
+abbrev pub onEntries : (Entries → Entries) → Tally → Tally
+onEntries f t = record { entries = f (t .entries); answers = t .answers; requests = t .requests; ruled = t .ruled }
 
--- the place of the last sent frame that an end was given: "in the order of sending; any may be skipped, late or repeated"
+abbrev pub onAnswers : (Line → Line) → Tally → Tally
+onAnswers f t = record { entries = t .entries; answers = f (t .answers); requests = t .requests; ruled = t .ruled }
+
+abbrev pub onRequests : (Line → Line) → Tally → Tally
+onRequests f t = record { entries = t .entries; answers = t .answers; requests = f (t .requests); ruled = t .ruled }
+
+abbrev pub onRuled : (Ruled → Ruled) → Tally → Tally
+onRuled f t = record { entries = t .entries; answers = t .answers; requests = t .requests; ruled = f (t .ruled) }
+
+-- the entries: "of the Raises not refused"; "what the Takes for the head's ID handed out"
+
+abbrev pub ifRaised : RaiseAnswer → ErrorEntry → List ErrorEntry → List ErrorEntry
+ifRaised Raised e es = es ++ (e ∷ [])
+ifRaised EntryInvalid e es = es
+ifRaised QueueFull e es = es
+
+abbrev pub accepts : RaiseAnswer → ErrorEntry → Entries → Entries
+accepts r e es = record { accepted = ifRaised r e (es .accepted); handedOut = es .handedOut }
+
+abbrev pub ifTaken : TakeAnswer → List ErrorEntry → List ErrorEntry
+ifTaken (taking.Taken e) es = es ++ (e ∷ [])
+ifTaken taking.NotRegistered es = es
+ifTaken taking.NothingBooked es = es
+
+abbrev pub hands : Bool → TakeAnswer → Entries → Entries
+hands mine r es = record { accepted = es .accepted; handedOut = pick mine (ifTaken r (es .handedOut)) (es .handedOut) }
+
+-- the line: "not refused sends a copy of the bytes it wrote, as many as the returned length"; and a frame is given to the other end
+
+abbrev pub ifAnswered : WriteAnswer → List ℕ → List (List ℕ) → List (List ℕ)
+ifAnswered (write.Written n) bs fs = fs ++ (take n bs ∷ [])
+ifAnswered (write.Refused e) bs fs = fs
+
+abbrev pub ifRequested : RequestAnswer → List ℕ → List (List ℕ) → List (List ℕ)
+ifRequested (requesting.Written n) bs fs = fs ++ (take n bs ∷ [])
+ifRequested requesting.NotRegistered bs fs = fs
+ifRequested (requesting.Refused e) bs fs = fs
+
+abbrev pub sends : (List (List ℕ) → List (List ℕ)) → Line → Line
+sends f l = record { frames = f (l .frames); at = l .at }
+
 abbrev pub givenAt : Origin → ℕ → ℕ
 givenAt (sent p) before = p
 givenAt foreign before = before
 
-abbrev pub boxAt : Log → ℕ
-boxAt [] = 0
-boxAt (raised e r ∷ l) = boxAt l
-boxAt (answered r bs ∷ l) = boxAt l
-boxAt (headRead o bs r ∷ l) = boxAt l
-boxAt (registered j r ∷ l) = boxAt l
-boxAt (boxRead o bs r ∷ l) = givenAt o (boxAt l)
-boxAt (requested j r bs ∷ l) = boxAt l
-boxAt (taken j r ∷ l) = boxAt l
-boxAt (hosted bs ∷ l) = boxAt l
+abbrev pub gives : Origin → Line → Line
+gives o l = record { frames = l .frames; at = givenAt o (l .at) }
 
-abbrev pub headAt : Log → ℕ
-headAt [] = 0
-headAt (raised e r ∷ l) = headAt l
-headAt (answered r bs ∷ l) = headAt l
-headAt (headRead o bs r ∷ l) = givenAt o (headAt l)
-headAt (registered j r ∷ l) = headAt l
-headAt (boxRead o bs r ∷ l) = headAt l
-headAt (requested j r bs ∷ l) = headAt l
-headAt (taken j r ∷ l) = headAt l
-headAt (hosted bs ∷ l) = headAt l
+-- the head: "what the rules above make of the list"; a batch opens with an answer that is sent
 
--- "Open batch and waiting entries: what the rules above make of the list"
-abbrev pub ruled : ℕ → Log → Head
-ruled i [] = freshHead i
-ruled i (raised e r ∷ l) = afterRaise (raiseAnswer e (ruled i l)) e (ruled i l)
-ruled i (answered r bs ∷ l) = afterAnswer r (ruled i l)
-ruled i (headRead o bs r ∷ l) = afterRead (heardAnswer (heardIn i (readFrame bs)) (ruled i l)) (ruled i l)
-ruled i (registered j r ∷ l) = ruled i l
-ruled i (boxRead o bs r ∷ l) = ruled i l
-ruled i (requested j r bs ∷ l) = ruled i l
-ruled i (taken j r ∷ l) = ruled i l
-ruled i (hosted bs ∷ l) = ruled i l
+abbrev pub becomes : (Head → Head) → Ruled → Ruled
+becomes f s = record { head = f (s .head); openedAt = s .openedAt; isBooked = s .isBooked }
 
--- whether an answer first opens a batch
+abbrev pub raises : ErrorEntry → Head → Head
+raises e h = afterRaise (raiseAnswer e h) e h
+
+abbrev pub hears : ℕ → List ℕ → Head → Head
+hears i bs h = afterRead (heardAnswer (heardIn i (readFrame bs)) h) h
+
 abbrev pub openedBy : WriteAnswer → Head → Bool
 openedBy (write.Written n) h = opens h
 openedBy (write.Refused e) h = false
 
--- the place among the sent answers of the first one sent since the last batch opened
-abbrev pub openedAt : ℕ → Log → ℕ
-openedAt i [] = 0
-openedAt i (raised e r ∷ l) = openedAt i l
-openedAt i (answered r bs ∷ l) = pick (openedBy r (ruled i l)) (length (answersSent l)) (openedAt i l)
-openedAt i (headRead o bs r ∷ l) = openedAt i l
-openedAt i (registered j r ∷ l) = openedAt i l
-openedAt i (boxRead o bs r ∷ l) = openedAt i l
-openedAt i (requested j r bs ∷ l) = openedAt i l
-openedAt i (taken j r ∷ l) = openedAt i l
-openedAt i (hosted bs ∷ l) = openedAt i l
+abbrev pub answers : WriteAnswer → ℕ → Ruled → Ruled
+answers r next s =
+    let new = openedBy r (s .head) in
+    record { head = afterAnswer r (s .head); openedAt = pick new next (s .openedAt); isBooked = pick new false (s .isBooked) }
 
 -- "the box's reading of an answer sent since it first opened ends neither refused nor known"
 abbrev pub booksSince : Origin → BoxReadAnswer → ℕ → Bool
@@ -196,17 +189,43 @@ booksSince (sent p) box.NotStatusResponse at = false
 booksSince (sent p) box.NotRegistered at = false
 booksSince (sent p) box.BookFull at = false
 
--- whether the batch that opened last is booked; true where none ever opened
+abbrev pub books : Origin → BoxReadAnswer → Ruled → Ruled
+books o r s = record { head = s .head; openedAt = s .openedAt; isBooked = booksSince o r (s .openedAt) || s .isBooked }
+
+-- THE TABLE: what each call adds, for the head with ID i. A call that is not named in a part changes nothing there; a new call is one row.
+abbrev pub adds : ℕ → Event → Tally → Tally
+adds i (raised e r) t = onEntries (accepts r e) (onRuled (becomes (raises e)) t)
+adds i (answered r bs) t = onAnswers (sends (ifAnswered r bs)) (onRuled (answers r (length (t .answers .frames))) t)
+adds i (headRead o bs r) t = onRequests (gives o) (onRuled (becomes (hears i bs)) t)
+adds i (registered j r) t = t
+adds i (boxRead o bs r) t = onAnswers (gives o) (onRuled (books o r) t)
+adds i (requested j r bs) t = onRequests (sends (ifRequested r bs)) t
+adds i (taken j r) t = onEntries (hands (eqb j i) r) t
+adds i (hosted bs) t = onRequests (sends (λ fs. fs ++ (bs ∷ []))) t
+
+abbrev pub tally : ℕ → Log → Tally
+tally i [] = nothingYet i
+tally i (x ∷ l) = adds i x (tally i l)
+
+-- and the words by themselves
+
+abbrev pub accepted : ℕ → Log → List ErrorEntry
+accepted i l = tally i l .entries .accepted
+
+abbrev pub handedOut : ℕ → Log → List ErrorEntry
+handedOut i l = tally i l .entries .handedOut
+
+abbrev pub answersSent : ℕ → Log → List (List ℕ)
+answersSent i l = tally i l .answers .frames
+
+abbrev pub requestsSent : ℕ → Log → List (List ℕ)
+requestsSent i l = tally i l .requests .frames
+
+abbrev pub ruled : ℕ → Log → Head
+ruled i l = tally i l .ruled .head
+
 abbrev pub isBooked : ℕ → Log → Bool
-isBooked i [] = true
-isBooked i (raised e r ∷ l) = isBooked i l
-isBooked i (answered r bs ∷ l) = pick (openedBy r (ruled i l)) false (isBooked i l)
-isBooked i (headRead o bs r ∷ l) = isBooked i l
-isBooked i (registered j r ∷ l) = isBooked i l
-isBooked i (boxRead o bs r ∷ l) = booksSince o r (openedAt i l) || isBooked i l
-isBooked i (requested j r bs ∷ l) = isBooked i l
-isBooked i (taken j r ∷ l) = isBooked i l
-isBooked i (hosted bs ∷ l) = isBooked i l
+isBooked i l = tally i l .ruled .isBooked
 
 -- the open batch, if it is unbooked
 abbrev pub unbooked : ℕ → Log → List ErrorEntry
@@ -233,9 +252,9 @@ NotFrom i (frame.Refused e) = Unit {0}
 NotFrom i (frame.Frame f) = sourceOf f ≡ i → ⊥
 
 -- what the line does to a frame: it neither alters nor reorders, so what is given is what was sent, at or behind the last place given
-abbrev pub Delivered : ℕ → Origin → List ℕ → List (List ℕ) → ℕ → Type 0
-Delivered i (sent p) bs frames at = (at ≤ p) × (getElem? frames p ≡ some bs)
-Delivered i foreign bs frames at = NotFrom i (readFrame bs)
+abbrev pub Delivered : ℕ → Origin → List ℕ → Line → Type 0
+Delivered i (sent p) bs l = (l .at ≤ p) × (getElem? (l .frames) p ≡ some bs)
+Delivered i foreign bs l = NotFrom i (readFrame bs)
 
 -- the ranges of machine values
 pub record Numbers (e : ErrorEntry) : Type 0 where
@@ -269,12 +288,12 @@ pub data Step (i : ℕ) (w : World) : Event → World → Type 0 where
   answer : (f : AnswerFields) (r : WriteAnswer) (after target written : List ℕ) → AnswerSizes f
       → reporter.Answers f r (w .head) after target written
       → Step i w (answered r written) (record { head = after; box = w .box; log = answered r written ∷ w .log })
-  headReads : (o : Origin) (bs : List ℕ) (r : ReadAnswer) (after : List ℕ) → Delivered 240 o bs (requestsSent (w .log)) (headAt (w .log))
+  headReads : (o : Origin) (bs : List ℕ) (r : ReadAnswer) (after : List ℕ) → Delivered 240 o bs (tally i (w .log) .requests)
       → reporter.Reads bs r (w .head) after
       → Step i w (headRead o bs r) (record { head = after; box = w .box; log = headRead o bs r ∷ w .log })
   register : (j : ℕ) (r : RegisterAnswer) (after : List ℕ) → collector.Registers (node j) r (w .box) after
       → Step i w (registered j r) (record { head = w .head; box = after; log = registered j r ∷ w .log })
-  boxReads : (o : Origin) (bs : List ℕ) (r : BoxReadAnswer) (after : List ℕ) → Delivered i o bs (answersSent (w .log)) (boxAt (w .log))
+  boxReads : (o : Origin) (bs : List ℕ) (r : BoxReadAnswer) (after : List ℕ) → Delivered i o bs (tally i (w .log) .answers)
       → collector.Reads bs r (w .box) after
       → Step i w (boxRead o bs r) (record { head = w .head; box = after; log = boxRead o bs r ∷ w .log })
   request : (j : ℕ) (f : RequestFields) (r : RequestAnswer) (target written : List ℕ) → length (f .«source_mac» .0) ≡ 6
@@ -317,10 +336,10 @@ booked i l further = handedOut i l ++ further
 pub record NoneLost (i : ℕ) (w : World) : Type 0 where
   -- "the entries booked for the head, taken ones included, are the opening stretch of those it accepted, each once, in order" (00)
   pub opening : (further : List ErrorEntry) → Drained i (w .box) further
-      → (rest : List ErrorEntry) × (booked i (w .log) further ++ rest ≡ accepted (w .log))
+      → (rest : List ErrorEntry) × (booked i (w .log) further ++ rest ≡ accepted i (w .log))
   -- "Followed by its open batch, if unbooked, and then by its waiting entries, they are exactly the accepted ones" (00)
   pub all : (further : List ErrorEntry) → Drained i (w .box) further
-      → booked i (w .log) further ++ (unbooked i (w .log) ++ ruled i (w .log) .waiting) ≡ accepted (w .log)
+      → booked i (w .log) further ++ (unbooked i (w .log) ++ ruled i (w .log) .waiting) ≡ accepted i (w .log)
   -- "the head holds the same after it"
   pub head : headOf (w .head) ≡ ruled i (w .log)
   -- Takes end in a refusal, 11 or 16: there is such a chain of further Takes

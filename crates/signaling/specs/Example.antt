@@ -38,41 +38,35 @@ five =
     entry ErrorActive 0x8161 ∷ entry ErrorCleared 0x8162 ∷ entry EventOccurred 0x8163 ∷ entry ErrorActive 0x8164 ∷ entry ErrorCleared 0x8165
     ∷ []
 
--- what the box was given and said, the oldest first
-abbrev pub boxReadings : Log → List (Origin × BoxReadAnswer)
-boxReadings [] = []
-boxReadings (raised e r ∷ l) = boxReadings l
-boxReadings (answered r bs ∷ l) = boxReadings l
-boxReadings (headRead o bs r ∷ l) = boxReadings l
-boxReadings (registered j r ∷ l) = boxReadings l
-boxReadings (boxRead o bs r ∷ l) = boxReadings l ++ ((o, r) ∷ [])
-boxReadings (requested j r bs ∷ l) = boxReadings l
-boxReadings (taken j r ∷ l) = boxReadings l
-boxReadings (hosted bs ∷ l) = boxReadings l
+-- what the two were given and said, the oldest first
+pub data Reading : Type 0 where
+  byBox : Origin → BoxReadAnswer → Reading
+  byHead : Origin → ReadAnswer → Reading
 
--- what the head was given and said, the oldest first
-abbrev pub headReadings : Log → List (Origin × ReadAnswer)
-headReadings [] = []
-headReadings (raised e r ∷ l) = headReadings l
-headReadings (answered r bs ∷ l) = headReadings l
-headReadings (headRead o bs r ∷ l) = headReadings l ++ ((o, r) ∷ [])
-headReadings (registered j r ∷ l) = headReadings l
-headReadings (boxRead o bs r ∷ l) = headReadings l
-headReadings (requested j r bs ∷ l) = headReadings l
-headReadings (taken j r ∷ l) = headReadings l
-headReadings (hosted bs ∷ l) = headReadings l
+abbrev pub readings : Log → List Reading
+readings [] = []
+readings (raised e r ∷ l) = readings l
+readings (answered r bs ∷ l) = readings l
+readings (headRead o bs r ∷ l) = readings l ++ (byHead o r ∷ [])
+readings (registered j r ∷ l) = readings l
+readings (boxRead o bs r ∷ l) = readings l ++ (byBox o r ∷ [])
+readings (requested j r bs ∷ l) = readings l
+readings (taken j r ∷ l) = readings l
+readings (hosted bs ∷ l) = readings l
 
 -- a head with ID 7 and the box
 pub record LossAndRepeat : Type 0 where
   pub w : World
   pub run : Run 7 w
-  pub entries : accepted (w .log) ≡ five
-  -- of the three answers the first is lost; the second is read twice, booked and then known; the third is booked
-  pub answers : length (answersSent (w .log)) ≡ 3
-  pub boxes : boxReadings (w .log) ≡ (sent 1, box.Booked) ∷ (sent 1, box.Known) ∷ (sent 2, box.Booked) ∷ []
-  -- either batch is closed by its request
-  pub requests : length (requestsSent (w .log)) ≡ 2
-  pub heads : headReadings (w .log) ≡ (sent 0, head.Closed) ∷ (sent 1, head.Closed) ∷ []
+  pub entries : accepted 7 (w .log) ≡ five
+  pub answers : length (answersSent 7 (w .log)) ≡ 3
+  pub requests : length (requestsSent 7 (w .log)) ≡ 2
+  -- of the three answers the first is lost; the second is read twice, booked and then known; the third is booked; either batch is closed
+  -- by its request
+  pub read : readings (w .log)
+      ≡ byBox (sent 1) box.Booked ∷ byBox (sent 1) box.Known ∷ byHead (sent 0) head.Closed ∷ byBox (sent 2) box.Booked
+      ∷ byHead (sent 1) head.Closed
+      ∷ []
   -- all is booked, and nothing is left at the head
   pub place : accountOf (w .box) 7 ≡ some (record { ea = false; book = five })
   pub rest : ruled 7 (w .log) ≡ record { id = 7; en = false; batch = []; waiting = [] }
@@ -96,7 +90,7 @@ pub record TwoExchanges : Type 0 where
 pub record FreeEaLoses : Type 0 where
   pub w : World
   pub run : Run 7 w
-  pub entries : accepted (w .log) ≡ five
+  pub entries : accepted 7 (w .log) ≡ five
   pub place : accountOf (w .box) 7 ≡ some (record { ea = false; book = [] })
   pub frame : List ℕ
   pub gives : heardIn 7 (readFrame frame) ≡ heard.Ea true

@@ -70,7 +70,7 @@ pub record Exchange (i : ℕ) (w v : World) : Type 0 where
   pub boxSays : BoxReadAnswer
   pub w₃ : World
   pub boxReads : Step i w₂ (boxRead (sent p) answerRead boxSays) w₃
-  pub newAnswer : length (answersSent (w .log)) ≤ p
+  pub newAnswer : length (answersSent i (w .log)) ≤ p
   pub w₄ : World
   -- nothing in transit "whenever either writes": repeats of the answer come before the box writes
   pub quiet₂ : Quietly i (AnswerAgain p answerRead) w₃ w₄
@@ -85,7 +85,7 @@ pub record Exchange (i : ℕ) (w v : World) : Type 0 where
   pub headSays : ReadAnswer
   pub w₇ : World
   pub headReads : Step i w₆ (headRead (sent q) requestRead headSays) w₇
-  pub newRequest : length (requestsSent (w₄ .log)) ≤ q
+  pub newRequest : length (requestsSent i (w₄ .log)) ≤ q
   pub ea : Bool
   pub mine : heardIn i (readFrame requestRead) ≡ heard.Ea ea
   -- and repeats of the request before the head writes again
