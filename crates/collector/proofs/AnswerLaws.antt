@@ -8,8 +8,8 @@ use mathlib.Core.Option.{none}
 use lib.ListN.{length}
 use borrow.Author.Tests.{le-leb, lt-leb, lt-ltb}
 use Rattle.error_entry.specs.declared.ErrorEntry.{ErrorEntry}
-use Rattle.collector.specs.Layout.{eaIn, findOf, slotOf, countIn, startIn, entryIn, accountIn, accountOf, vacantOf, boxOf}
-use Rattle.collector.specs.Rules.{registerAnswer, bookAnswer, takeAnswer}
+use Rattle.collector.specs.Layout.{collectorLength, eaIn, findOf, slotOf, countIn, startIn, entryIn, accountIn, accountOf, vacantOf, boxOf}
+use Rattle.collector.specs.Rules.{heads, bookLength, registerAnswer, bookAnswer, takeAnswer}
 use Rattle.collector.specs.declared.ReadAnswer.the-variants.{Booked, Known, NotRegistered, BookFull}
 use Rattle.collector.specs.declared.RegisterAnswer.the-variants.{Registered, IdOutOfRange, IdRegistered, Full}
 use Rattle.collector.specs.declared.TakeAnswer.the-variants as taking
@@ -30,35 +30,35 @@ module _ (s : List ℕ) (i : ℕ) where
     register-high h = rw (le-leb 1 i low, lt-leb i 239 h)
 
     module _ (high : i ≤ 239) where
-      pub register-known : findOf s i < 4 → IdRegistered ≡ registerAnswer i (boxOf s)
+      pub register-known : findOf s i < heads → IdRegistered ≡ registerAnswer i (boxOf s)
       unfolding registerAnswer
       register-known h =
-          let k : slotOf s i < 4 = rw (slot-find s i low) h in
+          let k : slotOf s i < heads = rw (slot-find s i low) h in
           rw (le-leb 1 i low, le-leb i 239 high, place-some s i k)
 
-      module _ (unknown : 4 ≤ findOf s i) where
+      module _ (unknown : heads ≤ findOf s i) where
         nowhere : accountOf s i ≡ none
         nowhere = place-none s i (rw (slot-find s i low) unknown)
 
-        pub register-full : 4 ≤ findOf s 0 → Full ≡ registerAnswer i (boxOf s)
+        pub register-full : heads ≤ findOf s 0 → Full ≡ registerAnswer i (boxOf s)
         unfolding registerAnswer
         register-full h = rw (le-leb 1 i low, le-leb i 239 high, nowhere, free-none s h)
 
-        pub register-new : findOf s 0 < 4 → Registered ≡ registerAnswer i (boxOf s)
+        pub register-new : findOf s 0 < heads → Registered ≡ registerAnswer i (boxOf s)
         unfolding registerAnswer
         register-new h = rw (le-leb 1 i low, le-leb i 239 high, nowhere, lt-ltb 0 (vacantOf s) (free-some s h))
 
 -- ---- take
 
 module _ (s : List ℕ) (i : ℕ) where
-  pub take-unknown : 4 ≤ slotOf s i → taking.NotRegistered ≡ takeAnswer (accountOf s i)
+  pub take-unknown : heads ≤ slotOf s i → taking.NotRegistered ≡ takeAnswer (accountOf s i)
   take-unknown h = rw (place-none s i h)
 
-  module _ (known : slotOf s i < 4) where
+  module _ (known : slotOf s i < heads) where
     pub take-nothing : countIn s (slotOf s i) ≡ 0 → taking.NothingBooked ≡ takeAnswer (accountOf s i)
     take-nothing h = rw (place-some s i known, book-empty s (slotOf s i) h)
 
-    module _ (size : length s ≡ 5184) (more : 0 < countIn s (slotOf s i)) where
+    module _ (size : length s ≡ collectorLength) (more : 0 < countIn s (slotOf s i)) where
       pub take-one : taking.Taken (entryIn s (slotOf s i) (startIn s (slotOf s i))) ≡ takeAnswer (accountOf s i)
       take-one = rw (place-some s i known, book-taken s (slotOf s i) size known more)
 
@@ -70,10 +70,10 @@ module _ (s : List ℕ) (k : ℕ) (en : Bool) (es : List ErrorEntry) where
   book-known same = rw same
 
   module _ (new : Bool·beq en (eaIn s k) ≡ false) where
-    pub book-full : 64 < countIn s k + length es → BookFull ≡ bookAnswer en es (accountIn s k)
+    pub book-full : bookLength < countIn s k + length es → BookFull ≡ bookAnswer en es (accountIn s k)
     unfolding bookAnswer
-    book-full h = rw (new, book-length s k, lt-leb (countIn s k + length es) 64 h)
+    book-full h = rw (new, book-length s k, lt-leb (countIn s k + length es) bookLength h)
 
-    pub book-room : countIn s k + length es ≤ 64 → Booked ≡ bookAnswer en es (accountIn s k)
+    pub book-room : countIn s k + length es ≤ bookLength → Booked ≡ bookAnswer en es (accountIn s k)
     unfolding bookAnswer
-    book-room h = rw (new, book-length s k, le-leb (countIn s k + length es) 64 h)
+    book-room h = rw (new, book-length s k, le-leb (countIn s k + length es) bookLength h)

@@ -12,7 +12,8 @@ use Rattle.types.specs.Codes.{pick}
 use Rattle.error_entry.specs.declared.ErrorEntry.{ErrorEntry}
 use Rattle.status_response.specs.ReadBack.{EachInRange}
 use Rattle.records.proofs.RingLaws.{ring-same}
-use Rattle.collector.specs.Layout.{block, nodeIn, eaIn, startIn, countIn, entryIn, bookIn, accountIn, pushedBytes, pushedAll, bookedBytes}
+use Rattle.collector.specs.Layout.{eaAt, collectorLength, block, nodeIn, eaIn, startIn, countIn, entryIn, bookIn, accountIn, pushedBytes, pushedAll, bookedBytes}
+use Rattle.collector.specs.Rules.{heads, bookLength}
 use Rattle.collector.proofs.BlockLaws.{Kept, kept-again, entry-set, kept-set}
 use Rattle.collector.proofs.BookLaws.{pushed-length, pushed-node, pushed-kept, pushed-count, book-pushed, start-set, count-set, node-set}
 
@@ -33,7 +34,7 @@ module _ (k : ℕ) where
   all-kept (e ∷ es) s =
       let t : List ℕ = pushedBytes s k e in kept-again s t (pushedAll t k es) k (pushed-kept s k e) (all-kept es t)
 
-  all-book : k < 4 → (es : List ErrorEntry) (s : List ℕ) → length s ≡ 5184 → EachInRange es → countIn s k + length es ≤ 64
+  all-book : k < heads → (es : List ErrorEntry) (s : List ℕ) → length s ≡ collectorLength → EachInRange es → countIn s k + length es ≤ bookLength
       → bookIn (pushedAll s k es) k ≡ bookIn s k ++ es
   unfolding pushedAll
   all-book place [] s size each room = sym (append-nil (bookIn s k))
@@ -50,17 +51,17 @@ module _ (k : ℕ) where
 
 -- ---- and its bit
 
-book-set : (s : List ℕ) (k x : ℕ) → bookIn (set s (block k + 1) x) k ≡ bookIn s k
+book-set : (s : List ℕ) (k x : ℕ) → bookIn (set s (block k + eaAt) x) k ≡ bookIn s k
 unfolding bookIn
 book-set s k x =
-    rw (start-set s k 1 x (omega arith), count-set s k 1 x (omega arith))
-    (ring-same (entryIn s k) (entryIn (set s (block k + 1) x) k) 64 (startIn s k) (countIn s k)
-    (λ i _. entry-set s k 1 x ((startIn s k + i) % 64) (omega arith)))
+    rw (start-set s k eaAt x (omega arith), count-set s k eaAt x (omega arith))
+    (ring-same (entryIn s k) (entryIn (set s (block k + eaAt) x) k) bookLength (startIn s k) (countIn s k)
+    (λ i _. entry-set s k eaAt x ((startIn s k + i) % bookLength) (omega arith)))
 
-ea-new : (s : List ℕ) (k : ℕ) → length s ≡ 5184 → k < 4 → (en : Bool) → eaIn (set s (block k + 1) (pick en 1 0)) k ≡ en
+ea-new : (s : List ℕ) (k : ℕ) → length s ≡ collectorLength → k < heads → (en : Bool) → eaIn (set s (block k + eaAt) (pick en 1 0)) k ≡ en
 unfolding eaIn
 ea-new s k size place en =
-    ap (λ (y : ℕ). eqb (y % 2) 1) (getD-set-same s (block k + 1) (pick en 1 0) 0 (omega arith)) ∙ bit-back en
+    ap (λ (y : ℕ). eqb (y % 2) 1) (getD-set-same s (block k + eaAt) (pick en 1 0) 0 (omega arith)) ∙ bit-back en
   where
     bit-back : (b : Bool) → eqb (pick b 1 0 % 2) 1 ≡ b
     bit-back true = refl
@@ -69,19 +70,19 @@ ea-new s k size place en =
 module _ (s : List ℕ) (k : ℕ) (en : Bool) (es : List ErrorEntry) where
   pub booked-length : length (bookedBytes s k en es) ≡ length s
   unfolding bookedBytes
-  booked-length = length-set (pushedAll s k es) (block k + 1) (pick en 1 0) ∙ all-length k es s
+  booked-length = length-set (pushedAll s k es) (block k + eaAt) (pick en 1 0) ∙ all-length k es s
 
   pub booked-node : nodeIn (bookedBytes s k en es) k ≡ nodeIn s k
   unfolding bookedBytes
-  booked-node = node-set (pushedAll s k es) k 1 (pick en 1 0) (omega arith) ∙ all-node k es s
+  booked-node = node-set (pushedAll s k es) k eaAt (pick en 1 0) (omega arith) ∙ all-node k es s
 
   pub booked-kept : Kept s (bookedBytes s k en es) k
   unfolding bookedBytes
   booked-kept =
       let t : List ℕ = pushedAll s k es in
-      kept-again s t (set t (block k + 1) (pick en 1 0)) k (all-kept k es s) (kept-set t k 1 (pick en 1 0) (omega arith))
+      kept-again s t (set t (block k + eaAt) (pick en 1 0)) k (all-kept k es s) (kept-set t k eaAt (pick en 1 0) (omega arith))
 
-  pub booked-place : length s ≡ 5184 → k < 4 → EachInRange es → countIn s k + length es ≤ 64
+  pub booked-place : length s ≡ collectorLength → k < heads → EachInRange es → countIn s k + length es ≤ bookLength
       → accountIn (bookedBytes s k en es) k ≡ record { ea = en; book = bookIn s k ++ es }
   unfolding bookedBytes
   booked-place size place each room =

@@ -19,8 +19,8 @@ use Rattle.status_response.specs.Steps.{statusEntries}
 use Rattle.status_response.specs.declared.fields.StatusAnswer.the-variants as status
 use Rattle.status_response.specs.declared.fields.StatusFields.{StatusFields}
 use Rattle.collector.specs.Calls.{Registers, Reads, Requests, Takes, ReadsStatus, Books, statusBytes, booksBytes}
-use Rattle.collector.specs.Layout.{slotOf, accountIn, accountOf, boxOf, registerBytes, readBytes, bookingBytes, takeBytes}
-use Rattle.collector.specs.Rules.{registerAnswer, registerCause, heardIn, enIn, statusPayload, bookAnswer, accountAnswer, readAnswer, readCause, requestSoA, requestFrame, asRequest, requestWritten, requestAnswer, requestCause, afterRequest, takeAnswer, takeCause}
+use Rattle.collector.specs.Layout.{collectorLength, slotOf, accountIn, accountOf, boxOf, registerBytes, readBytes, bookingBytes, takeBytes}
+use Rattle.collector.specs.Rules.{heads, registerAnswer, registerCause, heardIn, enIn, statusPayload, bookAnswer, accountAnswer, readAnswer, readCause, requestSoA, requestFrame, asRequest, requestWritten, requestAnswer, requestCause, afterRequest, takeAnswer, takeCause}
 use Rattle.collector.specs.declared.ReadAnswer.{ReadAnswer}
 use Rattle.collector.specs.declared.ReadAnswer.the-variants.{Booked, Known, Refused, NotStatusResponse, NotRegistered, BookFull}
 use Rattle.collector.specs.declared.RegisterAnswer.{RegisterAnswer}
@@ -36,7 +36,7 @@ use Rattle.collector.proofs.Rows.{register-row, read-row, request-row, 
 
 -- ---- register
 
-pub registers : (i : NodeId) (r : RegisterAnswer) (s after : List ℕ) → length s ≡ 5184 → r ≡ registerAnswer (i .0) (boxOf s)
+pub registers : (i : NodeId) (r : RegisterAnswer) (s after : List ℕ) → length s ≡ collectorLength → r ≡ registerAnswer (i .0) (boxOf s)
     → after ≡ registerBytes r (i .0) s → Registers i r s after
 registers i r s after size a b =
     record { answer = a; cause = ap registerCause a ∙ register-row (i .0) (boxOf s); box = rw (b, a) (register-means s size (i .0)); bytes = b }
@@ -47,22 +47,22 @@ registers-none i s a = record { answer = a; cause = ap registerCause a ∙ regis
 
 -- ---- take
 
-pub takes : (i : NodeId) (r : TakeAnswer) (s after : List ℕ) → length s ≡ 5184 → r ≡ takeAnswer (accountOf s (i .0))
+pub takes : (i : NodeId) (r : TakeAnswer) (s after : List ℕ) → length s ≡ collectorLength → r ≡ takeAnswer (accountOf s (i .0))
     → after ≡ takeBytes r (i .0) s → Takes i r s after
 takes i r s after size a b =
     record { answer = a; cause = ap takeCause a ∙ take-row (accountOf s (i .0)); box = rw (b, a) (take-means s size (i .0)); bytes = b }
 
 -- ---- read
 
-pub reads : (s : List ℕ) → length s ≡ 5184 → (f : List ℕ) → Octets f → (r : ReadAnswer) (after : List ℕ) → r ≡ readAnswer f (boxOf s)
+pub reads : (s : List ℕ) → length s ≡ collectorLength → (f : List ℕ) → Octets f → (r : ReadAnswer) (after : List ℕ) → r ≡ readAnswer f (boxOf s)
     → after ≡ readBytes r f s → Reads f r s after
 reads s size f octets r after a b = record { answer = a; cause = ap readCause a ∙ read-row f (boxOf s); box = rw (b, a) (read-means s size f octets); bytes = b }
 
 module _ (s : List ℕ) (source : ℕ) (payload : List ℕ) where
-  pub status-unknown : 4 ≤ slotOf s source → ReadsStatus source payload NotRegistered s s
+  pub status-unknown : heads ≤ slotOf s source → ReadsStatus source payload NotRegistered s s
   status-unknown h = record { answer = rw (place-none s source h); bytes = refl }
 
-  module _ (known : slotOf s source < 4) where
+  module _ (known : slotOf s source < heads) where
     pub status-refused : (e : PowerlinkError) → status.Refused e ≡ readFields payload → ReadsStatus source payload (Refused e) s s
     status-refused e is = record { answer = rw (place-some s source known, ← is); bytes = refl }
 
@@ -96,7 +96,7 @@ module _ (s f : List ℕ) where
       let a : NotStatusResponse ≡ readAnswer f (boxOf s) = rw (← is) in
       record { answer = a; cause = ap readCause a ∙ read-row f (boxOf s); box = same-box (boxOf s); bytes = refl }
 
-  pub reads-status : length s ≡ 5184 → Octets f → (source : NodeId) → heard.Status source ≡ heardIn (readFrame f)
+  pub reads-status : length s ≡ collectorLength → Octets f → (source : NodeId) → heard.Status source ≡ heardIn (readFrame f)
       → (payload : List ℕ) → payload ≡ statusPayload f → (r : ReadAnswer) (after : List ℕ) → ReadsStatus (source .0) payload r s after → Reads f r s after
   unfolding readAnswer
   reads-status size octets source is payload from r after b =

@@ -11,7 +11,7 @@ use lib.Dec.{eqb}
 use borrow.Author.Tests.{eqb-true, eqb-false, eq-eqb, ne-eqb, lt-ltb, le-ltb}
 use Rattle.octets.proofs.Order.{le-or-lt}
 use Rattle.types.specs.Codes.{pick}
-use Rattle.collector.specs.Rules.{Account, Same, withAccount}
+use Rattle.collector.specs.Rules.{heads, Account, Same, withAccount}
 use Rattle.collector.specs.Layout.{nodeIn, findOf, slotOf, accountIn, accountOf, vacantOf, boxOf}
 use Rattle.collector.proofs.BlockLaws.{Kept, node-kept, place-kept}
 
@@ -24,15 +24,15 @@ eq-or-ne a b = split (eqb a b) refl
 
 -- the first of four tests that holds, or 4
 abbrev pub first : Bool → Bool → Bool → Bool → ℕ
-first t₀ t₁ t₂ t₃ = pick t₀ 0 (pick t₁ 1 (pick t₂ 2 (pick t₃ 3 4)))
+first t₀ t₁ t₂ t₃ = pick t₀ 0 (pick t₁ 1 (pick t₂ 2 (pick t₃ 3 heads)))
 
 -- a block that was found has the node ID
-pub found : (s : List ℕ) (b : ℕ) → findOf s b < 4 → nodeIn s (findOf s b) ≡ b
+pub found : (s : List ℕ) (b : ℕ) → findOf s b < heads → nodeIn s (findOf s b) ≡ b
 unfolding findOf
 found s b h = go (eqb (nodeIn s 0) b) (eqb (nodeIn s 1) b) (eqb (nodeIn s 2) b) (eqb (nodeIn s 3) b) refl refl refl refl h
   where
     go : (t₀ t₁ t₂ t₃ : Bool) → eqb (nodeIn s 0) b ≡ t₀ → eqb (nodeIn s 1) b ≡ t₁ → eqb (nodeIn s 2) b ≡ t₂ → eqb (nodeIn s 3) b ≡ t₃
-        → first t₀ t₁ t₂ t₃ < 4 → nodeIn s (first t₀ t₁ t₂ t₃) ≡ b
+        → first t₀ t₁ t₂ t₃ < heads → nodeIn s (first t₀ t₁ t₂ t₃) ≡ b
     go true t₁ t₂ t₃ e₀ e₁ e₂ e₃ h = eqb-true (nodeIn s 0) b e₀
     go false true t₂ t₃ e₀ e₁ e₂ e₃ h = eqb-true (nodeIn s 1) b e₁
     go false false true t₃ e₀ e₁ e₂ e₃ h = eqb-true (nodeIn s 2) b e₂
@@ -44,46 +44,46 @@ unfolding slotOf
 slot-find s i h = rw (ne-eqb i 0 (omega arith))
 
 -- a node that has a block has an ID that is not 0, and the block has it
-slot-real : (s : List ℕ) (i : ℕ) → slotOf s i < 4 → 0 < i
+slot-real : (s : List ℕ) (i : ℕ) → slotOf s i < heads → 0 < i
 unfolding slotOf
 slot-real s zero h = absurd (let z : ⊥ = omega arith in z)
 slot-real s (suc i) h = omega arith
 
-pub slot-node : (s : List ℕ) (i : ℕ) → slotOf s i < 4 → nodeIn s (slotOf s i) ≡ i
+pub slot-node : (s : List ℕ) (i : ℕ) → slotOf s i < heads → nodeIn s (slotOf s i) ≡ i
 slot-node s i h =
     let e : slotOf s i ≡ findOf s i = slot-find s i (slot-real s i h) in
     ap (nodeIn s) e ∙ found s i (omega arith)
 
-pub slot-taken : (s : List ℕ) (i : ℕ) → slotOf s i < 4 → nodeIn s (slotOf s i) ≡ 0 → ⊥
+pub slot-taken : (s : List ℕ) (i : ℕ) → slotOf s i < heads → nodeIn s (slotOf s i) ≡ 0 → ⊥
 slot-taken s i h q = let r : 0 < i = slot-real s i h in let e : nodeIn s (slotOf s i) ≡ i = slot-node s i h in omega arith
 
 -- two nodes have two blocks
-slots-apart : (s : List ℕ) (a b : ℕ) → slotOf s a < 4 → slotOf s b < 4 → (a ≡ b → ⊥) → slotOf s a ≡ slotOf s b → ⊥
+slots-apart : (s : List ℕ) (a b : ℕ) → slotOf s a < heads → slotOf s b < heads → (a ≡ b → ⊥) → slotOf s a ≡ slotOf s b → ⊥
 slots-apart s a b ha hb ne e = ne (sym (slot-node s a ha) ∙ ap (nodeIn s) e ∙ slot-node s b hb)
 
 -- ---- what a node has
 
-pub place-some : (s : List ℕ) (i : ℕ) → slotOf s i < 4 → accountOf s i ≡ some (accountIn s (slotOf s i))
+pub place-some : (s : List ℕ) (i : ℕ) → slotOf s i < heads → accountOf s i ≡ some (accountIn s (slotOf s i))
 unfolding accountOf
-place-some s i h = rw (lt-ltb (slotOf s i) 4 h)
+place-some s i h = rw (lt-ltb (slotOf s i) heads h)
 
-pub place-none : (s : List ℕ) (i : ℕ) → 4 ≤ slotOf s i → accountOf s i ≡ none
+pub place-none : (s : List ℕ) (i : ℕ) → heads ≤ slotOf s i → accountOf s i ≡ none
 unfolding accountOf
-place-none s i h = rw (le-ltb (slotOf s i) 4 h)
+place-none s i h = rw (le-ltb (slotOf s i) heads h)
 
 -- a node whose block is the same, at the same place or at none
-pub place-stays : (s t : List ℕ) (i : ℕ) → slotOf t i ≡ slotOf s i → (slotOf s i < 4 → accountIn t (slotOf s i) ≡ accountIn s (slotOf s i))
+pub place-stays : (s t : List ℕ) (i : ℕ) → slotOf t i ≡ slotOf s i → (slotOf s i < heads → accountIn t (slotOf s i) ≡ accountIn s (slotOf s i))
     → accountOf t i ≡ accountOf s i
 place-stays s t i e same =
     ⊎-elim
-    (λ (h : 4 ≤ slotOf s i). place-none t i (omega arith) ∙ sym (place-none s i h))
-    (λ (h : slotOf s i < 4).
+    (λ (h : heads ≤ slotOf s i). place-none t i (omega arith) ∙ sym (place-none s i h))
+    (λ (h : slotOf s i < heads).
     place-some t i (omega arith) ∙ ap (λ (k : ℕ). some (accountIn t k)) e ∙ ap (λ (p : Account). some p) (same h) ∙ sym (place-some s i h))
-    (le-or-lt 4 (slotOf s i))
+    (le-or-lt heads (slotOf s i))
 
 -- ---- the block of a node changes, and its ID stays
 
-module _ (s t : List ℕ) (i : ℕ) (known : slotOf s i < 4) (kept : Kept s t (slotOf s i)) (node : nodeIn t (slotOf s i) ≡ nodeIn s (slotOf s i)) where
+module _ (s t : List ℕ) (i : ℕ) (known : slotOf s i < heads) (kept : Kept s t (slotOf s i)) (node : nodeIn t (slotOf s i) ≡ nodeIn s (slotOf s i)) where
   nodes : (o : ℕ) → nodeIn t o ≡ nodeIn s o
   nodes o =
       ⊎-elim

@@ -1,6 +1,6 @@
 -- What the calls make of a state, by node ID: laws over plain lists of octets.
 -- Assumes nothing.
-use Prim.Native.Nat.{ℕ, zero, suc, _+_, _*_, _≤_, _<_}
+use Prim.Native.Nat.{ℕ, zero, suc, _+_, _≤_, _<_}
 use mathlib.Core.Path.{_≡_, refl, sym, ap, _∙_}
 use mathlib.Core.Bool.{Bool, true, false, Bool·beq}
 use mathlib.Core.List.{List}
@@ -24,8 +24,8 @@ use Rattle.status_response.specs.Fields.{readFields}
 use Rattle.status_response.specs.Steps.{statusEntries}
 use Rattle.status_response.specs.declared.fields.StatusAnswer.{StatusAnswer}
 use Rattle.status_response.specs.declared.fields.StatusAnswer.the-variants as status
-use Rattle.collector.specs.Layout.{block, nodeIn, findOf, slotOf, countIn, bookIn, accountIn, accountOf, vacantOf, boxOf, freshBytes, registerBytes, readBytes, bookingBytes, bookedBytes, takenBytes, takeBytes}
-use Rattle.collector.specs.Rules.{Account, Box, Same, freshBox, withAccount, registerAnswer, afterRegister, heardIn, enIn, statusPayload, bookAnswer, statusAnswer, heardAnswer, readAnswer, bookedAccount, afterBooking, afterRead, requestFrame, takeAnswer, withoutFirst, afterTake}
+use Rattle.collector.specs.Layout.{nodeAt, collectorLength, block, nodeIn, findOf, slotOf, countIn, bookIn, accountIn, accountOf, vacantOf, boxOf, freshBytes, registerBytes, readBytes, bookingBytes, bookedBytes, takenBytes, takeBytes}
+use Rattle.collector.specs.Rules.{heads, bookLength, Account, Box, Same, freshBox, withAccount, registerAnswer, afterRegister, heardIn, enIn, statusPayload, bookAnswer, statusAnswer, heardAnswer, readAnswer, bookedAccount, afterBooking, afterRead, requestFrame, takeAnswer, withoutFirst, afterTake}
 use Rattle.collector.specs.declared.ReadAnswer.{ReadAnswer}
 use Rattle.collector.specs.declared.ReadAnswer.the-variants.{Booked, Known, Refused, NotStatusResponse, NotRegistered, BookFull}
 use Rattle.collector.specs.declared.RegisterAnswer.{RegisterAnswer}
@@ -47,15 +47,15 @@ pub same-box : (b : Box) → Same b b
 same-box b = record { accounts = λ i. refl; vacant = refl }
 
 -- a place's book is within its bound
-pub book-bound : (s : List ℕ) (i : ℕ) (p : Account) → accountOf s i ≡ some p → length (p .book) ≤ 64
+pub book-bound : (s : List ℕ) (i : ℕ) (p : Account) → accountOf s i ≡ some p → length (p .book) ≤ bookLength
 book-bound s i p e =
     ⊎-elim
-    (λ (h : 4 ≤ slotOf s i). absurd (let q : none ≡ some p = sym (place-none s i h) ∙ e in let z : _≡_ {A = ℕ} 0 1 = cc in omega arith))
-    (λ (h : slotOf s i < 4).
+    (λ (h : heads ≤ slotOf s i). absurd (let q : none ≡ some p = sym (place-none s i h) ∙ e in let z : _≡_ {A = ℕ} 0 1 = cc in omega arith))
+    (λ (h : slotOf s i < heads).
     let q : some (accountIn s (slotOf s i)) ≡ some p = sym (place-some s i h) ∙ e in
     let r : accountIn s (slotOf s i) ≡ p = cc in
     omega (arith, book-most s (slotOf s i), ap (λ (x : Account). length (x .book)) r))
-    (le-or-lt 4 (slotOf s i))
+    (le-or-lt heads (slotOf s i))
 
 -- ---- a fresh state
 
@@ -64,12 +64,12 @@ no-nodes : (s : List ℕ) → ((k : ℕ) → nodeIn s k ≡ 0) → Same (boxOf s
 unfolding vacantOf
 no-nodes s z = record { accounts = λ i. place-none s i (unknown i); vacant = rw (z 0, z 1, z 2, z 3) }
   where
-    unknown : (i : ℕ) → 4 ≤ slotOf s i
+    unknown : (i : ℕ) → heads ≤ slotOf s i
     unknown i =
         ⊎-elim
-        (λ (h : 4 ≤ slotOf s i). h)
-        (λ (h : slotOf s i < 4). absurd (slot-taken s i h (z (slotOf s i))))
-        (le-or-lt 4 (slotOf s i))
+        (λ (h : heads ≤ slotOf s i). h)
+        (λ (h : slotOf s i < heads). absurd (slot-taken s i h (z (slotOf s i))))
+        (le-or-lt heads (slotOf s i))
 
 zeros : (n i : ℕ) → _≡_ {A = ℕ} (getD (replicate n 0) i 0) 0
 zeros zero i = refl
@@ -78,11 +78,11 @@ zeros (suc n) (suc i) = zeros n i
 
 pub fresh-means : Same (boxOf freshBytes) freshBox
 unfolding nodeIn
-fresh-means = no-nodes freshBytes (λ k. zeros 5184 (block k))
+fresh-means = no-nodes freshBytes (λ k. zeros collectorLength (block k + nodeAt))
 
 -- ---- register
 
-pub register-means : (s : List ℕ) → length s ≡ 5184 → (i : ℕ)
+pub register-means : (s : List ℕ) → length s ≡ collectorLength → (i : ℕ)
     → Same (boxOf (registerBytes (registerAnswer i (boxOf s)) i s)) (afterRegister (registerAnswer i (boxOf s)) i (boxOf s))
 register-means s size i =
     ⊎-elim
@@ -90,13 +90,13 @@ register-means s size i =
     ⊎-elim
     (λ (high : i ≤ 239).
     ⊎-elim
-    (λ (unknown : 4 ≤ findOf s i).
+    (λ (unknown : heads ≤ findOf s i).
     ⊎-elim
-    (λ (full : 4 ≤ findOf s 0). rw (← register-full s i low high unknown full) (same-box (boxOf s)))
-    (λ (free : findOf s 0 < 4). rw (← register-new s i low high unknown free) (placed-means s i size low free unknown))
-    (le-or-lt 4 (findOf s 0)))
-    (λ (known : findOf s i < 4). rw (← register-known s i low high known) (same-box (boxOf s)))
-    (le-or-lt 4 (findOf s i)))
+    (λ (full : heads ≤ findOf s 0). rw (← register-full s i low high unknown full) (same-box (boxOf s)))
+    (λ (free : findOf s 0 < heads). rw (← register-new s i low high unknown free) (placed-means s i size low free unknown))
+    (le-or-lt heads (findOf s 0)))
+    (λ (known : findOf s i < heads). rw (← register-known s i low high known) (same-box (boxOf s)))
+    (le-or-lt heads (findOf s i)))
     (λ (high : 239 < i). rw (← register-high s i low high) (same-box (boxOf s)))
     (le-or-lt i 239))
     (λ (low : i < 1). rw (← register-low s i low) (same-box (boxOf s)))
@@ -110,24 +110,24 @@ register-length Full i s = refl
 
 -- ---- take
 
-module _ (s : List ℕ) (i : ℕ) (known : slotOf s i < 4) (size : length s ≡ 5184) (more : 0 < countIn s (slotOf s i)) where
+module _ (s : List ℕ) (i : ℕ) (known : slotOf s i < heads) (size : length s ≡ collectorLength) (more : 0 < countIn s (slotOf s i)) where
   taken-means : Same (boxOf (takenBytes s (slotOf s i))) (withAccount i (withoutFirst (accountOf s i)) (boxOf s))
   taken-means =
       let k : ℕ = slotOf s i in
       block-means s (takenBytes s k) i known (taken-kept s k) (taken-node s k) (withoutFirst (accountOf s i))
       (rw (place-some s i known, book-taken s k size known more, taken-ea s k))
 
-pub take-means : (s : List ℕ) → length s ≡ 5184 → (i : ℕ)
+pub take-means : (s : List ℕ) → length s ≡ collectorLength → (i : ℕ)
     → Same (boxOf (takeBytes (takeAnswer (accountOf s i)) i s)) (afterTake (takeAnswer (accountOf s i)) i (boxOf s))
 take-means s size i =
     ⊎-elim
-    (λ (unknown : 4 ≤ slotOf s i). rw (← take-unknown s i unknown) (same-box (boxOf s)))
-    (λ (known : slotOf s i < 4).
+    (λ (unknown : heads ≤ slotOf s i). rw (← take-unknown s i unknown) (same-box (boxOf s)))
+    (λ (known : slotOf s i < heads).
     ⊎-elim
     (λ (more : 1 ≤ countIn s (slotOf s i)). rw (← take-one s i known size more) (taken-means s i known size more))
     (λ (less : countIn s (slotOf s i) < 1). rw (← take-nothing s i known (omega arith)) (same-box (boxOf s)))
     (le-or-lt 1 (countIn s (slotOf s i))))
-    (le-or-lt 4 (slotOf s i))
+    (le-or-lt heads (slotOf s i))
 
 pub take-length : (r : TakeAnswer) (i : ℕ) (s : List ℕ) → length (takeBytes r i s) ≡ length s
 take-length (taking.Taken e) i s = taken-length s (slotOf s i)
@@ -137,8 +137,8 @@ take-length taking.NothingBooked i s = refl
 -- ---- read
 
 -- a batch that there is room for
-module _ (s : List ℕ) (i : ℕ) (known : slotOf s i < 4) (size : length s ≡ 5184) (payload : List ℕ) (octets : Octets payload) where
-  booked-means : length (bookIn s (slotOf s i)) + length (statusEntries payload) ≤ 64
+module _ (s : List ℕ) (i : ℕ) (known : slotOf s i < heads) (size : length s ≡ collectorLength) (payload : List ℕ) (octets : Octets payload) where
+  booked-means : length (bookIn s (slotOf s i)) + length (statusEntries payload) ≤ bookLength
       → Same (boxOf (bookedBytes s (slotOf s i) (enIn (readFields payload)) (statusEntries payload)))
       (withAccount i (bookedAccount payload (accountOf s i)) (boxOf s))
   booked-means room =
@@ -150,20 +150,20 @@ module _ (s : List ℕ) (i : ℕ) (known : slotOf s i < 4) (size : length s ≡ 
 
   -- the answer is that the batch is booked, so there was room
   room-for : (a : StatusAnswer) → statusAnswer a (statusEntries payload) (accountIn s (slotOf s i)) ≡ Booked
-      → length (bookIn s (slotOf s i)) + length (statusEntries payload) ≤ 64
+      → length (bookIn s (slotOf s i)) + length (statusEntries payload) ≤ bookLength
   unfolding bookAnswer
   room-for (status.Refused e) q = let z : _≡_ {A = ℕ} 0 1 = cc in absurd (omega arith)
   room-for (status.Status f) q =
       let book : List ErrorEntry = bookIn s (slotOf s i) in
       let n : ℕ = length book + length (statusEntries payload) in
-      leb-true n 64 (go (Bool·beq (f .«en_flag») (accountIn s (slotOf s i) .ea)) (leb n 64) q)
+      leb-true n bookLength (go (Bool·beq (f .«en_flag») (accountIn s (slotOf s i) .ea)) (leb n bookLength) q)
     where
       go : (same fits : Bool) → pick same Known (need fits BookFull Booked) ≡ Booked → fits ≡ true
       go true fits q = let z : _≡_ {A = ℕ} 0 1 = cc in absurd (omega arith)
       go false true q = refl
       go false false q = let z : _≡_ {A = ℕ} 0 1 = cc in absurd (omega arith)
 
-module _ (s : List ℕ) (size : length s ≡ 5184) (payload : List ℕ) (octets : Octets payload) where
+module _ (s : List ℕ) (size : length s ≡ collectorLength) (payload : List ℕ) (octets : Octets payload) where
   booking-means : (h : Heard) → heardAnswer h payload (boxOf s) ≡ Booked
       → Same (boxOf (bookingBytes h payload s)) (afterBooking h payload (boxOf s))
   booking-means (heard.Refused e) q = same-box (boxOf s)
@@ -171,14 +171,14 @@ module _ (s : List ℕ) (size : length s ≡ 5184) (payload : List ℕ) (octets 
   booking-means (heard.Status source) q =
       let i : ℕ = source .0 in
       ⊎-elim
-      (λ (unknown : 4 ≤ slotOf s i).
+      (λ (unknown : heads ≤ slotOf s i).
       let r : NotRegistered ≡ Booked = rw (place-none s i unknown) at q in
       let z : _≡_ {A = ℕ} 0 1 = cc in absurd (omega arith))
-      (λ (known : slotOf s i < 4).
+      (λ (known : slotOf s i < heads).
       booked-means s i known size payload octets (room-for s i known size payload octets (readFields payload) (rw (place-some s i known) at q)))
-      (le-or-lt 4 (slotOf s i))
+      (le-or-lt heads (slotOf s i))
 
-module _ (s : List ℕ) (size : length s ≡ 5184) (f : List ℕ) (octets : Octets f) where
+module _ (s : List ℕ) (size : length s ≡ collectorLength) (f : List ℕ) (octets : Octets f) where
   payload-octets : Octets (statusPayload f)
   payload-octets i = rw (getD-drop 18 f i 0) (octets (18 + i))
 

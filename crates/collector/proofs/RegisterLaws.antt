@@ -11,8 +11,8 @@ use lib.ListN.{length}
 use lib.Dec.{eqb}
 use borrow.Author.Tests.{eq-eqb, ne-eqb}
 use Rattle.types.specs.Codes.{pick}
-use Rattle.collector.specs.Rules.{Account, Same, freshAccount, withAccount}
-use Rattle.collector.specs.Layout.{nodeIn, findOf, slotOf, accountIn, accountOf, isVacant, vacantOf, boxOf, placedBytes}
+use Rattle.collector.specs.Rules.{heads, Account, Same, freshAccount, withAccount}
+use Rattle.collector.specs.Layout.{collectorLength, nodeIn, findOf, slotOf, accountIn, accountOf, isVacant, vacantOf, boxOf, placedBytes}
 use Rattle.collector.proofs.BlockLaws.{node-kept, place-kept}
 use Rattle.collector.proofs.IdLaws.{first, found, eq-or-ne, slot-find, place-some, place-stays, slot-taken}
 use Rattle.collector.proofs.PlacedLaws.{placed-node, placed-kept, placed-fresh}
@@ -23,25 +23,25 @@ use Rattle.collector.proofs.PlacedLaws.{placed-node, placed-kept, place
 abbrev holding : Bool → Bool → Bool → Bool → ℕ
 holding t₀ t₁ t₂ t₃ = pick t₀ 1 0 + pick t₁ 1 0 + pick t₂ 1 0 + pick t₃ 1 0
 
-some-holds : (t₀ t₁ t₂ t₃ : Bool) → first t₀ t₁ t₂ t₃ < 4 → 0 < holding t₀ t₁ t₂ t₃
+some-holds : (t₀ t₁ t₂ t₃ : Bool) → first t₀ t₁ t₂ t₃ < heads → 0 < holding t₀ t₁ t₂ t₃
 some-holds true t₁ t₂ t₃ h = omega arith
 some-holds false true t₂ t₃ h = omega arith
 some-holds false false true t₃ h = omega arith
 some-holds false false false true h = omega arith
 some-holds false false false false h = absurd (let z : ⊥ = omega arith in z)
 
-none-holds : (t₀ t₁ t₂ t₃ : Bool) → 4 ≤ first t₀ t₁ t₂ t₃ → holding t₀ t₁ t₂ t₃ ≡ 0
+none-holds : (t₀ t₁ t₂ t₃ : Bool) → heads ≤ first t₀ t₁ t₂ t₃ → holding t₀ t₁ t₂ t₃ ≡ 0
 none-holds true t₁ t₂ t₃ h = absurd (let z : ⊥ = omega arith in z)
 none-holds false true t₂ t₃ h = absurd (let z : ⊥ = omega arith in z)
 none-holds false false true t₃ h = absurd (let z : ⊥ = omega arith in z)
 none-holds false false false true h = absurd (let z : ⊥ = omega arith in z)
 none-holds false false false false h = refl
 
-pub free-some : (s : List ℕ) → findOf s 0 < 4 → 0 < vacantOf s
+pub free-some : (s : List ℕ) → findOf s 0 < heads → 0 < vacantOf s
 unfolding findOf vacantOf
 free-some s h = some-holds (eqb (nodeIn s 0) 0) (eqb (nodeIn s 1) 0) (eqb (nodeIn s 2) 0) (eqb (nodeIn s 3) 0) h
 
-pub free-none : (s : List ℕ) → 4 ≤ findOf s 0 → vacantOf s ≡ 0
+pub free-none : (s : List ℕ) → heads ≤ findOf s 0 → vacantOf s ≡ 0
 unfolding findOf vacantOf
 free-none s h = none-holds (eqb (nodeIn s 0) 0) (eqb (nodeIn s 1) 0) (eqb (nodeIn s 2) 0) (eqb (nodeIn s 3) 0) h
 
@@ -50,7 +50,7 @@ module _ (s t : List ℕ) where
   free-same o e = rw e
 
   -- a free block is given to a node
-  free-less : (k : ℕ) → k < 4 → ((o : ℕ) → (o ≡ k → ⊥) → nodeIn t o ≡ nodeIn s o) → nodeIn s k ≡ 0 → (nodeIn t k ≡ 0 → ⊥)
+  free-less : (k : ℕ) → k < heads → ((o : ℕ) → (o ≡ k → ⊥) → nodeIn t o ≡ nodeIn s o) → nodeIn s k ≡ 0 → (nodeIn t k ≡ 0 → ⊥)
       → vacantOf t ≡ vacantOf s - 1
   unfolding vacantOf
   free-less zero h same was is =
@@ -66,7 +66,7 @@ module _ (s t : List ℕ) where
 -- ---- finding
 
 -- the only block with a node ID is found
-find-only : (t : List ℕ) (b k : ℕ) → k < 4 → nodeIn t k ≡ b → ((o : ℕ) → o < 4 → (o ≡ k → ⊥) → nodeIn t o ≡ b → ⊥) → findOf t b ≡ k
+find-only : (t : List ℕ) (b k : ℕ) → k < heads → nodeIn t k ≡ b → ((o : ℕ) → o < heads → (o ≡ k → ⊥) → nodeIn t o ≡ b → ⊥) → findOf t b ≡ k
 unfolding findOf
 find-only t b zero h e f = rw (eq-eqb (nodeIn t 0) b e)
 find-only t b (suc zero) h e f = rw (ne-eqb (nodeIn t 0) b (f 0 (omega arith) (omega arith)), eq-eqb (nodeIn t 1) b e)
@@ -86,12 +86,12 @@ find-only t b (suc (suc (suc zero))) h e f =
 find-only t b (suc (suc (suc (suc k)))) h e f = absurd (let z : ⊥ = omega arith in z)
 
 -- nothing is found, so no block has the node ID
-module _ (s : List ℕ) (b : ℕ) (h : 4 ≤ findOf s b) where
+module _ (s : List ℕ) (b : ℕ) (h : heads ≤ findOf s b) where
   nothing : holding (eqb (nodeIn s 0) b) (eqb (nodeIn s 1) b) (eqb (nodeIn s 2) b) (eqb (nodeIn s 3) b) ≡ 0
   unfolding findOf
   nothing = none-holds (eqb (nodeIn s 0) b) (eqb (nodeIn s 1) b) (eqb (nodeIn s 2) b) (eqb (nodeIn s 3) b) h
 
-  not-found : (o : ℕ) → o < 4 → nodeIn s o ≡ b → ⊥
+  not-found : (o : ℕ) → o < heads → nodeIn s o ≡ b → ⊥
   not-found zero l e = let g = rw (eq-eqb (nodeIn s 0) b e) at nothing in omega arith
   not-found (suc zero) l e = let g = rw (eq-eqb (nodeIn s 1) b e) at nothing in omega arith
   not-found (suc (suc zero)) l e = let g = rw (eq-eqb (nodeIn s 2) b e) at nothing in omega arith
@@ -99,13 +99,13 @@ module _ (s : List ℕ) (b : ℕ) (h : 4 ≤ findOf s b) where
   not-found (suc (suc (suc (suc o)))) l e = let z : ⊥ = omega arith in z
 
 -- where the tests go the same way, the same block is found
-find-same : (s t : List ℕ) (b : ℕ) → ((o : ℕ) → o < 4 → eqb (nodeIn t o) b ≡ eqb (nodeIn s o) b) → findOf t b ≡ findOf s b
+find-same : (s t : List ℕ) (b : ℕ) → ((o : ℕ) → o < heads → eqb (nodeIn t o) b ≡ eqb (nodeIn s o) b) → findOf t b ≡ findOf s b
 unfolding findOf
 find-same s t b f = rw (f 0 (omega arith), f 1 (omega arith), f 2 (omega arith), f 3 (omega arith))
 
 -- ---- by node ID
 
-module _ (s : List ℕ) (i : ℕ) (size : length s ≡ 5184) (real : 0 < i) (free : findOf s 0 < 4) where
+module _ (s : List ℕ) (i : ℕ) (size : length s ≡ collectorLength) (real : 0 < i) (free : findOf s 0 < heads) where
   -- another node keeps its block
   slot-other : (j : ℕ) → (j ≡ i → ⊥) → slotOf (placedBytes s (findOf s 0) i) j ≡ slotOf s j
   unfolding slotOf
@@ -115,7 +115,7 @@ module _ (s : List ℕ) (i : ℕ) (size : length s ≡ 5184) (real : 0 < i) (fre
       ⊎-elim
       (λ (z : j ≡ 0). rw (eq-eqb j 0 z))
       (λ (nz : j ≡ 0 → ⊥).
-      ap (pick (eqb j 0) 4)
+      ap (pick (eqb j 0) heads)
       (find-same s t j
       (λ o l.
       ⊎-elim
@@ -127,7 +127,7 @@ module _ (s : List ℕ) (i : ℕ) (size : length s ≡ 5184) (real : 0 < i) (fre
       (eq-or-ne o k))))
       (eq-or-ne j 0)
 
-  module _ (unknown : 4 ≤ findOf s i) where
+  module _ (unknown : heads ≤ findOf s i) where
     -- the new node's block is the one that was free
     slot-new : slotOf (placedBytes s (findOf s 0) i) i ≡ findOf s 0
     slot-new =

@@ -7,7 +7,7 @@ use mathlib.Core.Option.{Option, none, some}
 use mathlib.Core.Path.{_≡_, refl}
 use lib.ListN.{length}
 use lib.Dec.{leb, ltb}
-use Rattle.types.specs.Causes.{Cause, row}
+use Rattle.types.specs.Causes.{row}
 use Rattle.types.specs.Codes.{need, pick}
 use Rattle.types.specs.declared.hal.PowerlinkError.the-variants.{BufferTooShort}
 use Rattle.section.specs.Write.{writeAnswer}
@@ -18,7 +18,7 @@ use Rattle.status_response.specs.Fields.{readFields}
 use Rattle.status_response.specs.Steps.{statusEntries}
 use Rattle.status_response.specs.declared.fields.StatusAnswer.{StatusAnswer}
 use Rattle.status_response.specs.declared.fields.StatusAnswer.the-variants as status
-use Rattle.collector.specs.Rules.{Account, Box, registerVacant, registerAnswer, registerCause, registeredRow, registerRow, bookAnswer, statusAnswer, accountAnswer, heardIn, heardAnswer, statusPayload, readAnswer, readCause, statusRow, accountRow, heardRow, readRow, asRequest, requestFrame, requestAnswer, requestCause, requestRow, takeAnswer, takeFirst, takeCause, takeRow, bookRow}
+use Rattle.collector.specs.Rules.{bookLength, Account, Box, registerVacant, registerAnswer, registerCause, registeredRow, registerRow, bookAnswer, statusAnswer, accountAnswer, heardIn, heardAnswer, statusPayload, readAnswer, readCause, statusRow, accountRow, heardRow, readRow, asRequest, requestAnswer, requestCause, requestRow, takeAnswer, takeFirst, takeCause, takeRow, bookRow}
 use Rattle.collector.specs.declared.ReadAnswer.the-variants.{Booked, Known, BookFull}
 use Rattle.collector.specs.declared.RegisterAnswer.the-variants.{Registered, IdOutOfRange, Full}
 use Rattle.collector.specs.declared.RequestFields.{RequestFields}
@@ -50,7 +50,7 @@ book-by false false = refl
 status-row : (s : StatusAnswer) (es : List ErrorEntry) (p : Account) → readCause (statusAnswer s es p) ≡ statusRow s es p
 unfolding bookAnswer
 status-row (status.Refused e) es p = refl
-status-row (status.Status f) es p = book-by (Bool·beq (f .«en_flag») (p .ea)) (leb (length (p .book) + length es) 64)
+status-row (status.Status f) es p = book-by (Bool·beq (f .«en_flag») (p .ea)) (leb (length (p .book) + length es) bookLength)
 
 account-row : (payload : List ℕ) (o : Option Account) → readCause (accountAnswer payload o) ≡ accountRow payload o
 account-row payload none = refl

@@ -8,8 +8,8 @@ use mathlib.Core.List.{List}
 use lib.ListN.{length}
 use Rattle.types.specs.declared.NodeId.{NodeId}
 use Rattle.status_response.specs.Steps.{statusEntries}
-use Rattle.collector.specs.Layout.{boxOf, accountOf, accountIn, slotOf, freshBytes, registerBytes, readBytes, bookedBytes, bookingBytes, takeBytes}
-use Rattle.collector.specs.Rules.{Box, freshBox, Same, registerAnswer, registerCause, registerRow, afterRegister, bookAnswer, accountAnswer, readAnswer, readCause, readRow, afterRead, flagsAnswer, flagsCause, flagsRow, requestAnswer, requestCause, requestRow, requestFrame, afterRequest, takeAnswer, takeCause, takeRow, afterTake}
+use Rattle.collector.specs.Layout.{boxOf, accountOf, accountIn, freshBytes, registerBytes, readBytes, bookedBytes, bookingBytes, takeBytes}
+use Rattle.collector.specs.Rules.{freshBox, Same, registerAnswer, registerCause, registerRow, afterRegister, bookAnswer, accountAnswer, readAnswer, readCause, readRow, afterRead, flagsAnswer, flagsCause, flagsRow, requestAnswer, requestCause, requestRow, requestFrame, afterRequest, takeAnswer, takeCause, takeRow, afterTake}
 use Rattle.collector.specs.declared.FlagsAnswer.{FlagsAnswer}
 use Rattle.collector.specs.declared.ReadAnswer.{ReadAnswer}
 use Rattle.collector.specs.declared.ReadAnswer.the-variants.{Booked, Known, Refused, NotStatusResponse, NotRegistered, BookFull}

@@ -11,11 +11,11 @@ use lib.Dec.{eqb, ltb}
 use Rattle.types.specs.Codes.{pick}
 use Rattle.codec.specs.Frame.{readFrame}
 use Rattle.error_entry.specs.declared.ErrorEntry.{ErrorEntry}
-use Rattle.records.specs.Records.{recordLength, recordAt, withRecord}
+use Rattle.records.specs.Records.{entryLength, recordAt, withRecord}
 use Rattle.records.specs.Ring.{ring}
 use Rattle.status_response.specs.Fields.{readFields}
 use Rattle.status_response.specs.Steps.{statusEntries}
-use Rattle.collector.specs.Rules.{Account, Box, heardIn, enIn, statusPayload}
+use Rattle.collector.specs.Rules.{heads, bookLength, Account, Box, heardIn, enIn, statusPayload}
 use Rattle.collector.specs.declared.ReadAnswer.{ReadAnswer}
 use Rattle.collector.specs.declared.ReadAnswer.the-variants.{Booked, Known, Refused, NotStatusResponse, NotRegistered, BookFull}
 use Rattle.collector.specs.declared.RegisterAnswer.{RegisterAnswer}
@@ -25,53 +25,78 @@ use Rattle.collector.specs.declared.TakeAnswer.the-variants as taking
 use Rattle.collector.specs.declared.reading.Heard.{Heard}
 use Rattle.collector.specs.declared.reading.Heard.the-variants as heard
 
--- a block of each node: octet 0 the node ID (0: the block is free), 1 EA, 2 the book's start, 3 its count, 4 to 15 spare, then 64 records
+-- ---- where the octets stand: a block for each head, then the box's own; in a block its control octets, then its book's records
+
+-- the octets of the box as a whole, behind the blocks: none
+abbrev pub boxLength : ℕ
+boxLength = 0
+
+-- the control octets of a block: the node ID (0: the block is free), EA, the book's start and its count; the others are spare
+abbrev pub controlLength : ℕ
+controlLength = 16
+
+abbrev pub nodeAt : ℕ
+nodeAt = 0
+
+abbrev pub eaAt : ℕ
+eaAt = 1
+
+abbrev pub startAt : ℕ
+startAt = 2
+
+abbrev pub countAt : ℕ
+countAt = 3
+
+-- a record of a book: the entry
+abbrev pub recordLength : ℕ
+recordLength = entryLength
+
 abbrev pub blockLength : ℕ
-blockLength = 1296
+blockLength = controlLength + recordLength * bookLength
 
 abbrev pub collectorLength : ℕ
-collectorLength = 5184
+collectorLength = blockLength * heads + boxLength
 
 abbrev pub block : ℕ → ℕ
 block k = blockLength * k
 
 unfoldable pub nodeIn : List ℕ → ℕ → ℕ
-nodeIn s k = getD s (block k) 0
+nodeIn s k = getD s (block k + nodeAt) 0
 
--- the first block whose node ID is i, or 4
+-- the first block whose node ID is i, or `heads`
 unfoldable pub findOf : List ℕ → ℕ → ℕ
 findOf s i =
-    pick (eqb (nodeIn s 0) i) 0 (pick (eqb (nodeIn s 1) i) 1 (pick (eqb (nodeIn s 2) i) 2 (pick (eqb (nodeIn s 3) i) 3 4)))
+    pick (eqb (nodeIn s 0) i) 0 (pick (eqb (nodeIn s 1) i) 1 (pick (eqb (nodeIn s 2) i) 2 (pick (eqb (nodeIn s 3) i) 3 heads)))
 
--- the block of a registered node, or 4
+-- the block of a registered node, or `heads`
 unfoldable pub slotOf : List ℕ → ℕ → ℕ
-slotOf s i = pick (eqb i 0) 4 (findOf s i)
+slotOf s i = pick (eqb i 0) heads (findOf s i)
 
 unfoldable pub eaIn : List ℕ → ℕ → Bool
-eaIn s k = eqb (getD s (block k + 1) 0 % 2) 1
+eaIn s k = eqb (getD s (block k + eaAt) 0 % 2) 1
 
 unfoldable pub startIn : List ℕ → ℕ → ℕ
-startIn s k = getD s (block k + 2) 0 % 64
+startIn s k = getD s (block k + startAt) 0 % bookLength
 
 unfoldable pub countIn : List ℕ → ℕ → ℕ
-countIn s k = min (getD s (block k + 3) 0) 64
+countIn s k = min (getD s (block k + countAt) 0) bookLength
 
 -- where the record at a place of a book's ring begins
 abbrev pub recordPlace : ℕ → ℕ → ℕ
-recordPlace k p = block k + 16 + recordLength * (p % 64)
+recordPlace k p = block k + controlLength + recordLength * (p % bookLength)
 
 abbrev pub entryIn : List ℕ → ℕ → ℕ → ErrorEntry
 entryIn s k p = recordAt s (recordPlace k p)
 
 -- the book in a block, oldest first
 unfoldable pub bookIn : List ℕ → ℕ → List ErrorEntry
-bookIn s k = ring (entryIn s k) 64 (startIn s k) (countIn s k)
+bookIn s k = ring (entryIn s k) bookLength (startIn s k) (countIn s k)
 
 abbrev pub accountIn : List ℕ → ℕ → Account
 accountIn s k = record { ea = eaIn s k; book = bookIn s k }
 
 unfoldable pub accountOf : List ℕ → ℕ → Option Account
-accountOf s i = pick (ltb (slotOf s i) 4) (some (accountIn s (slotOf s i))) none
+accountOf s i = pick (ltb (slotOf s i) heads) (some (accountIn s (slotOf s i))) none
 
 abbrev pub isVacant : List ℕ → ℕ → ℕ
 isVacant s k = pick (eqb (nodeIn s k) 0) 1 0
@@ -89,7 +114,7 @@ freshBytes = replicate collectorLength 0
 
 -- block k is given to node i
 unfoldable pub placedBytes : List ℕ → ℕ → ℕ → List ℕ
-placedBytes s k i = set (set (set (set s (block k) i) (block k + 1) 0) (block k + 2) 0) (block k + 3) 0
+placedBytes s k i = set (set (set (set s (block k + nodeAt) i) (block k + eaAt) 0) (block k + startAt) 0) (block k + countAt) 0
 
 abbrev pub registerBytes : RegisterAnswer → ℕ → List ℕ → List ℕ
 registerBytes Registered i s = placedBytes s (findOf s 0) i
@@ -99,14 +124,14 @@ registerBytes Full i s = s
 
 -- the entry's record behind those of the book
 unfoldable pub pushedBytes : List ℕ → ℕ → ErrorEntry → List ℕ
-pushedBytes s k e = set (withRecord s (recordPlace k (startIn s k + countIn s k)) e) (block k + 3) (countIn s k + 1)
+pushedBytes s k e = set (withRecord s (recordPlace k (startIn s k + countIn s k)) e) (block k + countAt) (countIn s k + 1)
 
 unfoldable pub pushedAll : List ℕ → ℕ → List ErrorEntry → List ℕ
 pushedAll s k [] = s
 pushedAll s k (e ∷ es) = pushedAll (pushedBytes s k e) k es
 
 unfoldable pub bookedBytes : List ℕ → ℕ → Bool → List ErrorEntry → List ℕ
-bookedBytes s k en es = set (pushedAll s k es) (block k + 1) (pick en 1 0)
+bookedBytes s k en es = set (pushedAll s k es) (block k + eaAt) (pick en 1 0)
 
 abbrev pub bookingBytes : Heard → List ℕ → List ℕ → List ℕ
 bookingBytes (heard.Refused e) payload s = s
@@ -124,7 +149,7 @@ readBytes BookFull f s = s
 
 -- the book's start moves past its first record
 unfoldable pub takenBytes : List ℕ → ℕ → List ℕ
-takenBytes s k = set (set s (block k + 2) ((startIn s k + 1) % 64)) (block k + 3) (countIn s k - 1)
+takenBytes s k = set (set s (block k + startAt) ((startIn s k + 1) % bookLength)) (block k + countAt) (countIn s k - 1)
 
 abbrev pub takeBytes : TakeAnswer → ℕ → List ℕ → List ℕ
 takeBytes (taking.Taken e) i s = takenBytes s (slotOf s i)

@@ -43,6 +43,14 @@ use Rattle.collector.specs.declared.TakeAnswer.the-variants as taking
 use Rattle.collector.specs.declared.reading.Heard.{Heard}
 use Rattle.collector.specs.declared.reading.Heard.the-variants as heard
 
+-- "up to four registered heads"
+abbrev pub heads : ℕ
+heads = 4
+
+-- "up to 64 entries"
+abbrev pub bookLength : ℕ
+bookLength = 64
+
 -- what a registered head has: "a bit EA and a book of up to 64 entries", oldest first
 pub record Account : Type 0 where
   pub ea : Bool
@@ -55,7 +63,7 @@ pub record Box : Type 0 where
 
 -- "Fresh: bits 0, all empty"
 abbrev pub freshBox : Box
-freshBox = record { accounts = λ i. none; vacant = 4 }
+freshBox = record { accounts = λ i. none; vacant = heads }
 
 abbrev pub freshAccount : Account
 freshAccount = record { ea = false; book = [] }
@@ -138,7 +146,7 @@ statusPayload f = drop 18 f
 
 -- "EN equal to EA means known"; 12: "fewer free places than batch entries"
 unfoldable pub bookAnswer : Bool → List ErrorEntry → Account → ReadAnswer
-bookAnswer en es p = pick (Bool·beq en (p .ea)) Known (need (leb (length (p .book) + length es) 64) BookFull Booked)
+bookAnswer en es p = pick (Bool·beq en (p .ea)) Known (need (leb (length (p .book) + length es) bookLength) BookFull Booked)
 
 -- the StatusResponse rules, then known, then 12
 abbrev pub statusAnswer : StatusAnswer → List ErrorEntry → Account → ReadAnswer
@@ -170,7 +178,7 @@ readCause BookFull = row 12 []
 abbrev pub statusRow : StatusAnswer → List ErrorEntry → Account → Cause
 statusRow (status.Refused e) es p = causeOf e
 statusRow (status.Status f) es p =
-    pick (Bool·beq (f .«en_flag») (p .ea)) (row 0 []) (need (leb (length (p .book) + length es) 64) (row 12 []) (row 0 []))
+    pick (Bool·beq (f .«en_flag») (p .ea)) (row 0 []) (need (leb (length (p .book) + length es) bookLength) (row 12 []) (row 0 []))
 
 abbrev pub accountRow : List ℕ → Option Account → Cause
 accountRow payload none = row 11 []

@@ -4,8 +4,12 @@ ghost use Prim.Native.Nat.{_+_, _≤_, _<_};
 ghost use lib.ListN.{length, take};
 ghost use Rattle.status_response.specs.Steps.{statusEntries};
 ghost use Rattle.collector.specs.Layout.{countIn, startIn, entryIn, takenBytes, pushedBytes, pushedAll};
+ghost use Rattle.collector.specs.Rules.{heads, bookLength};
 use crate::BLOCK_LEN;
+use crate::COUNT_AT;
 use crate::Collector;
+use crate::PLACES;
+use crate::START_AT;
 use crate::state::count;
 use crate::state::record_place;
 use crate::state::start;
@@ -17,26 +21,26 @@ use status_response::walk::step_from;
 
 // Hands out the oldest entry.
 pub(crate) fn take_first(state: &mut Collector, k: usize) -> ErrorEntry
-    requires { ⌜ (k < 4) × (0 < countIn (now state) k) ⌝ }
+    requires { ⌜ (k < heads) × (0 < countIn (now state) k) ⌝ }
     ensures { λ r. ⌜ (r ≡ entryIn (now (state .entry)) k (startIn (now (state .entry)) k)) × (now (state .exit) ≡ takenBytes (now (state .entry)) k) ⌝ }
 {
     let first = start(state, k);
     let n = count(state, k);
     let e = get(state, record_place(k, first));
-    state[BLOCK_LEN * k + 2] = (first + 1) % 64;
-    state[BLOCK_LEN * k + 3] = n - 1;
+    state[BLOCK_LEN * k + START_AT] = (first + 1) % PLACES;
+    state[BLOCK_LEN * k + COUNT_AT] = n - 1;
     e
 }
 
 // An entry joins the book, last.
 pub(crate) fn push(state: &mut Collector, k: usize, e: ErrorEntry)
-    requires { ⌜ (k < 4) × (countIn (now state) k < 64) ⌝ }
+    requires { ⌜ (k < heads) × (countIn (now state) k < bookLength) ⌝ }
     ensures { λ _. ⌜ (now (state .exit) ≡ pushedBytes (now (state .entry)) k e) × (countIn (now (state .exit)) k ≡ countIn (now (state .entry)) k + 1) ⌝ }
 {
     let n = count(state, k);
     let at = record_place(k, start(state, k) + n);
     put(state, at, e);
-    state[BLOCK_LEN * k + 3] = n + 1;
+    state[BLOCK_LEN * k + COUNT_AT] = n + 1;
 }
 
 // How many entries a payload holds.
@@ -58,7 +62,7 @@ pub(crate) fn count_entries(payload: &[u8]) -> usize
 
 // The first `n` entries of a payload join the book, in order.
 pub(crate) fn push_entries(state: &mut Collector, k: usize, payload: &[u8], n: usize)
-    requires { ⌜ (k < 4) × (n ≤ length (statusEntries (now payload))) × (countIn (now state) k + n ≤ 64) ⌝ }
+    requires { ⌜ (k < heads) × (n ≤ length (statusEntries (now payload))) × (countIn (now state) k + n ≤ bookLength) ⌝ }
     ensures { λ _. ⌜ now (state .exit) ≡ pushedAll (now (state .entry)) k (take n (statusEntries (now (payload .entry)))) ⌝ }
 {
     let mut i = 0usize;

@@ -21,7 +21,7 @@ use octets::slices::tail;
 use reading::Heard;
 use reading::hear;
 use reading::read_status;
-use records::RECORD_LEN;
+use records::ENTRY_LEN;
 use state::NODES;
 use state::count;
 use state::ea;
@@ -35,15 +35,33 @@ use types::basic::MacAddress;
 use types::hal::PowerlinkError;
 use types::states::NmtState;
 
-// The octets of a node's block in front of its records.
-const CONTROL_LEN: usize = 16;
-
 // The entries that a book holds.
 pub const BOOK_LEN: usize = 64;
 
-const BLOCK_LEN: usize = CONTROL_LEN + BOOK_LEN * RECORD_LEN;
+pub const COLLECTOR_LEN: usize = BLOCK_LEN * NODES + BOX_LEN;
 
-pub const COLLECTOR_LEN: usize = 4 * BLOCK_LEN;
+// The octets of the box as a whole, behind the blocks: none.
+const BOX_LEN: usize = 0;
+
+// A node's block: its control octets, then its book's records.
+const BLOCK_LEN: usize = CONTROL_LEN + RECORD_LEN * BOOK_LEN;
+
+const CONTROL_LEN: usize = 16;
+
+// The control octets: the node ID (0: the block is free), EA, the book's start and its count; the others are spare.
+const NODE_AT: usize = 0;
+
+const EA_AT: usize = 1;
+
+const START_AT: usize = 2;
+
+const COUNT_AT: usize = 3;
+
+// A record: the entry.
+const RECORD_LEN: usize = ENTRY_LEN;
+
+// BOOK_LEN, of the type of a start and a count.
+const PLACES: u8 = BOOK_LEN as u8;
 
 // 01's box.
 pub type Collector = [u8; COLLECTOR_LEN];

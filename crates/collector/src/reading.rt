@@ -4,9 +4,12 @@ ghost use Prim.Native.Nat.{_<_};
 ghost use lib.ListN.{length};
 ghost use Rattle.codec.specs.Frame.{readFrame};
 ghost use Rattle.collector.specs.Calls.{Books, ReadsStatus};
-ghost use Rattle.collector.specs.Rules.{heardIn};
+ghost use Rattle.collector.specs.Rules.{heads, heardIn};
+ghost use Rattle.collector.specs.Layout.{collectorLength};
 use crate::BLOCK_LEN;
 use crate::Collector;
+use crate::EA_AT;
+use crate::PLACES;
 use crate::ReadAnswer;
 use crate::book::count_entries;
 use crate::book::push_entries;
@@ -51,7 +54,7 @@ pub(crate) fn hear(buffer: &[u8]) -> Heard
 
 // Reads the StatusResponse of the node `source`.
 pub(crate) fn read_status(state: &mut Collector, source: u8, payload: &[u8]) -> ReadAnswer
-    ensures { λ r. ⌜ ReadsStatus source (now (payload .entry)) r (now (state .entry)) (now (state .exit)) × (length (now (state .entry)) ≡ 5184) ⌝ }
+    ensures { λ r. ⌜ ReadsStatus source (now (payload .entry)) r (now (state .entry)) (now (state .exit)) × (length (now (state .entry)) ≡ collectorLength) ⌝ }
 {
     let k = slot(state, source);
     if NODES <= k {
@@ -67,18 +70,18 @@ pub(crate) fn read_status(state: &mut Collector, source: u8, payload: &[u8]) -> 
 
 // Books the entries of a payload with the bit EN: all of them, or none.
 fn book(state: &mut Collector, k: usize, en: bool, payload: &[u8]) -> ReadAnswer
-    requires { ⌜ k < 4 ⌝ }
+    requires { ⌜ k < heads ⌝ }
     ensures { λ r. ⌜ Books k en (now (payload .entry)) r (now (state .entry)) (now (state .exit)) ⌝ }
 {
     if en == ea(state, k) {
         return ReadAnswer::Known;
     }
     let n = count_entries(payload);
-    let free = (64 - count(state, k)) as usize;
+    let free = (PLACES - count(state, k)) as usize;
     if free < n {
         return ReadAnswer::BookFull;
     }
     push_entries(state, k, payload, n);
-    state[BLOCK_LEN * k + 1] = if en { 1 } else { 0 };
+    state[BLOCK_LEN * k + EA_AT] = if en { 1 } else { 0 };
     ReadAnswer::Booked
 }

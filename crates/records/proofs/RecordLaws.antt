@@ -4,6 +4,7 @@ use Prim.Native.Nat.{ℕ, zero, suc, _+_, _*_, _≤_, _<_}
 use mathlib.Core.Path.{_≡_, refl, sym, ap, _∙_}
 use mathlib.Core.List.{List, [], _∷_}
 use mathlib.Core.Logic.{⊎-elim}
+use native.Mathlib.Nat.{mul-le-mul-left, mul-suc}
 use native.Mathlib.Omega.{arith}
 use lib.ListN.{length, take, drop, getD, set}
 use lib.Seq.{sets, length-sets, getD-drop, getD-set-other}
@@ -15,9 +16,9 @@ use Rattle.error_entry.specs.Entry.{entryTypeOf, entryOf, entryBytes}
 use Rattle.error_entry.specs.ReadBack.{InRange}
 use Rattle.error_entry.specs.declared.ErrorEntry.{ErrorEntry}
 use Rattle.error_entry.proofs.ReadBack.{entry-back}
-use Rattle.records.specs.Records.{recordAt, withRecord}
+use Rattle.records.specs.Records.{entryLength, recordAt, withRecord}
 
--- ---- a record is known by its 20 octets
+-- ---- a record is known by its octets
 
 -- octets in front, of a list that may be too short
 le-front : (n : ℕ) (s : List ℕ) → le (take (suc n) s) ≡ getD s 0 0 + 256 * le (take n (drop 1 s))
@@ -37,12 +38,12 @@ le-same (suc n) s t same =
     one-add : (i : ℕ) → 1 + i ≡ suc i
     one-add i = omega arith
 
-number-same : (s t : List ℕ) → ((i : ℕ) → i < 20 → getD s i 0 ≡ getD t i 0) → (n at : ℕ) → at + n ≤ 20 → leAt n at s ≡ leAt n at t
+number-same : (s t : List ℕ) → ((i : ℕ) → i < entryLength → getD s i 0 ≡ getD t i 0) → (n at : ℕ) → at + n ≤ entryLength → leAt n at s ≡ leAt n at t
 unfolding leAt
 number-same s t same n at h =
     le-same n (drop at s) (drop at t) (λ i l. getD-drop at s i 0 ∙ same (at + i) (omega arith) ∙ sym (getD-drop at t i 0))
 
-entry-same : (s t : List ℕ) → ((i : ℕ) → i < 20 → getD s i 0 ≡ getD t i 0) → entryOf s ≡ entryOf t
+entry-same : (s t : List ℕ) → ((i : ℕ) → i < entryLength → getD s i 0 ≡ getD t i 0) → entryOf s ≡ entryOf t
 unfolding entryOf
 entry-same s t same =
     rw (
@@ -53,7 +54,7 @@ entry-same s t same =
       number-same s t same 8 12 (omega arith),
     )
 
-pub record-same-octets : (s t : List ℕ) (at : ℕ) → ((i : ℕ) → at ≤ i → i < at + 20 → getD s i 0 ≡ getD t i 0) → recordAt s at ≡ recordAt t at
+pub record-same-octets : (s t : List ℕ) (at : ℕ) → ((i : ℕ) → at ≤ i → i < at + entryLength → getD s i 0 ≡ getD t i 0) → recordAt s at ≡ recordAt t at
 unfolding recordAt
 record-same-octets s t at same =
     entry-same (drop at s) (drop at t)
@@ -61,7 +62,7 @@ record-same-octets s t at same =
 
 -- ---- octets that a put leaves
 
-pub bytes-length : (e : ErrorEntry) → length (entryBytes e) ≡ 20
+pub bytes-length : (e : ErrorEntry) → length (entryBytes e) ≡ entryLength
 unfolding entryBytes
 bytes-length e = refl
 
@@ -82,37 +83,41 @@ module _ (s : List ℕ) (at : ℕ) (e : ErrorEntry) where
   unfolding withRecord
   octet-record i h = sets-below (entryBytes e) s at i h
 
-  pub octet-record-above : (i : ℕ) → at + 20 ≤ i → getD (withRecord s at e) i 0 ≡ getD s i 0
+  pub octet-record-above : (i : ℕ) → at + entryLength ≤ i → getD (withRecord s at e) i 0 ≡ getD s i 0
   unfolding withRecord
   octet-record-above i h = sets-above (entryBytes e) s at i (omega (arith, bytes-length e))
 
   -- ---- records
 
-  pub record-same : at + 20 ≤ length s → InRange e → recordAt (withRecord s at e) at ≡ e
+  pub record-same : at + entryLength ≤ length s → InRange e → recordAt (withRecord s at e) at ≡ e
   unfolding recordAt withRecord
   record-same fits range =
       ap entryOf (drop-sets s at (entryBytes e) (omega (arith, bytes-length e))) ∙ entry-back e (drop (at + length (entryBytes e)) s) range
 
-  pub record-below : (b : ℕ) → b + 20 ≤ at → recordAt (withRecord s at e) b ≡ recordAt s b
+  pub record-below : (b : ℕ) → b + entryLength ≤ at → recordAt (withRecord s at e) b ≡ recordAt s b
   record-below b h = record-same-octets (withRecord s at e) s b (λ i l m. octet-record i (omega arith))
 
-  pub record-above : (b : ℕ) → at + 20 ≤ b → recordAt (withRecord s at e) b ≡ recordAt s b
+  pub record-above : (b : ℕ) → at + entryLength ≤ b → recordAt (withRecord s at e) b ≡ recordAt s b
   record-above b h = record-same-octets (withRecord s at e) s b (λ i l m. octet-record-above i (omega arith))
 
--- of records side by side, from a base on, another one is as it was
-pub record-other : (s : List ℕ) (e : ErrorEntry) (base i j : ℕ) → (j ≡ i → ⊥)
-    → recordAt (withRecord s (base + 20 * i) e) (base + 20 * j) ≡ recordAt s (base + 20 * j)
-record-other s e base i j ne =
+-- of records side by side, from a base on and of any width that an entry has room in, another one is as it was
+pub record-other : (s : List ℕ) (e : ErrorEntry) (base width i j : ℕ) → entryLength ≤ width → (j ≡ i → ⊥)
+    → recordAt (withRecord s (base + width * i) e) (base + width * j) ≡ recordAt s (base + width * j)
+record-other s e base width i j wide ne =
     ⊎-elim
-    (λ (h : j ≤ i). record-below s (base + 20 * i) e (base + 20 * j) (omega arith))
-    (λ (h : i < j). record-above s (base + 20 * i) e (base + 20 * j) (omega arith))
+    (λ (h : j ≤ i).
+    let m : width * suc j ≤ width * i = mul-le-mul-left width (omega arith) in
+    record-below s (base + width * i) e (base + width * j) (omega (arith, mul-suc width j)))
+    (λ (h : i < j).
+    let m : width * suc i ≤ width * j = mul-le-mul-left width (omega arith) in
+    record-above s (base + width * i) e (base + width * j) (omega (arith, mul-suc width i)))
     (le-or-lt j i)
 
 module _ (s : List ℕ) (i x at : ℕ) where
   pub record-set : i < at → recordAt (set s i x) at ≡ recordAt s at
   record-set h = record-same-octets (set s i x) s at (λ j l m. getD-set-other s i j x 0 (omega arith))
 
-  pub record-set-above : at + 20 ≤ i → recordAt (set s i x) at ≡ recordAt s at
+  pub record-set-above : at + entryLength ≤ i → recordAt (set s i x) at ≡ recordAt s at
   record-set-above h = record-same-octets (set s i x) s at (λ j l m. getD-set-other s i j x 0 (omega arith))
 
 -- what is read from octets is of the widths

@@ -7,9 +7,9 @@ use lib.Seq.{sets}
 use Rattle.error_entry.specs.Entry.{entryOf, entryBytes}
 use Rattle.error_entry.specs.declared.ErrorEntry.{ErrorEntry}
 
--- the octets that one entry takes
-abbrev pub recordLength : ℕ
-recordLength = 20
+-- the octets that one entry takes; a record of a store may have more
+abbrev pub entryLength : ℕ
+entryLength = 20
 
 unfoldable pub recordAt : List ℕ → ℕ → ErrorEntry
 recordAt s at = entryOf (drop at s)

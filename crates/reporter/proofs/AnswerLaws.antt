@@ -17,7 +17,7 @@ use Rattle.status_response.specs.Fields.{headBytes}
 use Rattle.status_response.specs.Steps.{statusBytes}
 use Rattle.status_response.specs.declared.fields.StatusFields.{StatusFields}
 use Rattle.reporter.specs.Calls.{Answers}
-use Rattle.reporter.specs.Layout.{headOf, carriedIn, firstFour, answerBytes}
+use Rattle.reporter.specs.Layout.{idAt, headOf, carriedIn, firstFour, answerBytes}
 use Rattle.reporter.specs.Rules.{opened, statusFields, answerPayload, answerASnd, answerFrame, afterAnswer}
 use Rattle.reporter.specs.declared.AnswerFields.{AnswerFields}
 use Rattle.reporter.proofs.Answering.{payload-length}
@@ -66,7 +66,7 @@ module _ (f : AnswerFields) (s : List ℕ) where
         let l : length (take (34 + 20 * n) p) ≡ min (34 + 20 * n) (length p) = length-take (34 + 20 * n) p in
         omega (arith, payload-there)
 
-    pub frame-writes : (a : NewASndFrame) (t after : List ℕ) (r : WriteAnswer) → a ≡ answerASnd f (getD s 0 0)
+    pub frame-writes : (a : NewASndFrame) (t after : List ℕ) (r : WriteAnswer) → a ≡ answerASnd f (getD s idAt 0)
         → Writes (frameBytes (a .«eth_header») (ASnd (a .frame)) (take (34 + 20 * n) p)) r t after → Writes (answerFrame f (opened (headOf s))) r t after
     unfolding answerFrame
     frame-writes a t after r ea w =

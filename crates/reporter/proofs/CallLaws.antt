@@ -11,8 +11,8 @@ use Rattle.types.specs.declared.NodeId.{NodeId}
 use Rattle.error_entry.specs.declared.ErrorEntry.{ErrorEntry}
 use Rattle.codec.specs.Frame.{readFrame}
 use Rattle.reporter.specs.Calls.{Makes, Raises, Acknowledges, Reads}
-use Rattle.reporter.specs.Layout.{enOf, openOf, waitingOf, headOf, newBytes, raiseBytes, readBytes}
-use Rattle.reporter.specs.Rules.{newAnswer, newCause, isRaisable, raiseAnswer, raiseCause, heardIn, eaAnswer, heardAnswer, readCause, afterRead}
+use Rattle.reporter.specs.Layout.{reporterLength, enOf, openOf, waitingOf, headOf, newBytes, raiseBytes, readBytes}
+use Rattle.reporter.specs.Rules.{queueLength, newAnswer, newCause, isRaisable, raiseAnswer, raiseCause, heardIn, eaAnswer, heardAnswer, readCause, afterRead}
 use Rattle.reporter.specs.declared.NewAnswer.the-variants.{Made, IdOutOfRange}
 use Rattle.reporter.specs.declared.RaiseAnswer.the-variants.{Raised, EntryInvalid, QueueFull}
 use Rattle.reporter.specs.declared.ReadAnswer.{ReadAnswer}
@@ -50,13 +50,13 @@ module _ (e : ErrorEntry) (s : List ℕ) where
     raise-invalid h = rw (sym eb ∙ h)
 
     module _ (n : ℕ) (h : b ≡ true) (en : n ≡ waitingOf s) where
-      pub raise-full : 16 ≤ n → QueueFull ≡ raiseAnswer e (headOf s)
+      pub raise-full : queueLength ≤ n → QueueFull ≡ raiseAnswer e (headOf s)
       unfolding raiseAnswer
-      raise-full l = rw (sym eb ∙ h, waiting-length s, ← en, le-ltb n 16 l)
+      raise-full l = rw (sym eb ∙ h, waiting-length s, ← en, le-ltb n queueLength l)
 
-      pub raise-good : n < 16 → Raised ≡ raiseAnswer e (headOf s)
+      pub raise-good : n < queueLength → Raised ≡ raiseAnswer e (headOf s)
       unfolding raiseAnswer
-      raise-good l = rw (sym eb ∙ h, waiting-length s, ← en, lt-ltb n 16 l)
+      raise-good l = rw (sym eb ∙ h, waiting-length s, ← en, lt-ltb n queueLength l)
 
   pub invalid : EntryInvalid ≡ raiseAnswer e (headOf s) → Raises e EntryInvalid s s
   invalid r = record { answer = r; cause = ap raiseCause r ∙ raise-row e (headOf s); head = refl; bytes = refl }
@@ -64,14 +64,14 @@ module _ (e : ErrorEntry) (s : List ℕ) where
   pub full : QueueFull ≡ raiseAnswer e (headOf s) → Raises e QueueFull s s
   full r = record { answer = r; cause = ap raiseCause r ∙ raise-row e (headOf s); head = refl; bytes = refl }
 
-  pub raised : (after : List ℕ) → length s ≡ 408 → Widths e → Raised ≡ raiseAnswer e (headOf s) → after ≡ raiseBytes Raised e s → Raises e Raised s after
+  pub raised : (after : List ℕ) → length s ≡ reporterLength → Widths e → Raised ≡ raiseAnswer e (headOf s) → after ≡ raiseBytes Raised e s → Raises e Raised s after
   raised after size w r b =
       record { answer = r; cause = ap raiseCause r ∙ raise-row e (headOf s); head = ap headOf b ∙ rw (← r) at (raises-means e s size w); bytes = b }
 
 -- ---- reading
 
 module _ (ea : Bool) (s : List ℕ) where
-  pub acknowledges : length s ≡ 408 → (r : ReadAnswer) → r ≡ eaAnswer ea (headOf s) → (after : List ℕ) → after ≡ readBytes r s → Acknowledges ea r s after
+  pub acknowledges : length s ≡ reporterLength → (r : ReadAnswer) → r ≡ eaAnswer ea (headOf s) → (after : List ℕ) → after ≡ readBytes r s → Acknowledges ea r s after
   acknowledges size r e after b = record { answer = e; head = ap headOf b ∙ reads-means s size r; bytes = b }
 
   module _ (n : ℕ) (eo : n ≡ openOf s) where

@@ -15,8 +15,8 @@ use Rattle.error_entry.specs.declared.ErrorEntry.{ErrorEntry}
 use Rattle.records.specs.Ring.{ring}
 use Rattle.records.proofs.RingLaws.{length-ring, ring-take}
 use Rattle.status_response.specs.Steps.{unlessTerminator}
-use Rattle.reporter.specs.Layout.{enOf, startOf, openOf, waitingOf, entryIn, headOf, newBytes, raiseBytes, opensIn, carriedIn, firstFour, openedBytes, readBytes}
-use Rattle.reporter.specs.Rules.{Head, freshHead, isRaisable, raiseAnswer, afterRaise, opened, answerFrame, answerLength, afterRead}
+use Rattle.reporter.specs.Layout.{reporterLength, places, enOf, startOf, openOf, waitingOf, entryIn, headOf, newBytes, raiseBytes, opensIn, carriedIn, firstFour, openedBytes, readBytes}
+use Rattle.reporter.specs.Rules.{queueLength, batchLength, Head, freshHead, isRaisable, raiseAnswer, afterRaise, opened, answerFrame, answerLength, afterRead}
 use Rattle.reporter.specs.declared.AnswerFields.{AnswerFields}
 use Rattle.reporter.specs.declared.NewAnswer.the-variants.{Made}
 use Rattle.reporter.specs.declared.RaiseAnswer.{RaiseAnswer}
@@ -35,10 +35,10 @@ either false f g = g refl
 
 -- ---- the bounds of a head
 
-pub batch-small : (s : List ℕ) → length (headOf s .batch) ≤ 4
+pub batch-small : (s : List ℕ) → length (headOf s .batch) ≤ batchLength
 batch-small s = rw (batch-length s) (open-small s)
 
-pub waiting-few : (s : List ℕ) → length (headOf s .waiting) ≤ 16
+pub waiting-few : (s : List ℕ) → length (headOf s .waiting) ≤ queueLength
 waiting-few s = rw (waiting-length s) (waiting-small s)
 
 -- ---- a new head
@@ -47,7 +47,7 @@ pub made : (i : ℕ) (s : List ℕ) → headOf (newBytes Made i s) ≡ freshHead
 unfolding headOf enOf startOf openOf waitingOf ring
 made i s = refl
 
-pub new-length : (i : ℕ) (s : List ℕ) → length (newBytes Made i s) ≡ 408
+pub new-length : (i : ℕ) (s : List ℕ) → length (newBytes Made i s) ≡ reporterLength
 new-length i s = refl
 
 -- ---- Raise
@@ -82,14 +82,14 @@ module _ (e : ErrorEntry) (s : List ℕ) where
   raises-length EntryInvalid = refl
   raises-length QueueFull = refl
 
-  pub raises-means : length s ≡ 408 → Widths e
+  pub raises-means : length s ≡ reporterLength → Widths e
       → headOf (raiseBytes (raiseAnswer e (headOf s)) e s) ≡ afterRaise (raiseAnswer e (headOf s)) e (headOf s)
   unfolding raiseAnswer
   raises-means size w =
       either (isRaisable e)
       (λ p.
-      either (ltb (length (headOf s .waiting)) 16)
-      (λ q. rw (p, q) (raised-means s e size (omega (arith, ltb-true (length (headOf s .waiting)) 16 q, waiting-length s)) (raisable-range e w p)))
+      either (ltb (length (headOf s .waiting)) queueLength)
+      (λ q. rw (p, q) (raised-means s e size (omega (arith, ltb-true (length (headOf s .waiting)) queueLength q, waiting-length s)) (raisable-range e w p)))
       (λ q. rw (p, q)))
       (λ p. rw p)
 
@@ -99,20 +99,20 @@ module _ (s : List ℕ) where
   pub opens-length : length (openedBytes s) ≡ length s
   opens-length = either (opensIn s) (opened-length s) (kept-length s)
 
-  pub opens-means : length s ≡ 408 → headOf (openedBytes s) ≡ opened (headOf s)
+  pub opens-means : length s ≡ reporterLength → headOf (openedBytes s) ≡ opened (headOf s)
   opens-means size = either (opensIn s) (λ e. opened-means s e size) (kept-means s)
 
-  batch-carried : opened (headOf s) .batch ≡ ring (entryIn s) 20 (startOf s) (carriedIn s)
+  batch-carried : opened (headOf s) .batch ≡ ring (entryIn s) places (startOf s) (carriedIn s)
   batch-carried = either (opensIn s) (λ e. rw (carried-few s e) (batch-opened s e)) (batch-kept s)
 
-  pub carried-small : carriedIn s ≤ 4
+  pub carried-small : carriedIn s ≤ batchLength
   carried-small = either (opensIn s) (λ e. rw (carried-few s e) (omega arith)) (λ e. rw (carried-open s e) (open-small s))
 
   pub carried-length : length (opened (headOf s) .batch) ≡ carriedIn s
-  carried-length = rw batch-carried (length-ring (entryIn s) 20 (startOf s) (carriedIn s))
+  carried-length = rw batch-carried (length-ring (entryIn s) places (startOf s) (carriedIn s))
 
   pub carried-batch : opened (headOf s) .batch ≡ take (carriedIn s) (firstFour s)
-  carried-batch = batch-carried ∙ sym (ring-take (entryIn s) 20 (startOf s) (carriedIn s) 4 carried-small)
+  carried-batch = batch-carried ∙ sym (ring-take (entryIn s) places (startOf s) (carriedIn s) batchLength carried-small)
 
 by-count : (n : ℕ) → 14 + (4 + (34 + 20 * n) + (46 - (4 + (34 + 20 * n)))) ≡ answerLength n
 by-count zero = refl
@@ -130,7 +130,7 @@ module _ (s : List ℕ) where
   reads-length Ignored = refl
   reads-length (Refused e) = refl
 
-  pub reads-means : length s ≡ 408 → (r : ReadAnswer) → headOf (readBytes r s) ≡ afterRead r (headOf s)
+  pub reads-means : length s ≡ reporterLength → (r : ReadAnswer) → headOf (readBytes r s) ≡ afterRead r (headOf s)
   reads-means size Closed = closed-means s size
   reads-means size Kept = refl
   reads-means size Ignored = refl

@@ -13,15 +13,15 @@ use Rattle.records.specs.Records.{withRecord}
 use Rattle.records.specs.Ring.{ring}
 use Rattle.records.proofs.RecordLaws.{octet-record, length-record}
 use Rattle.records.proofs.RingLaws.{ring-same, ring-snoc}
-use Rattle.reporter.specs.Layout.{enOf, startOf, openOf, waitingOf, recordPlace, entryIn, headOf, raisedBytes}
-use Rattle.reporter.specs.Rules.{afterRaise}
+use Rattle.reporter.specs.Layout.{waitingAt, openAt, startAt, enAt, idAt, reporterLength, places, controlLength, enOf, startOf, openOf, waitingOf, recordPlace, entryIn, headOf, raisedBytes}
+use Rattle.reporter.specs.Rules.{queueLength, batchLength, afterRaise}
 use Rattle.reporter.specs.declared.RaiseAnswer.the-variants.{Raised}
 use Rattle.reporter.proofs.Entries.{entry-set, entry-other, entry-there}
 use Rattle.reporter.proofs.Ranges.{open-small, waiting-of, head-same}
 
 -- one more waits, where fewer than 16 did
-module _ (s : List ℕ) (room : waitingOf s < 16) where
-  clamped : (t : List ℕ) → getD t 4 0 ≡ waitingOf s + 1 → waitingOf t ≡ suc (waitingOf s)
+module _ (s : List ℕ) (room : waitingOf s < queueLength) where
+  clamped : (t : List ℕ) → getD t waitingAt 0 ≡ waitingOf s + 1 → waitingOf t ≡ suc (waitingOf s)
   clamped t e = rw (waiting-of t, e) (omega arith)
 
 module _ (s : List ℕ) (e : ErrorEntry) where
@@ -31,57 +31,57 @@ module _ (s : List ℕ) (e : ErrorEntry) where
   abbrev put : List ℕ
   put = withRecord s (recordPlace place) e
 
-  octet-kept : (i : ℕ) → i < 8 → (i ≡ 4 → ⊥) → getD (raisedBytes e s) i 0 ≡ getD s i 0
+  octet-kept : (i : ℕ) → i < controlLength → (i ≡ waitingAt → ⊥) → getD (raisedBytes e s) i 0 ≡ getD s i 0
   unfolding raisedBytes
-  octet-kept i h ne = getD-set-other put 4 i (waitingOf s + 1) 0 ne ∙ octet-record s (recordPlace place) e i (omega arith)
+  octet-kept i h ne = getD-set-other put waitingAt i (waitingOf s + 1) 0 ne ∙ octet-record s (recordPlace place) e i (omega arith)
 
   start-kept : startOf (raisedBytes e s) ≡ startOf s
   unfolding startOf
-  start-kept = ap (λ (x : ℕ). x % 20) (octet-kept 2 (omega arith) (omega arith))
+  start-kept = ap (λ (x : ℕ). x % places) (octet-kept startAt (omega arith) (omega arith))
 
   open-kept : openOf (raisedBytes e s) ≡ openOf s
   unfolding openOf
-  open-kept = ap (λ (x : ℕ). min x 4) (octet-kept 3 (omega arith) (omega arith))
+  open-kept = ap (λ (x : ℕ). min x batchLength) (octet-kept openAt (omega arith) (omega arith))
 
   en-kept : enOf (raisedBytes e s) ≡ enOf s
   unfolding enOf
-  en-kept = ap (λ (x : ℕ). eqb (x % 2) 1) (octet-kept 1 (omega arith) (omega arith))
+  en-kept = ap (λ (x : ℕ). eqb (x % 2) 1) (octet-kept enAt (omega arith) (omega arith))
 
   pub raised-length : length (raisedBytes e s) ≡ length s
   unfolding raisedBytes
-  raised-length = length-set put 4 (waitingOf s + 1) ∙ length-record s (recordPlace place) e
+  raised-length = length-set put waitingAt (waitingOf s + 1) ∙ length-record s (recordPlace place) e
 
-  module _ (size : length s ≡ 408) (room : waitingOf s < 16) where
+  module _ (size : length s ≡ reporterLength) (room : waitingOf s < queueLength) where
     waiting-more : waitingOf (raisedBytes e s) ≡ suc (waitingOf s)
     unfolding raisedBytes
     waiting-more =
-        let there : getD (set put 4 (waitingOf s + 1)) 4 0 ≡ waitingOf s + 1 =
-        getD-set-same put 4 (waitingOf s + 1) 0 (rw (length-record s (recordPlace place) e) (omega arith)) in
-        clamped s room (set put 4 (waitingOf s + 1)) there
+        let there : getD (set put waitingAt (waitingOf s + 1)) waitingAt 0 ≡ waitingOf s + 1 =
+        getD-set-same put waitingAt (waitingOf s + 1) 0 (rw (length-record s (recordPlace place) e) (omega arith)) in
+        clamped s room (set put waitingAt (waitingOf s + 1)) there
 
-    entry-kept : (a i n : ℕ) → i < n → n < 20 → a + n ≡ place → entryIn (raisedBytes e s) ((a + i) % 20) ≡ entryIn s ((a + i) % 20)
+    entry-kept : (a i n : ℕ) → i < n → n < places → a + n ≡ place → entryIn (raisedBytes e s) ((a + i) % places) ≡ entryIn s ((a + i) % places)
     unfolding raisedBytes
     entry-kept a i n h k q =
-        entry-set put 4 (waitingOf s + 1) ((a + i) % 20) (omega arith)
+        entry-set put waitingAt (waitingOf s + 1) ((a + i) % places) (omega arith)
         ∙ rw q at (entry-other s e a i n h k)
 
-    batch-kept : ring (entryIn (raisedBytes e s)) 20 (startOf s) (openOf s) ≡ ring (entryIn s) 20 (startOf s) (openOf s)
+    batch-kept : ring (entryIn (raisedBytes e s)) places (startOf s) (openOf s) ≡ ring (entryIn s) places (startOf s) (openOf s)
     batch-kept =
-        ring-same (entryIn s) (entryIn (raisedBytes e s)) 20 (startOf s) (openOf s)
+        ring-same (entryIn s) (entryIn (raisedBytes e s)) places (startOf s) (openOf s)
         (λ i h. entry-kept (startOf s) i (openOf s + waitingOf s) (omega arith) (omega (arith, open-small s)) (omega arith))
 
-    waiting-kept : ring (entryIn (raisedBytes e s)) 20 (startOf s + openOf s) (waitingOf s) ≡ ring (entryIn s) 20 (startOf s + openOf s) (waitingOf s)
+    waiting-kept : ring (entryIn (raisedBytes e s)) places (startOf s + openOf s) (waitingOf s) ≡ ring (entryIn s) places (startOf s + openOf s) (waitingOf s)
     waiting-kept =
-        ring-same (entryIn s) (entryIn (raisedBytes e s)) 20 (startOf s + openOf s) (waitingOf s)
+        ring-same (entryIn s) (entryIn (raisedBytes e s)) places (startOf s + openOf s) (waitingOf s)
         (λ i h. entry-kept (startOf s + openOf s) i (waitingOf s) h (omega arith) refl)
 
-    last-is : InRange e → entryIn (raisedBytes e s) (place % 20) ≡ e
+    last-is : InRange e → entryIn (raisedBytes e s) (place % places) ≡ e
     unfolding raisedBytes
-    last-is range = entry-set put 4 (waitingOf s + 1) (place % 20) (omega arith) ∙ entry-there s e place size range
+    last-is range = entry-set put waitingAt (waitingOf s + 1) (place % places) (omega arith) ∙ entry-there s e place size range
 
     pub raised-means : InRange e → headOf (raisedBytes e s) ≡ afterRaise Raised e (headOf s)
     unfolding headOf
     raised-means range =
-        head-same (octet-kept 0 (omega arith) (omega arith)) en-kept
+        head-same (octet-kept idAt (omega arith) (omega arith)) en-kept
         (rw (start-kept, open-kept) batch-kept)
-        (rw (start-kept, open-kept, waiting-more, ring-snoc (entryIn (raisedBytes e s)) 20 (startOf s + openOf s) (waitingOf s), waiting-kept, last-is range))
+        (rw (start-kept, open-kept, waiting-more, ring-snoc (entryIn (raisedBytes e s)) places (startOf s + openOf s) (waitingOf s), waiting-kept, last-is range))

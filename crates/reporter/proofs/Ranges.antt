@@ -11,26 +11,26 @@ use borrow.Author.Tests.{lt-ltb, ne-eqb}
 use Rattle.error_entry.specs.declared.ErrorEntry.{ErrorEntry}
 use Rattle.records.specs.Ring.{ring}
 use Rattle.records.proofs.RingLaws.{length-ring}
-use Rattle.reporter.specs.Layout.{enOf, startOf, openOf, waitingOf, entryIn, headOf}
-use Rattle.reporter.specs.Rules.{Head, isEmpty}
+use Rattle.reporter.specs.Layout.{waitingAt, openAt, places, enOf, startOf, openOf, waitingOf, entryIn, headOf}
+use Rattle.reporter.specs.Rules.{queueLength, batchLength, Head, isEmpty}
 
-pub start-small : (s : List ℕ) → startOf s < 20
+pub start-small : (s : List ℕ) → startOf s < places
 unfolding startOf
 start-small s = omega arith
 
-pub open-small : (s : List ℕ) → openOf s ≤ 4
+pub open-small : (s : List ℕ) → openOf s ≤ batchLength
 unfolding openOf
 open-small s = omega arith
 
-pub waiting-small : (s : List ℕ) → waitingOf s ≤ 16
+pub waiting-small : (s : List ℕ) → waitingOf s ≤ queueLength
 unfolding waitingOf
 waiting-small s = omega arith
 
-pub open-of : (s : List ℕ) → openOf s ≡ min (getD s 3 0) 4
+pub open-of : (s : List ℕ) → openOf s ≡ min (getD s openAt 0) batchLength
 unfolding openOf
 open-of s = refl
 
-pub waiting-of : (s : List ℕ) → waitingOf s ≡ min (getD s 4 0) 16
+pub waiting-of : (s : List ℕ) → waitingOf s ≡ min (getD s waitingAt 0) queueLength
 unfolding waitingOf
 waiting-of s = refl
 
@@ -40,18 +40,18 @@ en-is s = refl
 
 pub batch-length : (s : List ℕ) → length (headOf s .batch) ≡ openOf s
 unfolding headOf
-batch-length s = length-ring (entryIn s) 20 (startOf s) (openOf s)
+batch-length s = length-ring (entryIn s) places (startOf s) (openOf s)
 
 pub waiting-length : (s : List ℕ) → length (headOf s .waiting) ≡ waitingOf s
 unfolding headOf
-waiting-length s = length-ring (entryIn s) 20 (startOf s + openOf s) (waitingOf s)
+waiting-length s = length-ring (entryIn s) places (startOf s + openOf s) (waitingOf s)
 
-empty-ring : (el : ℕ → ErrorEntry) (at n : ℕ) → isEmpty (ring el 20 at n) ≡ eqb n 0
+empty-ring : (el : ℕ → ErrorEntry) (at n : ℕ) → isEmpty (ring el places at n) ≡ eqb n 0
 unfolding ring
 empty-ring el at zero = refl
 empty-ring el at (suc n) = sym (ne-eqb (suc n) 0 (omega arith))
 
-filled-ring : (el : ℕ → ErrorEntry) (at n : ℕ) → not (isEmpty (ring el 20 at n)) ≡ ltb 0 n
+filled-ring : (el : ℕ → ErrorEntry) (at n : ℕ) → not (isEmpty (ring el places at n)) ≡ ltb 0 n
 unfolding ring
 filled-ring el at zero = refl
 filled-ring el at (suc n) = sym (lt-ltb 0 (suc n) (omega arith))

@@ -2,7 +2,7 @@
 -- Assumes nothing.
 use Prim.Native.Nat.{ℕ}
 use mathlib.Core.Bool.{Bool, true, false, not, _&&_, Bool·beq}
-use mathlib.Core.List.{List, []}
+use mathlib.Core.List.{[]}
 use mathlib.Core.Path.{_≡_, refl}
 use lib.ListN.{length}
 use lib.Dec.{leb, ltb, eqb}
@@ -14,11 +14,10 @@ use Rattle.codec.specs.declared.FrameAnswer.the-variants as frame
 use Rattle.error_entry.specs.declared.ErrorEntry.{ErrorEntry}
 use Rattle.frame.specs.declared.PowerlinkFrame.{PowerlinkFrame}
 use Rattle.frame.specs.declared.PowerlinkFrame.the-variants.{Soc, PReq, PRes, SoA, ASnd}
-use Rattle.reporter.specs.Rules.{Head, isEmpty, newAnswer, newCause, newRow, isRaisable, raiseAnswer, raiseCause, raiseRow, eaFor, heardFrame, heardIn, eaAnswer, heardAnswer, readCause}
+use Rattle.reporter.specs.Rules.{queueLength, Head, isEmpty, newAnswer, newCause, newRow, isRaisable, raiseAnswer, raiseCause, raiseRow, eaFor, heardFrame, heardIn, eaAnswer, heardAnswer, readCause}
 use Rattle.reporter.specs.declared.NewAnswer.the-variants.{Made, IdOutOfRange}
 use Rattle.reporter.specs.declared.RaiseAnswer.the-variants.{Raised, EntryInvalid, QueueFull}
 use Rattle.reporter.specs.declared.ReadAnswer.the-variants.{Closed, Kept}
-use Rattle.reporter.specs.declared.acknowledge.Heard.{Heard}
 use Rattle.reporter.specs.declared.acknowledge.Heard.the-variants as heard
 
 new-by : (t : Bool) → newCause (need t IdOutOfRange Made) ≡ need t (row 13 []) (row 0 [])
@@ -35,7 +34,7 @@ raise-by false u = refl
 
 pub raise-row : (e : ErrorEntry) (h : Head) → raiseCause (raiseAnswer e h) ≡ raiseRow e h
 unfolding raiseAnswer
-raise-row e h = raise-by (isRaisable e) (ltb (length (h .waiting)) 16)
+raise-row e h = raise-by (isRaisable e) (ltb (length (h .waiting)) queueLength)
 
 -- what can be read is refused by no head
 

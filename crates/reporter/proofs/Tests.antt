@@ -9,8 +9,8 @@ use lib.ListN.{set}
 use lib.Dec.{ltb}
 use borrow.Author.Tests.{eq-eqb, ne-eqb}
 use Rattle.types.specs.Codes.{pick}
-use Rattle.reporter.specs.Layout.{enOf, openOf, waitingOf, headOf, opensIn, carriedIn, openedBytes}
-use Rattle.reporter.specs.Rules.{opened}
+use Rattle.reporter.specs.Layout.{waitingAt, openAt, enAt, enOf, openOf, waitingOf, headOf, opensIn, carriedIn, openedBytes}
+use Rattle.reporter.specs.Rules.{batchLength, opened}
 use Rattle.reporter.proofs.Opening.{en-opened, carried-few, carried-open, kept-octets}
 use Rattle.reporter.proofs.Ranges.{open-small}
 
@@ -22,15 +22,15 @@ module _ (s : List ℕ) (n : ℕ) where
   opens-by w e h f = rw (eq-eqb (openOf s) 0 (omega arith), f)
 
 module _ (s : List ℕ) (n : ℕ) (b : Bool) (eb : b ≡ opensIn s) where
-  pub carries-open : b ≡ false → n ≡ openOf s → (n ≡ carriedIn s) × (n ≤ 4)
+  pub carries-open : b ≡ false → n ≡ openOf s → (n ≡ carriedIn s) × (n ≤ batchLength)
   carries-open t e = (e ∙ sym (carried-open s (sym eb ∙ t)), omega (arith, open-small s))
 
   module _ (t : b ≡ true) (e : n ≡ waitingOf s) where
-    pub carries-all : n < 4 → (n ≡ carriedIn s) × (n ≤ 4)
-    carries-all h = let f : carriedIn s ≡ min (waitingOf s) 4 = carried-few s (sym eb ∙ t) in (omega arith, omega arith)
+    pub carries-all : n < batchLength → (n ≡ carriedIn s) × (n ≤ batchLength)
+    carries-all h = let f : carriedIn s ≡ min (waitingOf s) batchLength = carried-few s (sym eb ∙ t) in (omega arith, omega arith)
 
-    pub carries-four : 4 ≤ n → (4 ≡ carriedIn s) × (4 ≤ 4)
-    carries-four h = let f : carriedIn s ≡ min (waitingOf s) 4 = carried-few s (sym eb ∙ t) in (omega arith, omega arith)
+    pub carries-four : batchLength ≤ n → (batchLength ≡ carriedIn s) × (batchLength ≤ batchLength)
+    carries-four h = let f : carriedIn s ≡ min (waitingOf s) batchLength = carried-few s (sym eb ∙ t) in (omega arith, omega arith)
 
 -- EN of an answer, by whether it opens a batch
 module _ (s : List ℕ) (en o t : Bool) (ee : en ≡ enOf s) (eo : o ≡ opensIn s) where
@@ -50,8 +50,8 @@ module _ (s : List ℕ) (o : Bool) (eo : o ≡ opensIn s) where
 
   module _ (h : o ≡ true) (n w : ℕ) (en : n ≡ carriedIn s) (ew : w ≡ waitingOf s) where
     pub opens-some : n ≤ w
-    opens-some = let f : carriedIn s ≡ min (waitingOf s) 4 = carried-few s (sym eo ∙ h) in omega arith
+    opens-some = let f : carriedIn s ≡ min (waitingOf s) batchLength = carried-few s (sym eo ∙ h) in omega arith
 
-    pub opens-octets : (x : ℕ) → x ≡ pick (enOf s) 0 1 → set (set (set s 1 x) 3 n) 4 (w - n) ≡ openedBytes s
+    pub opens-octets : (x : ℕ) → x ≡ pick (enOf s) 0 1 → set (set (set s enAt x) openAt n) waitingAt (w - n) ≡ openedBytes s
     unfolding openedBytes
     opens-octets x ex = rw (ex, en, ew, sym eo ∙ h)

@@ -31,6 +31,14 @@ use Rattle.reporter.specs.declared.ReadAnswer.the-variants.{Closed, Kept
 use Rattle.reporter.specs.declared.acknowledge.Heard.{Heard}
 use Rattle.reporter.specs.declared.acknowledge.Heard.the-variants as heard
 
+-- "at most one open batch (1 to 4 entries)"
+abbrev pub batchLength : ℕ
+batchLength = 4
+
+-- "up to 16 waiting entries"
+abbrev pub queueLength : ℕ
+queueLength = 16
+
 -- "A head has a node ID, a bit EN, at most one open batch (1 to 4 entries) and up to 16 waiting entries": no entries, no open batch
 pub record Head : Type 0 where
   pub id : ℕ
@@ -65,7 +73,7 @@ isRaisable e = unlessTerminator (e .«entry_type» .mode) (ltb (e .«entry_type�
 
 -- 8, then 9: "16 already waiting"
 unfoldable pub raiseAnswer : ErrorEntry → Head → RaiseAnswer
-raiseAnswer e h = need (isRaisable e) EntryInvalid (need (ltb (length (h .waiting)) 16) QueueFull Raised)
+raiseAnswer e h = need (isRaisable e) EntryInvalid (need (ltb (length (h .waiting)) queueLength) QueueFull Raised)
 
 abbrev pub raiseCause : RaiseAnswer → Cause
 raiseCause Raised = row 0 []
@@ -73,7 +81,7 @@ raiseCause EntryInvalid = row 8 []
 raiseCause QueueFull = row 9 []
 
 abbrev pub raiseRow : ErrorEntry → Head → Cause
-raiseRow e h = need (isRaisable e) (row 8 []) (need (ltb (length (h .waiting)) 16) (row 9 []) (row 0 []))
+raiseRow e h = need (isRaisable e) (row 8 []) (need (ltb (length (h .waiting)) queueLength) (row 9 []) (row 0 []))
 
 -- "the entry joins the waiting ones, last"
 abbrev pub afterRaise : RaiseAnswer → ErrorEntry → Head → Head
@@ -95,7 +103,7 @@ opens h = isEmpty (h .batch) && not (isEmpty (h .waiting))
 unfoldable pub opened : Head → Head
 opened h =
     pick (opens h)
-    (record { id = h .id; en = not (h .en); batch = take 4 (h .waiting); waiting = drop 4 (h .waiting) })
+    (record { id = h .id; en = not (h .en); batch = take batchLength (h .waiting); waiting = drop batchLength (h .waiting) })
     h
 
 -- the caller's fields, with EN

@@ -3,8 +3,11 @@ ghost use mathlib.Core.Path.{_≡_};
 ghost use Rattle.codec.specs.Frame.{readFrame};
 ghost use Rattle.reporter.specs.Calls.{Acknowledges};
 ghost use Rattle.reporter.specs.Rules.{eaFor, heardFrame, heardIn};
+use crate::OPEN_AT;
+use crate::PLACES;
 use crate::ReadAnswer;
 use crate::Reporter;
+use crate::START_AT;
 use crate::state::en;
 use crate::state::open;
 use crate::state::start;
@@ -68,7 +71,7 @@ pub(crate) fn acknowledge(state: &mut Reporter, ea: bool) -> ReadAnswer
     if en(state) != ea {
         return ReadAnswer::Kept;
     }
-    state[2] = (start(state) + n) % 20;
-    state[3] = 0;
+    state[START_AT] = (start(state) + n) % PLACES;
+    state[OPEN_AT] = 0;
     ReadAnswer::Closed
 }

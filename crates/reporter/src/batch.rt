@@ -4,9 +4,14 @@ ghost use Prim.Native.Nat.{_+_, _*_, _≤_};
 ghost use lib.ListN.{length, take};
 ghost use Rattle.section.specs.Write.{Writes};
 ghost use Rattle.reporter.specs.Layout.{reporterLength, headOf, opensIn, openedBytes, carriedIn, firstFour};
-ghost use Rattle.reporter.specs.Rules.{opened, statusFields, answerPayload, answerFrame};
+ghost use Rattle.reporter.specs.Rules.{batchLength, opened, statusFields, answerPayload, answerFrame};
 use crate::AnswerFields;
+use crate::BATCH_LEN;
+use crate::EN_AT;
+use crate::ID_AT;
+use crate::OPEN_AT;
 use crate::Reporter;
+use crate::WAITING_AT;
 use crate::state::en;
 use crate::state::open;
 use crate::state::record_place;
@@ -39,13 +44,13 @@ fn opens(state: &Reporter) -> bool
 
 // How many entries an answer carries.
 pub(crate) fn carried(state: &Reporter) -> u8
-    ensures { λ r. ⌜ (r ≡ carriedIn (now (state .entry))) × (r ≤ 4) ⌝ }
+    ensures { λ r. ⌜ (r ≡ carriedIn (now (state .entry))) × (r ≤ batchLength) ⌝ }
 {
     if !opens(state) {
         return open(state);
     }
     let n = waiting(state);
-    if n < 4 { n } else { 4 }
+    if n < BATCH_LEN { n } else { BATCH_LEN }
 }
 
 // The first waiting entries become the open batch, and EN flips, where an answer opens one.
@@ -57,9 +62,9 @@ pub(crate) fn open_batch(state: &mut Reporter)
     }
     let n = carried(state);
     let left = waiting(state) - n;
-    state[1] = if en(state) { 0 } else { 1 };
-    state[3] = n;
-    state[4] = left;
+    state[EN_AT] = if en(state) { 0 } else { 1 };
+    state[OPEN_AT] = n;
+    state[WAITING_AT] = left;
 }
 
 // The four entries from the ring's start on, whether they are of the batch or not.
@@ -117,7 +122,7 @@ pub(crate) fn answer_frame(state: &Reporter, fields: AnswerFields, target: &mut 
         source_mac,
         dest_mac,
         NodeId(C_ADR_BROADCAST_NODE_ID),
-        NodeId(state[0]),
+        NodeId(state[ID_AT]),
         ServiceId::StatusResponse,
     );
     let eth_header = asnd.eth_header;

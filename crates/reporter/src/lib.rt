@@ -20,7 +20,7 @@ use batch::answer_frame;
 use batch::carried;
 use batch::open_batch;
 use error_entry::ErrorEntry;
-use records::RECORD_LEN;
+use records::ENTRY_LEN;
 use section::WriteAnswer;
 use state::push;
 use state::raisable;
@@ -34,13 +34,33 @@ use types::poll_flags::PRFlag;
 use types::poll_flags::RSFlag;
 use types::states::NmtState;
 
+pub const REPORTER_LEN: usize = CONTROL_LEN + RECORD_LEN * (PLACES as usize);
+
 // The octets in front of the records.
 const CONTROL_LEN: usize = 8;
 
-// Places for the largest open batch and for all entries that may wait.
-const PLACES: usize = 20;
+// They are: the node ID, EN, the ring's start, how many entries are open and how many wait; the others are spare.
+const ID_AT: usize = 0;
 
-pub const REPORTER_LEN: usize = CONTROL_LEN + PLACES * RECORD_LEN;
+const EN_AT: usize = 1;
+
+const START_AT: usize = 2;
+
+const OPEN_AT: usize = 3;
+
+const WAITING_AT: usize = 4;
+
+// A record: the entry.
+const RECORD_LEN: usize = ENTRY_LEN;
+
+// The entries of the largest batch.
+const BATCH_LEN: u8 = 4;
+
+// The entries that may wait.
+const QUEUE_LEN: u8 = 16;
+
+// Places for both.
+const PLACES: u8 = BATCH_LEN + QUEUE_LEN;
 
 // 01's head.
 pub type Reporter = [u8; REPORTER_LEN];
@@ -89,7 +109,7 @@ pub fn new(state: &mut Reporter, id: NodeId) -> NewAnswer
         return NewAnswer::IdOutOfRange;
     }
     *state = [0u8; REPORTER_LEN];
-    state[0] = id.0;
+    state[ID_AT] = id.0;
     NewAnswer::Made
 }
 
@@ -100,7 +120,7 @@ pub fn raise(state: &mut Reporter, entry: ErrorEntry) -> RaiseAnswer
     if !raisable(entry) {
         return RaiseAnswer::EntryInvalid;
     }
-    if 16 <= waiting(state) {
+    if QUEUE_LEN <= waiting(state) {
         return RaiseAnswer::QueueFull;
     }
     push(state, entry);
@@ -140,7 +160,7 @@ pub fn answer_len(state: &Reporter) -> usize
 pub fn read(state: &mut Reporter, buffer: &[u8]) -> ReadAnswer
     ensures { λ r. ⌜ Reads (now (buffer .entry)) r (now (state .entry)) (now (state .exit)) ⌝ }
 {
-    match hear(state[0], buffer) {
+    match hear(state[ID_AT], buffer) {
         Heard::Refused(e) => ReadAnswer::Refused(e),
         Heard::Nothing => ReadAnswer::Ignored,
         Heard::Ea(ea) => acknowledge(state, ea),

@@ -1,48 +1,60 @@
-// The octets of the state: node ID at 0, EN at 1, the ring's start at 2, how many entries are open at 3 and how many
-// wait at 4, three spare ones, then 20 records. The open batch is the ring's first records, the waiting ones follow.
+// The octets of the state: control octets, then a ring of records. The open batch is the ring's first records, the waiting
+// ones follow.
 ghost use mathlib.Core.Path.{_≡_};
 ghost use Prim.Native.Nat.{_≤_, _<_};
 ghost use lib.ListN.{length};
-ghost use Rattle.reporter.specs.Layout.{reporterLength, enOf, startOf, openOf, waitingOf, recordPlace, raisedBytes};
-ghost use Rattle.reporter.specs.Rules.{isRaisable};
+ghost use Rattle.reporter.specs.Layout.{places, reporterLength, enOf, startOf, openOf, waitingOf, recordPlace, raisedBytes};
+ghost use Rattle.reporter.specs.Rules.{queueLength, batchLength, isRaisable};
+use crate::BATCH_LEN;
+use crate::CONTROL_LEN;
+use crate::EN_AT;
+use crate::OPEN_AT;
+use crate::PLACES;
+use crate::QUEUE_LEN;
+use crate::RECORD_LEN;
 use crate::Reporter;
+use crate::START_AT;
+use crate::WAITING_AT;
 use error_entry::ErrorEntry;
 use octets::slices::byte_at;
-use records::RECORD_LEN;
 use records::put;
 use types::error_mode::ErrorEntryMode;
 
 pub(crate) fn en(state: &Reporter) -> bool
     ensures { λ r. ⌜ r ≡ enOf (now (state .entry)) ⌝ }
 {
-    state[1] % 2 == 1
+    state[EN_AT] % 2 == 1
 }
 
 pub(crate) fn start(state: &Reporter) -> u8
-    ensures { λ r. ⌜ (r ≡ startOf (now (state .entry))) × (r < 20) ⌝ }
+    ensures { λ r. ⌜ (r ≡ startOf (now (state .entry))) × (r < places) ⌝ }
 {
-    state[2] % 20
+    state[START_AT] % PLACES
 }
 
 // How many entries are open. That the state has its length is told by lending it as a slice.
 pub(crate) fn open(state: &Reporter) -> u8
-    ensures { λ r. ⌜ (r ≡ openOf (now (state .entry))) × (r ≤ 4) × (length (now (state .entry)) ≡ reporterLength) ⌝ }
+    ensures { λ r. ⌜ (r ≡ openOf (now (state .entry))) × (r ≤ batchLength) × (length (now (state .entry)) ≡ reporterLength) ⌝ }
 {
-    let n = byte_at(state, 3);
-    if n < 4 { n } else { 4 }
+    let n = byte_at(state, OPEN_AT);
+    if n < BATCH_LEN { n } else { BATCH_LEN }
 }
 
 pub(crate) fn waiting(state: &Reporter) -> u8
-    ensures { λ r. ⌜ (r ≡ waitingOf (now (state .entry))) × (r ≤ 16) ⌝ }
+    ensures { λ r. ⌜ (r ≡ waitingOf (now (state .entry))) × (r ≤ queueLength) ⌝ }
 {
-    if state[4] < 16 { state[4] } else { 16 }
+    if state[WAITING_AT] < QUEUE_LEN {
+        state[WAITING_AT]
+    } else {
+        QUEUE_LEN
+    }
 }
 
 // Where the record at a place of the ring begins.
 pub(crate) fn record_place(place: u8) -> usize
     ensures { λ r. ⌜ r ≡ recordPlace place ⌝ }
 {
-    8 + RECORD_LEN * ((place % 20) as usize)
+    CONTROL_LEN + RECORD_LEN * ((place % PLACES) as usize)
 }
 
 // Whether an entry may be raised.
@@ -62,11 +74,11 @@ pub(crate) fn raisable(entry: ErrorEntry) -> bool
 
 // Puts an entry behind the waiting ones.
 pub(crate) fn push(state: &mut Reporter, entry: ErrorEntry)
-    requires { ⌜ waitingOf (now state) < 16 ⌝ }
+    requires { ⌜ waitingOf (now state) < queueLength ⌝ }
     ensures { λ _. ⌜ (now (state .exit) ≡ raisedBytes entry (now (state .entry))) × (length (now (state .entry)) ≡ reporterLength) ⌝ }
 {
     let n = waiting(state);
     let at = record_place(start(state) + open(state) + n);
     put(state, at, entry);
-    state[4] = n + 1;
+    state[WAITING_AT] = n + 1;
 }

@@ -16,6 +16,7 @@ use Rattle.reporter.specs.declared.acknowledge.Heard.the-variants as heard
 use Rattle.collector.specs.declared.ReadAnswer.the-variants as box
 use Rattle.collector.specs.declared.TakeAnswer.the-variants as taking
 use Rattle.signaling.specs.Calls.{sent, boxRead, Tally, onEntries, onAnswers, onRequests, sends, gives, hands, adds}
+use Rattle.collector.specs.Rules.{bookLength}
 use Rattle.signaling.proofs.Facts.{beq-same, beq-not, at-lt, join-book}
 use Rattle.signaling.proofs.Invariant.{enSaid, batchSaid, Inv}
 use Rattle.signaling.proofs.Transit.{answers-later, answers-fresh, answers-booked, requests-send, requests-booked}
@@ -44,7 +45,7 @@ module _ {i : ℕ} {ea : Bool} {book : List ErrorEntry} {c : Tally} (t : Inv i e
           room = t .room;
         }
 
-    pub box-books : enSaid bs ≡ not ea → length book + length (batchSaid bs) ≤ 64
+    pub box-books : enSaid bs ≡ not ea → length book + length (batchSaid bs) ≤ bookLength
         → Inv i (enSaid bs) (book ++ batchSaid bs) (adds i (boxRead (sent p) bs box.Booked) c)
     box-books fresh room =
         let (differ, past, bit, same-batch, open?) = answers-fresh (t .answers) (t .idle) p bs le at fresh in

@@ -16,7 +16,7 @@ use Rattle.section.specs.declared.WriteAnswer.the-variants as write
 use Rattle.codec.specs.Frame.{readFrame}
 use Rattle.error_entry.specs.declared.ErrorEntry.{ErrorEntry}
 use Rattle.reporter.specs.Calls as reporter
-use Rattle.reporter.specs.Layout.{headOf, newBytes, raiseBytes, answerBytes, readBytes}
+use Rattle.reporter.specs.Layout.{reporterLength, headOf, newBytes, raiseBytes, answerBytes, readBytes}
 use Rattle.reporter.specs.Rules.{newAnswer, newCause, raiseAnswer, opened, answerFrame, afterAnswer, heardIn, heardAnswer}
 use Rattle.reporter.specs.declared.AnswerFields.{AnswerFields}
 use Rattle.reporter.specs.declared.NewAnswer.the-variants.{Made}
@@ -25,7 +25,7 @@ use Rattle.reporter.proofs.Rows.{new-row, raise-row}
 use Rattle.reporter.proofs.Rows.{read-row as head-row}
 use Rattle.collector.specs.Calls as collector
 use Rattle.collector.specs.Layout as layout
-use Rattle.collector.specs.Layout.{boxOf, accountOf, freshBytes, registerBytes, takeBytes}
+use Rattle.collector.specs.Layout.{collectorLength, boxOf, accountOf, freshBytes, registerBytes, takeBytes}
 use Rattle.collector.specs.Rules.{registerAnswer, readAnswer, requestAnswer, afterRequest, takeAnswer}
 use Rattle.collector.specs.declared.RequestFields.{RequestFields}
 use Rattle.collector.proofs.Meaning.{fresh-means, register-means, register-length, read-means, read-length, request-size, take-means, take-length}
@@ -34,12 +34,12 @@ use Rattle.signaling.specs.Calls.{Numbers, node}
 
 -- ---- the head's calls
 
-pub makes : (i : ℕ) (s : List ℕ) → newAnswer i ≡ Made → reporter.Makes (node i) Made s (newBytes Made i s) × (length (newBytes Made i s) ≡ 408)
+pub makes : (i : ℕ) (s : List ℕ) → newAnswer i ≡ Made → reporter.Makes (node i) Made s (newBytes Made i s) × (length (newBytes Made i s) ≡ reporterLength)
 makes i s ok = (record { answer = sym ok; cause = ap newCause (sym ok) ∙ new-row i; head = λ e. made i s; bytes = refl }, new-length i s)
 
-pub raises : (s : List ℕ) (e : ErrorEntry) → length s ≡ 408 → Numbers e
+pub raises : (s : List ℕ) (e : ErrorEntry) → length s ≡ reporterLength → Numbers e
     → reporter.Raises e (raiseAnswer e (headOf s)) s (raiseBytes (raiseAnswer e (headOf s)) e s)
-    × (length (raiseBytes (raiseAnswer e (headOf s)) e s) ≡ 408)
+    × (length (raiseBytes (raiseAnswer e (headOf s)) e s) ≡ reporterLength)
 raises s e size n = (
   record {
     answer = refl;
@@ -60,8 +60,8 @@ writes : (bs target : List ℕ) → Writes bs (writeAnswer bs target) target (ov
 unfolding writeAnswer
 writes bs target = record { answer = refl; cause = by-test (leb (length bs) (length target)) (length bs); holds = refl }
 
-module _ (s : List ℕ) (size : length s ≡ 408) where
-  answer-length : (r : WriteAnswer) → length (answerBytes r s) ≡ 408
+module _ (s : List ℕ) (size : length s ≡ reporterLength) where
+  answer-length : (r : WriteAnswer) → length (answerBytes r s) ≡ reporterLength
   answer-length (write.Written n) = opens-length s ∙ size
   answer-length (write.Refused e) = size
 
@@ -69,12 +69,12 @@ module _ (s : List ℕ) (size : length s ≡ 408) where
   answer-means (write.Written n) = opens-means s size
   answer-means (write.Refused e) = refl
 
-pub answers : (s : List ℕ) (f : AnswerFields) (target : List ℕ) → length s ≡ 408
+pub answers : (s : List ℕ) (f : AnswerFields) (target : List ℕ) → length s ≡ reporterLength
     → reporter.Answers f (writeAnswer (answerFrame f (opened (headOf s))) target) s
     (answerBytes (writeAnswer (answerFrame f (opened (headOf s))) target) s)
     target
     (overwritten (answerFrame f (opened (headOf s))) target)
-    × (length (answerBytes (writeAnswer (answerFrame f (opened (headOf s))) target) s) ≡ 408)
+    × (length (answerBytes (writeAnswer (answerFrame f (opened (headOf s))) target) s) ≡ reporterLength)
 answers s f target size =
     let r = writeAnswer (answerFrame f (opened (headOf s))) target in (
       record {
@@ -86,10 +86,10 @@ answers s f target size =
       answer-length s size r,
     )
 
-pub hears : (s bs : List ℕ) → length s ≡ 408
+pub hears : (s bs : List ℕ) → length s ≡ reporterLength
     → reporter.Reads bs (heardAnswer (heardIn (headOf s .id) (readFrame bs)) (headOf s)) s
     (readBytes (heardAnswer (heardIn (headOf s .id) (readFrame bs)) (headOf s)) s)
-    × (length (readBytes (heardAnswer (heardIn (headOf s .id) (readFrame bs)) (headOf s)) s) ≡ 408)
+    × (length (readBytes (heardAnswer (heardIn (headOf s .id) (readFrame bs)) (headOf s)) s) ≡ reporterLength)
 hears s bs size =
     let r = heardAnswer (heardIn (headOf s .id) (readFrame bs)) (headOf s) in
     (record { answer = refl; cause = head-row (headOf s .id) (readFrame bs) (headOf s); head = reads-means s size r; bytes = refl }, reads-length s r ∙ size)
@@ -99,16 +99,16 @@ hears s bs size =
 pub freshes : collector.Fresh freshBytes
 freshes = record { box = fresh-means; bytes = refl }
 
-pub registers : (s : List ℕ) (i : ℕ) → length s ≡ 5184
+pub registers : (s : List ℕ) (i : ℕ) → length s ≡ collectorLength
     → collector.Registers (node i) (registerAnswer i (boxOf s)) s (registerBytes (registerAnswer i (boxOf s)) i s)
-    × (length (registerBytes (registerAnswer i (boxOf s)) i s) ≡ 5184)
+    × (length (registerBytes (registerAnswer i (boxOf s)) i s) ≡ collectorLength)
 registers s i size =
     (record { answer = refl; cause = register-row i (boxOf s); box = register-means s size i; bytes = refl }, register-length (registerAnswer i (boxOf s)) i s ∙ size)
 
 -- the frame's octets are asked to be octets, since its entries are kept as octets
-pub books : (s bs : List ℕ) → length s ≡ 5184 → Octets bs
+pub books : (s bs : List ℕ) → length s ≡ collectorLength → Octets bs
     → collector.Reads bs (readAnswer bs (boxOf s)) s (layout.readBytes (readAnswer bs (boxOf s)) bs s)
-    × (length (layout.readBytes (readAnswer bs (boxOf s)) bs s) ≡ 5184)
+    × (length (layout.readBytes (readAnswer bs (boxOf s)) bs s) ≡ collectorLength)
 books s bs size octets =
     (record { answer = refl; cause = read-row bs (boxOf s); box = read-means s size bs octets; bytes = refl }, read-length (readAnswer bs (boxOf s)) bs s ∙ size)
 
@@ -116,7 +116,7 @@ pub asks : (s : List ℕ) (i : ℕ) (f : RequestFields) (target : List ℕ)
     → collector.Requests (node i) f (requestAnswer i f target (accountOf s i)) s target (afterRequest i f target (accountOf s i))
 asks s i f target = record { answer = refl; cause = request-row i f target (accountOf s i); size = request-size i f; holds = refl }
 
-pub hands : (s : List ℕ) (i : ℕ) → length s ≡ 5184
+pub hands : (s : List ℕ) (i : ℕ) → length s ≡ collectorLength
     → collector.Takes (node i) (takeAnswer (accountOf s i)) s (takeBytes (takeAnswer (accountOf s i)) i s)
-    × (length (takeBytes (takeAnswer (accountOf s i)) i s) ≡ 5184)
+    × (length (takeBytes (takeAnswer (accountOf s i)) i s) ≡ collectorLength)
 hands s i size = (record { answer = refl; cause = take-row (accountOf s i); box = take-means s size i; bytes = refl }, take-length (takeAnswer (accountOf s i)) i s ∙ size)

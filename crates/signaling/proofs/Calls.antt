@@ -29,7 +29,7 @@ use Rattle.status_response.specs.declared.fields.StatusAnswer.{StatusAnswer}
 use Rattle.status_response.specs.declared.fields.StatusAnswer.the-variants as said
 use Rattle.reporter.specs.Rules.{Head, eaFor, heardFrame, heardIn, heardAnswer, afterRead}
 use Rattle.reporter.specs.declared.acknowledge.Heard.the-variants as heard
-use Rattle.collector.specs.Rules.{Account, Box, registerVacant, registerAnswer, afterRegister, heardService, heardFrame as boxHeardFrame, heardIn as boxHeard, statusPayload, bookAnswer, statusAnswer, accountAnswer, enIn, bookedAccount, afterBooking, afterRead as boxAfterRead, requestAnswer, requestFrame, asRequest, afterRequest, takeFirst, takeAnswer, afterTake}
+use Rattle.collector.specs.Rules.{bookLength, Account, Box, registerVacant, registerAnswer, afterRegister, heardService, heardFrame as boxHeardFrame, heardIn as boxHeard, statusPayload, bookAnswer, statusAnswer, accountAnswer, enIn, bookedAccount, afterBooking, afterRead as boxAfterRead, requestAnswer, requestFrame, asRequest, afterRequest, takeFirst, takeAnswer, afterTake}
 use Rattle.collector.specs.declared.reading.Heard.the-variants as boxHears
 use Rattle.collector.specs.declared.ReadAnswer.{ReadAnswer}
 use Rattle.collector.specs.declared.ReadAnswer.the-variants as box
@@ -115,7 +115,7 @@ pub record WhyBooked (payload : List ℕ) (o : Option Account) : Type 0 where
   pub place : Account
   pub known : o ≡ some place
   pub fresh : Bool·beq (enIn (readFields payload)) (place .ea) ≡ false
-  pub room : length (place .book) + length (statusEntries payload) ≤ 64
+  pub room : length (place .book) + length (statusEntries payload) ≤ bookLength
 
 booked-by : (same fits : Bool) → box.Booked ≡ pick same box.Known (need fits box.BookFull box.Booked) → (same ≡ false) × (fits ≡ true)
 booked-by true fits e = clash cc
@@ -123,12 +123,12 @@ booked-by false true e = (refl, refl)
 booked-by false false e = clash cc
 
 booked-status : (a : StatusAnswer) (es : List ErrorEntry) (p : Account) → box.Booked ≡ statusAnswer a es p
-    → (Bool·beq (enIn a) (p .ea) ≡ false) × (length (p .book) + length es ≤ 64)
+    → (Bool·beq (enIn a) (p .ea) ≡ false) × (length (p .book) + length es ≤ bookLength)
 unfolding bookAnswer
 booked-status (said.Refused x) es p e = clash cc
 booked-status (said.Status f) es p e =
-    let y = booked-by (Bool·beq (f .«en_flag») (p .ea)) (leb (length (p .book) + length es) 64) e in
-    (y .0, leb-true (length (p .book) + length es) 64 (y .1))
+    let y = booked-by (Bool·beq (f .«en_flag») (p .ea)) (leb (length (p .book) + length es) bookLength) e in
+    (y .0, leb-true (length (p .book) + length es) bookLength (y .1))
 
 pub why-booked : (payload : List ℕ) (o : Option Account) → box.Booked ≡ accountAnswer payload o → WhyBooked payload o
 why-booked payload none e = clash cc

@@ -8,7 +8,7 @@ use mathlib.Core.Option.{Option, none, some}
 use lib.ListN.{length}
 use borrow.Author.Tests.{eq-eqb}
 use Rattle.error_entry.specs.declared.ErrorEntry.{ErrorEntry}
-use Rattle.collector.specs.Layout.{accountOf, takeBytes}
+use Rattle.collector.specs.Layout.{collectorLength, accountOf, takeBytes}
 use Rattle.collector.specs.Rules.{Account}
 use Rattle.collector.specs.declared.TakeAnswer.the-variants as taking
 use Rattle.collector.proofs.Meaning.{register-length, read-length, take-length}
@@ -28,14 +28,14 @@ step-size (request j f r target written six c) = refl
 step-size {w} (takes j r after c) = ap length (c .bytes) ∙ take-length r j (w .box)
 step-size (hosts bs told) = refl
 
-pub box-size : {i : ℕ} {w : World} → Run i w → length (w .box) ≡ 5184
+pub box-size : {i : ℕ} {w : World} → Run i w → length (w .box) ≡ collectorLength
 box-size (fresh before head box m f) = ap length (f .bytes)
 box-size (call r s) = step-size s ∙ box-size r
 
 -- ---- what further Takes hand out is the book
 
 module _ (i : ℕ) where
-  draining-place : (ea : Bool) (es : List ErrorEntry) (b : List ℕ) → length b ≡ 5184 → accountOf b i ≡ some (record { ea = ea; book = es })
+  draining-place : (ea : Bool) (es : List ErrorEntry) (b : List ℕ) → length b ≡ collectorLength → accountOf b i ≡ some (record { ea = ea; book = es })
       → Drained i b es
   draining-place ea [] b size e = let r = rw e at (hands b i size) in over taking.NothingBooked b (r .0) tt
   draining-place ea (x ∷ es) b size e =
@@ -43,6 +43,6 @@ module _ (i : ℕ) where
       more x (takeBytes (taking.Taken x) i b) es (r .0)
       (draining-place ea es (takeBytes (taking.Taken x) i b) (r .1) (r .0 .box .accounts i ∙ rw (eq-eqb i i refl, e)))
 
-  pub draining : (o : Option Account) (b : List ℕ) → length b ≡ 5184 → accountOf b i ≡ o → Drained i b (bookOf o)
+  pub draining : (o : Option Account) (b : List ℕ) → length b ≡ collectorLength → accountOf b i ≡ o → Drained i b (bookOf o)
   draining none b size e = let r = rw e at (hands b i size) in over taking.NotRegistered b (r .0) tt
   draining (some p) b size e = draining-place (p .ea) (p .book) b size e

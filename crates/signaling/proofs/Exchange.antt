@@ -19,7 +19,7 @@ use Rattle.reporter.specs.Rules.{Head, opened, heardIn}
 use Rattle.reporter.specs.declared.ReadAnswer.{ReadAnswer}
 use Rattle.reporter.specs.declared.acknowledge.Heard.the-variants as heard
 use Rattle.collector.specs.Layout.{boxOf}
-use Rattle.collector.specs.Rules.{Account, Box, heardIn as boxHeard, statusPayload, bookAnswer, accountAnswer, readAnswer, bookedAccount, afterRead as boxAfterRead}
+use Rattle.collector.specs.Rules.{bookLength, Account, Box, heardIn as boxHeard, statusPayload, bookAnswer, accountAnswer, readAnswer, bookedAccount, afterRead as boxAfterRead}
 use Rattle.collector.specs.declared.ReadAnswer.{ReadAnswer as BoxReadAnswer}
 use Rattle.collector.specs.declared.ReadAnswer.the-variants as box
 use Rattle.collector.specs.declared.reading.Heard.the-variants as boxHears
@@ -95,14 +95,14 @@ first-steady {i} {w} s y =
 -- ---- the box reads
 
 -- where the open batch is not booked, there is room for it
-fits-batch : {i : ℕ} {w : World} → Ready i w → isBooked i (w .log) ≡ false → length (bookOf (placeFor i w)) + length (headIn w .batch) ≤ 64
+fits-batch : {i : ℕ} {w : World} → Ready i w → isBooked i (w .log) ≡ false → length (bookOf (placeFor i w)) + length (headIn w .batch) ≤ bookLength
 fits-batch y new =
     let n = simp length-append at (ap length (rw (new, ← (y .held .head)) at (y .held .inv .total))) in
     omega (arith, y .room, n)
 
 -- the batch that an answer with a new bit carries is not booked, so there is room for it
 room-for : {i : ℕ} {w : World} → Ready i w → Bool·beq (headIn w .en) (eaOf (placeFor i w)) ≡ false
-    → length (bookOf (placeFor i w)) + length (headIn w .batch) ≤ 64
+    → length (bookOf (placeFor i w)) + length (headIn w .batch) ≤ bookLength
 room-for {i} {w} y new =
     let ea = eaOf (placeFor i w) in
     let en = headIn w .en in
@@ -111,14 +111,14 @@ room-for {i} {w} y new =
 
 -- with room for its batch, an answer is known or booked
 outcome : (payload : List ℕ) (o : Option Account) (f : StatusFields) → IsPlace o → readFields payload ≡ said.Status f
-    → (Bool·beq (f .«en_flag») (eaOf o) ≡ false → length (bookOf o) + length (statusEntries payload) ≤ 64)
+    → (Bool·beq (f .«en_flag») (eaOf o) ≡ false → length (bookOf o) + length (statusEntries payload) ≤ bookLength)
     → ((accountAnswer payload o ≡ box.Known) × (eaOf o ≡ f .«en_flag»)) ⊎ (accountAnswer payload o ≡ box.Booked)
 unfolding bookAnswer
 outcome payload none f is e room = absurd is
 outcome payload (some p) f is e room =
     either (Bool·beq (f .«en_flag») (p .ea))
     (λ same. inl (rw (e, same), sym (beq-true (f .«en_flag») (p .ea) same)))
-    (λ new. inr (rw (e, new, le-leb (length (p .book) + length (statusEntries payload)) 64 (room new))))
+    (λ new. inr (rw (e, new, le-leb (length (p .book) + length (statusEntries payload)) bookLength (room new))))
 
 booked-bit : (payload : List ℕ) (o : Option Account) (f : StatusFields) → IsPlace o → readFields payload ≡ said.Status f
     → bookedAccount payload o .ea ≡ f .«en_flag»
@@ -127,7 +127,7 @@ booked-bit payload (some p) f is e = rw e
 
 -- then its bit is EA
 box-agrees : (i : ℕ) (h : Head) (bs : List ℕ) (b : Box) → Says bs h → h .id ≡ i → IsPlace (b .accounts i)
-    → (Bool·beq (h .en) (eaOf (b .accounts i)) ≡ false → length (bookOf (b .accounts i)) + length (h .batch) ≤ 64)
+    → (Bool·beq (h .en) (eaOf (b .accounts i)) ≡ false → length (bookOf (b .accounts i)) + length (h .batch) ≤ bookLength)
     → eaOf (boxAfterRead (readAnswer bs b) bs b .accounts i) ≡ h .en
 unfolding readAnswer
 box-agrees i h bs b says id is room =

@@ -12,7 +12,7 @@ use Rattle.types.specs.Codes.{pick, need}
 use Rattle.section.specs.declared.WriteAnswer.the-variants as write
 use Rattle.codec.specs.Frame.{readFrame}
 use Rattle.error_entry.specs.declared.ErrorEntry.{ErrorEntry}
-use Rattle.reporter.specs.Rules.{Head, isRaisable, raiseAnswer, afterRaise, isEmpty, opens, opened, heardIn, eaAnswer, heardAnswer, afterRead}
+use Rattle.reporter.specs.Rules.{queueLength, batchLength, Head, isRaisable, raiseAnswer, afterRaise, isEmpty, opens, opened, heardIn, eaAnswer, heardAnswer, afterRead}
 use Rattle.reporter.specs.declared.RaiseAnswer.{RaiseAnswer}
 use Rattle.reporter.specs.declared.RaiseAnswer.the-variants.{Raised, EntryInvalid, QueueFull}
 use Rattle.reporter.specs.declared.ReadAnswer.the-variants.{Closed, Kept}
@@ -48,7 +48,7 @@ raised-by false room e = cc
 -- what is raised may be
 raisable : (e : ErrorEntry) (h : Head) → Raised ≡ raiseAnswer e h → isRaisable e ≡ true
 unfolding raiseAnswer
-raisable e h a = raised-by (isRaisable e) (ltb (length (h .waiting)) 16) a
+raisable e h a = raised-by (isRaisable e) (ltb (length (h .waiting)) queueLength) a
 
 -- what an answer that is sent opens
 abbrev pub opening : Tally → Tally
@@ -86,7 +86,7 @@ module _ {i : ℕ} {ea : Bool} {book : List ErrorEntry} {c : Tally} (t : Inv i e
   -- no batch was open and w waits: from now on the batch is open and not booked
   open-new : (x : ErrorEntry) (w : List ErrorEntry) → h .batch ≡ [] → h .waiting ≡ x ∷ w
       → Inv i ea book (onRuled (λ s. record {
-        head = record { id = h .id; en = not (h .en); batch = take 4 (h .waiting); waiting = drop 4 (h .waiting) };
+        head = record { id = h .id; en = not (h .en); batch = take batchLength (h .waiting); waiting = drop batchLength (h .waiting) };
         openedAt = length (c .answers .frames);
         isBooked = false;
       }) c)
@@ -94,15 +94,15 @@ module _ {i : ℕ} {ea : Bool} {book : List ErrorEntry} {c : Tally} (t : Inv i e
       let same : ea ≡ h .en = t .idle eb in
       record {
         id = t .id;
-        batch = good-take 4 (h .waiting) (t .waiting);
-        waiting = good-drop 4 (h .waiting) (t .waiting);
+        batch = good-take batchLength (h .waiting) (t .waiting);
+        waiting = good-drop batchLength (h .waiting) (t .waiting);
         source = t .source;
-        answers = answers-open (t .answers) same (take 4 (h .waiting));
+        answers = answers-open (t .answers) same (take batchLength (h .waiting));
         turned = t .turned;
-        requests = requests-open (t .requests) eb (not (h .en)) (take 4 (h .waiting));
-        idle = λ e. is-cons (ap (λ (l : List ErrorEntry). take 4 l) ew) e;
+        requests = requests-open (t .requests) eb (not (h .en)) (take batchLength (h .waiting));
+        idle = λ e. is-cons (ap (λ (l : List ErrorEntry). take batchLength l) ew) e;
         since = sym (beq-other (h .en)) ∙ ap (λ (b : Bool). Bool·beq b (not (h .en))) (sym same);
-        total = cc (take-append-drop 4 (h .waiting), no-batch (c .ruled .isBooked) (h .batch) eb, t .total);
+        total = cc (take-append-drop batchLength (h .waiting), no-batch (c .ruled .isBooked) (h .batch) eb, t .total);
         room = t .room;
       }
 

@@ -15,7 +15,7 @@ use Rattle.reporter.specs.Layout.{headOf}
 use Rattle.reporter.specs.Rules.{Head, heardIn}
 use Rattle.reporter.specs.declared.acknowledge.Heard.the-variants as heard
 use Rattle.collector.specs.Layout.{accountOf}
-use Rattle.collector.specs.Rules.{Account, statusPayload, enIn, heardIn as boxHeard}
+use Rattle.collector.specs.Rules.{bookLength, Account, statusPayload, enIn, heardIn as boxHeard}
 use Rattle.collector.specs.declared.reading.Heard.the-variants as boxHears
 use Rattle.signaling.specs.Calls.{Tally, tally, ruled, World, node, eaOf}
 use Rattle.signaling.proofs.Frames.{Good}
@@ -70,7 +70,7 @@ pub record Inv (i : ℕ) (ea : Bool) (book : List ErrorEntry) (c : Tally) : Type
   pub since : c .ruled .isBooked ≡ Bool·beq ea (c .ruled .head .en)
   pub total : c .entries .handedOut ++ book ++ (pick (c .ruled .isBooked) [] (c .ruled .head .batch) ++ c .ruled .head .waiting)
       ≡ c .entries .accepted
-  pub room : length book ≤ 64
+  pub room : length book ≤ bookLength
 
 -- what the head holds, and the place of node i
 abbrev pub headIn : World → Head

@@ -14,7 +14,7 @@ use Rattle.section.specs.declared.WriteAnswer.the-variants as write
 use Rattle.codec.specs.Frame.{readFrame}
 use Rattle.error_entry.specs.declared.ErrorEntry.{ErrorEntry}
 use Rattle.reporter.specs.Calls as reporter
-use Rattle.reporter.specs.Layout.{headOf, newBytes, raiseBytes, answerBytes, readBytes}
+use Rattle.reporter.specs.Layout.{reporterLength, headOf, newBytes, raiseBytes, answerBytes, readBytes}
 use Rattle.reporter.specs.Rules.{Head, freshHead, newAnswer, raiseAnswer, afterRaise, opened, answerFrame, answerLength, heardIn, heardAnswer, afterRead}
 use Rattle.reporter.specs.declared.AnswerFields.{AnswerFields}
 use Rattle.reporter.specs.declared.NewAnswer.the-variants.{Made}
@@ -22,7 +22,7 @@ use Rattle.reporter.specs.declared.RaiseAnswer.the-variants.{Raised}
 use Rattle.reporter.specs.declared.ReadAnswer.the-variants.{Closed}
 use Rattle.collector.specs.Calls as collector
 use Rattle.collector.specs.Layout as layout
-use Rattle.collector.specs.Layout.{boxOf, accountOf, freshBytes, registerBytes}
+use Rattle.collector.specs.Layout.{collectorLength, boxOf, accountOf, freshBytes, registerBytes}
 use Rattle.collector.specs.Rules.{Account, freshAccount, registerAnswer, bookAnswer, readAnswer, requestFrame}
 use Rattle.collector.specs.declared.ReadAnswer.the-variants as box
 use Rattle.collector.specs.declared.RegisterAnswer.the-variants.{Registered}
@@ -37,8 +37,8 @@ world s b l = record { head = s; box = b; log = l }
 
 -- what both states mean after a log, to the head with ID i
 pub record Knows (i : ℕ) (s b : List ℕ) (l : Log) (h : Head) (p : Account) : Type 0 where
-  pub headSize : length s ≡ 408
-  pub boxSize : length b ≡ 5184
+  pub headSize : length s ≡ reporterLength
+  pub boxSize : length b ≡ collectorLength
   pub means : headOf s ≡ h
   pub rules : ruled i l ≡ h
   pub place : accountOf b i ≡ some p

@@ -20,7 +20,7 @@ use Rattle.reporter.specs.declared.RaiseAnswer.the-variants.{Raised, EntryInval
 use Rattle.reporter.specs.declared.acknowledge.Heard.{Heard}
 use Rattle.reporter.specs.declared.acknowledge.Heard.the-variants as heard
 use Rattle.collector.specs.Layout.{boxOf}
-use Rattle.collector.specs.Rules.{Account, Box, withAccount, afterRegister, heardIn as boxHeard, statusPayload, afterBooking, afterRead as boxAfterRead, withoutFirst, afterTake}
+use Rattle.collector.specs.Rules.{bookLength, Account, Box, withAccount, afterRegister, heardIn as boxHeard, statusPayload, afterBooking, afterRead as boxAfterRead, withoutFirst, afterTake}
 use Rattle.collector.specs.declared.ReadAnswer.{ReadAnswer as BoxReadAnswer}
 use Rattle.collector.specs.declared.ReadAnswer.the-variants as box
 use Rattle.collector.specs.declared.RegisterAnswer.{RegisterAnswer}
@@ -86,7 +86,7 @@ NoRaise (hosted bs) = Unit {0}
 pub record Ready (i : ℕ) (w : World) : Type 0 where
   pub held : Held i w
   pub place : IsPlace (placeFor i w)
-  pub room : length (accepted i (w .log)) ≤ length (handedOut i (w .log)) + 64
+  pub room : length (accepted i (w .log)) ≤ length (handedOut i (w .log)) + bookLength
 
 none-raised : (e : ErrorEntry) (r : RaiseAnswer) (es : List ErrorEntry) → (r ≡ Raised → ⊥) → ifRaised r e es ≡ es
 none-raised e Raised es k = absurd (k refl)

@@ -9,7 +9,7 @@ use lib.ListN.{take-append-drop}
 use Rattle.section.specs.declared.WriteAnswer.the-variants as write
 use Rattle.codec.specs.Frame.{readFrame}
 use Rattle.error_entry.specs.declared.ErrorEntry.{ErrorEntry}
-use Rattle.reporter.specs.Rules.{Head, opened, heardIn, eaAnswer, afterRead}
+use Rattle.reporter.specs.Rules.{batchLength, Head, opened, heardIn, eaAnswer, afterRead}
 use Rattle.reporter.specs.declared.ReadAnswer.{ReadAnswer}
 use Rattle.reporter.specs.declared.acknowledge.Heard.the-variants as heard
 use Rattle.signaling.specs.Calls.{Origin, sent, Event, raised, answered, headRead, registered, boxRead, requested, taken, hosted, World, Step, headReads}
@@ -38,7 +38,7 @@ entries h = h .batch ++ h .waiting
 open-entries : (i : ℕ) (en : Bool) (b w : List ErrorEntry) → entries (opened (record { id = i; en = en; batch = b; waiting = w })) ≡ b ++ w
 unfolding opened
 open-entries i en [] [] = refl
-open-entries i en [] (x ∷ w) = take-append-drop 4 (x ∷ w)
+open-entries i en [] (x ∷ w) = take-append-drop batchLength (x ∷ w)
 open-entries i en (x ∷ b) w = refl
 
 -- opening moves none

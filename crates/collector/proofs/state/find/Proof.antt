@@ -94,10 +94,13 @@ find-spec =
     (search needs)
     returns
     (search needs)
+    (search needs)
     returns-2
     (search needs)
     (search needs)
+    (search needs)
     returns-3
+    (search needs)
     (search needs)
     (search needs)
     returns-4

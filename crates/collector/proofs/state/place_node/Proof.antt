@@ -22,4 +22,5 @@ place-node-spec =
     (search needs)
     (search needs)
     (search needs)
+    (search needs)
     returns)

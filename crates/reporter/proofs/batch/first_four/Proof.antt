@@ -4,7 +4,8 @@ use borrow.Author.Needs.{needs}
 use mathlib.Core.Path.{ap, _∙_}
 use Prim.Native.Nat.{ℕ, _+_}
 use Rattle.records.specs.Ring.{ring}
-use Rattle.reporter.specs.Layout.{entryIn}
+use Rattle.reporter.specs.Layout.{places, entryIn}
+use Rattle.reporter.specs.Rules.{batchLength}
 use Rattle.reporter.proofs.Entries.{entry-got, four-got}
 use Rattle.reporter.proofs.batch.first_four.Statement.{statement}
 use Rattle.reporter.proofs.batch.first_four.Tie as tie
@@ -26,7 +27,7 @@ returns c =
     (entry-got s (at + 1) _ _ (p₁ .record-place2 .ensures) (g₁ .get2 .ensures))
     (entry-got s (at + 2) _ _ (p₂ .record-place3 .ensures) (g₂ .get3 .ensures))
     (entry-got s (at + 3) _ _ (p₃ .record-place4 .ensures) (c .get4 .ensures))
-    ∙ ap (λ (k : ℕ). ring (entryIn s) 20 k 4) (a .start .ensures .0)
+    ∙ ap (λ (k : ℕ). ring (entryIn s) places k batchLength) (a .start .ensures .0)
 
 pub first-four-spec : {M : Type 1} → statement M
 first-four-spec =
