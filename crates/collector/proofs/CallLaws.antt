@@ -18,45 +18,43 @@ use Rattle.status_response.specs.Fields.{readFields}
 use Rattle.status_response.specs.Steps.{statusEntries}
 use Rattle.status_response.specs.declared.fields.StatusAnswer.the-variants as status
 use Rattle.status_response.specs.declared.fields.StatusFields.{StatusFields}
-use Rattle.collector.specs.Calls.{Registers, Reads, Requests, Takes, ReadsStatus, Books, statusBytes, booksBytes}
-use Rattle.collector.specs.Layout.{collectorLength, slotOf, accountIn, accountOf, boxOf, registerBytes, readBytes, bookingBytes, takeBytes}
-use Rattle.collector.specs.Rules.{heads, registerAnswer, registerCause, heardIn, enIn, statusPayload, bookAnswer, accountAnswer, readAnswer, readCause, requestSoA, requestFrame, asRequest, requestWritten, requestAnswer, requestCause, afterRequest, takeAnswer, takeCause}
+use Rattle.collector.specs.Calls.{Registers, Reads, Requests, Takes, ReadsStatus, Books}
+use Rattle.collector.specs.Layout.{collectorLength, slotOf, accountIn, accountOf, boxOf, registerBytes, readBytes, takeBytes}
+use Rattle.collector.specs.Rules.{heads, registerAnswer, registerCause, heardIn, enIn, statusPayload, bookAnswer, saidIn, accountAnswer, readAnswer, readCause, requestSoA, requestFrame, asRequest, requestWritten, requestAnswer, requestCause, afterRequest, takeAnswer, takeCause}
 use Rattle.collector.specs.declared.ReadAnswer.{ReadAnswer}
-use Rattle.collector.specs.declared.ReadAnswer.the-variants.{Booked, Known, Refused, NotStatusResponse, NotRegistered, BookFull}
+use Rattle.collector.specs.declared.ReadAnswer.the-variants.{Refused, NotStatusResponse, NotRegistered}
 use Rattle.collector.specs.declared.RegisterAnswer.{RegisterAnswer}
 use Rattle.collector.specs.declared.RegisterAnswer.the-variants.{IdOutOfRange}
 use Rattle.collector.specs.declared.RequestAnswer.{RequestAnswer}
 use Rattle.collector.specs.declared.RequestFields.{RequestFields}
 use Rattle.collector.specs.declared.TakeAnswer.{TakeAnswer}
-use Rattle.collector.specs.declared.reading.Heard.{Heard}
 use Rattle.collector.specs.declared.reading.Heard.the-variants as heard
 use Rattle.collector.proofs.IdLaws.{place-none, place-some}
 use Rattle.collector.proofs.Meaning.{register-means, same-box, take-means, read-means, request-size}
-use Rattle.collector.proofs.Rows.{register-row, read-row, request-row, take-row}
 
 -- ---- register
 
 pub registers : (i : NodeId) (r : RegisterAnswer) (s after : List ℕ) → length s ≡ collectorLength → r ≡ registerAnswer (i .0) (boxOf s)
     → after ≡ registerBytes r (i .0) s → Registers i r s after
 registers i r s after size a b =
-    record { answer = a; cause = ap registerCause a ∙ register-row (i .0) (boxOf s); box = rw (b, a) (register-means s size (i .0)); bytes = b }
+    record { answer = a; cause = ap registerCause a; box = rw (b, a) (register-means s size (i .0)); bytes = b }
 
 -- an ID that no controlled node has
 pub registers-none : (i : NodeId) (s : List ℕ) → IdOutOfRange ≡ registerAnswer (i .0) (boxOf s) → Registers i IdOutOfRange s s
-registers-none i s a = record { answer = a; cause = ap registerCause a ∙ register-row (i .0) (boxOf s); box = same-box (boxOf s); bytes = refl }
+registers-none i s a = record { answer = a; cause = ap registerCause a; box = same-box (boxOf s); bytes = refl }
 
 -- ---- take
 
 pub takes : (i : NodeId) (r : TakeAnswer) (s after : List ℕ) → length s ≡ collectorLength → r ≡ takeAnswer (accountOf s (i .0))
     → after ≡ takeBytes r (i .0) s → Takes i r s after
 takes i r s after size a b =
-    record { answer = a; cause = ap takeCause a ∙ take-row (accountOf s (i .0)); box = rw (b, a) (take-means s size (i .0)); bytes = b }
+    record { answer = a; cause = ap takeCause a; box = rw (b, a) (take-means s size (i .0)); bytes = b }
 
 -- ---- read
 
 pub reads : (s : List ℕ) → length s ≡ collectorLength → (f : List ℕ) → Octets f → (r : ReadAnswer) (after : List ℕ) → r ≡ readAnswer f (boxOf s)
     → after ≡ readBytes r f s → Reads f r s after
-reads s size f octets r after a b = record { answer = a; cause = ap readCause a ∙ read-row f (boxOf s); box = rw (b, a) (read-means s size f octets); bytes = b }
+reads s size f octets r after a b = record { answer = a; cause = ap readCause a; box = rw (b, a) (read-means s size f octets); bytes = b }
 
 module _ (s : List ℕ) (source : ℕ) (payload : List ℕ) where
   pub status-unknown : heads ≤ slotOf s source → ReadsStatus source payload NotRegistered s s
@@ -72,45 +70,29 @@ module _ (s : List ℕ) (source : ℕ) (payload : List ℕ) where
         record {
           answer = rw (place-some s source known, ← is)
               (b .answer ∙ ap (λ (j : ℕ). bookAnswer (f .«en_flag») (statusEntries payload) (accountIn s j)) at);
-          bytes = b .bytes ∙ rw (at, ap enIn is) (same r);
+          bytes = b .bytes ∙ rw (at, ap enIn is);
         }
-      where
-        same : (r : ReadAnswer) → booksBytes r (slotOf s source) (enIn (readFields payload)) payload s ≡ statusBytes r source payload s
-        same Booked = refl
-        same Known = refl
-        same (Refused e) = refl
-        same NotStatusResponse = refl
-        same NotRegistered = refl
-        same BookFull = refl
 
 module _ (s f : List ℕ) where
   pub reads-refused : (e : PowerlinkError) → heard.Refused e ≡ heardIn (readFrame f) → Reads f (Refused e) s s
   unfolding readAnswer
   reads-refused e is =
       let a : Refused e ≡ readAnswer f (boxOf s) = rw (← is) in
-      record { answer = a; cause = ap readCause a ∙ read-row f (boxOf s); box = same-box (boxOf s); bytes = refl }
+      record { answer = a; cause = ap readCause a; box = same-box (boxOf s); bytes = refl }
 
   pub reads-other : heard.Other ≡ heardIn (readFrame f) → Reads f NotStatusResponse s s
   unfolding readAnswer
   reads-other is =
       let a : NotStatusResponse ≡ readAnswer f (boxOf s) = rw (← is) in
-      record { answer = a; cause = ap readCause a ∙ read-row f (boxOf s); box = same-box (boxOf s); bytes = refl }
+      record { answer = a; cause = ap readCause a; box = same-box (boxOf s); bytes = refl }
 
   pub reads-status : length s ≡ collectorLength → Octets f → (source : NodeId) → heard.Status source ≡ heardIn (readFrame f)
       → (payload : List ℕ) → payload ≡ statusPayload f → (r : ReadAnswer) (after : List ℕ) → ReadsStatus (source .0) payload r s after → Reads f r s after
   unfolding readAnswer
   reads-status size octets source is payload from r after b =
       reads s size f octets r after
-      (rw (← is) (b .answer ∙ ap (λ (p : List ℕ). accountAnswer p (accountOf s (source .0))) from))
-      (b .bytes ∙ ap (λ (p : List ℕ). statusBytes r (source .0) p s) from ∙ same r)
-    where
-      same : (r : ReadAnswer) → statusBytes r (source .0) (statusPayload f) s ≡ readBytes r f s
-      same Booked = ap (λ (h : Heard). bookingBytes h (statusPayload f) s) is
-      same Known = refl
-      same (Refused e) = refl
-      same NotStatusResponse = refl
-      same NotRegistered = refl
-      same BookFull = refl
+      (rw (← is) (b .answer ∙ ap (λ (p : List ℕ). accountAnswer (saidIn p) (accountOf s (source .0))) from))
+      (b .bytes ∙ rw (from, ← is))
 
 -- ---- request
 
@@ -127,4 +109,4 @@ module _ (i : ℕ) (f : RequestFields) (ea : Bool) (soa : NewSoAFrame) (made : s
 pub requests : (i : NodeId) (f : RequestFields) (r : RequestAnswer) (s target written : List ℕ)
     → r ≡ requestAnswer (i .0) f target (accountOf s (i .0)) → written ≡ afterRequest (i .0) f target (accountOf s (i .0)) → Requests i f r s target written
 requests i f r s target written a h =
-    record { answer = a; cause = ap requestCause a ∙ request-row (i .0) f target (accountOf s (i .0)); size = λ ea. request-size (i .0) f ea; holds = h }
+    record { answer = a; cause = ap requestCause a; size = λ ea. request-size (i .0) f ea; holds = h }

@@ -7,5 +7,4 @@ pub mod IdLaws
 pub mod Meaning
 pub mod PlacedLaws
 pub mod RegisterLaws
-pub mod Rows
 pub mod WalkLaws

@@ -25,7 +25,7 @@ use Rattle.status_response.specs.Steps.{statusEntries}
 use Rattle.status_response.specs.declared.fields.StatusAnswer.{StatusAnswer}
 use Rattle.status_response.specs.declared.fields.StatusAnswer.the-variants as status
 use Rattle.collector.specs.Layout.{nodeAt, collectorLength, block, nodeIn, findOf, slotOf, countIn, bookIn, accountIn, accountOf, vacantOf, boxOf, freshBytes, registerBytes, readBytes, bookingBytes, bookedBytes, takenBytes, takeBytes}
-use Rattle.collector.specs.Rules.{heads, bookLength, Account, Box, Same, freshBox, withAccount, registerAnswer, afterRegister, heardIn, enIn, statusPayload, bookAnswer, statusAnswer, heardAnswer, readAnswer, bookedAccount, afterBooking, afterRead, requestFrame, takeAnswer, withoutFirst, afterTake}
+use Rattle.collector.specs.Rules.{saidIn, Said, heads, bookLength, Account, Box, Same, freshBox, withAccount, registerAnswer, afterRegister, heardIn, enIn, statusPayload, bookAnswer, statusAnswer, heardAnswer, readAnswer, bookedAccount, afterBooking, afterRead, requestFrame, takeAnswer, withoutFirst, afterTake}
 use Rattle.collector.specs.declared.ReadAnswer.{ReadAnswer}
 use Rattle.collector.specs.declared.ReadAnswer.the-variants.{Booked, Known, Refused, NotStatusResponse, NotRegistered, BookFull}
 use Rattle.collector.specs.declared.RegisterAnswer.{RegisterAnswer}
@@ -140,12 +140,12 @@ take-length taking.NothingBooked i s = refl
 module _ (s : List ℕ) (i : ℕ) (known : slotOf s i < heads) (size : length s ≡ collectorLength) (payload : List ℕ) (octets : Octets payload) where
   booked-means : length (bookIn s (slotOf s i)) + length (statusEntries payload) ≤ bookLength
       → Same (boxOf (bookedBytes s (slotOf s i) (enIn (readFields payload)) (statusEntries payload)))
-      (withAccount i (bookedAccount payload (accountOf s i)) (boxOf s))
+      (withAccount i (bookedAccount (saidIn payload) (accountOf s i)) (boxOf s))
   booked-means room =
       let k : ℕ = slotOf s i in
       let en : Bool = enIn (readFields payload) in
       let es : List ErrorEntry = statusEntries payload in
-      block-means s (bookedBytes s k en es) i known (booked-kept s k en es) (booked-node s k en es) (bookedAccount payload (accountOf s i))
+      block-means s (bookedBytes s k en es) i known (booked-kept s k en es) (booked-node s k en es) (bookedAccount (saidIn payload) (accountOf s i))
       (rw (place-some s i known) (booked-place s k en es size known (entries-in-range payload octets) (omega (arith, book-length s k))))
 
   -- the answer is that the batch is booked, so there was room
@@ -164,8 +164,8 @@ module _ (s : List ℕ) (i : ℕ) (known : slotOf s i < heads) (size : length s 
       go false false q = let z : _≡_ {A = ℕ} 0 1 = cc in absurd (omega arith)
 
 module _ (s : List ℕ) (size : length s ≡ collectorLength) (payload : List ℕ) (octets : Octets payload) where
-  booking-means : (h : Heard) → heardAnswer h payload (boxOf s) ≡ Booked
-      → Same (boxOf (bookingBytes h payload s)) (afterBooking h payload (boxOf s))
+  booking-means : (h : Heard) → heardAnswer h (saidIn payload) (boxOf s) ≡ Booked
+      → Same (boxOf (bookingBytes h (saidIn payload) s)) (afterBooking h (saidIn payload) (boxOf s))
   booking-means (heard.Refused e) q = same-box (boxOf s)
   booking-means heard.Other q = same-box (boxOf s)
   booking-means (heard.Status source) q =
@@ -194,13 +194,13 @@ module _ (s : List ℕ) (size : length s ≡ collectorLength) (f : List ℕ) (oc
       go NotRegistered q = same-box (boxOf s)
       go BookFull q = same-box (boxOf s)
 
-booking-length : (h : Heard) (payload s : List ℕ) → length (bookingBytes h payload s) ≡ length s
-booking-length (heard.Refused e) payload s = refl
-booking-length heard.Other payload s = refl
-booking-length (heard.Status source) payload s = booked-length s (slotOf s (source .0)) (enIn (readFields payload)) (statusEntries payload)
+booking-length : (h : Heard) (said : Said) (s : List ℕ) → length (bookingBytes h said s) ≡ length s
+booking-length (heard.Refused e) said s = refl
+booking-length heard.Other said s = refl
+booking-length (heard.Status source) said s = booked-length s (slotOf s (source .0)) (enIn (said .fields)) (said .entries)
 
 pub read-length : (r : ReadAnswer) (f s : List ℕ) → length (readBytes r f s) ≡ length s
-read-length Booked f s = booking-length (heardIn (readFrame f)) (statusPayload f) s
+read-length Booked f s = booking-length (heardIn (readFrame f)) (saidIn (statusPayload f)) s
 read-length Known f s = refl
 read-length (Refused e) f s = refl
 read-length NotStatusResponse f s = refl

@@ -7,12 +7,10 @@ use mathlib.Core.Path.{_≡_}
 use mathlib.Core.List.{List}
 use lib.ListN.{length}
 use Rattle.types.specs.declared.NodeId.{NodeId}
-use Rattle.status_response.specs.Steps.{statusEntries}
 use Rattle.collector.specs.Layout.{boxOf, accountOf, accountIn, freshBytes, registerBytes, readBytes, bookedBytes, bookingBytes, takeBytes}
-use Rattle.collector.specs.Rules.{freshBox, Same, registerAnswer, registerCause, registerRow, afterRegister, bookAnswer, accountAnswer, readAnswer, readCause, readRow, afterRead, flagsAnswer, flagsCause, flagsRow, requestAnswer, requestCause, requestRow, requestFrame, afterRequest, takeAnswer, takeCause, takeRow, afterTake}
+use Rattle.collector.specs.Rules.{freshBox, Same, registerAnswer, registerCause, afterRegister, bookAnswer, accountAnswer, readAnswer, readCause, saidIn, whenBooked, afterRead, flagsAnswer, flagsCause, requestAnswer, requestCause, requestFrame, afterRequest, takeAnswer, takeCause, afterTake}
 use Rattle.collector.specs.declared.FlagsAnswer.{FlagsAnswer}
 use Rattle.collector.specs.declared.ReadAnswer.{ReadAnswer}
-use Rattle.collector.specs.declared.ReadAnswer.the-variants.{Booked, Known, Refused, NotStatusResponse, NotRegistered, BookFull}
 use Rattle.collector.specs.declared.RegisterAnswer.{RegisterAnswer}
 use Rattle.collector.specs.declared.RequestAnswer.{RequestAnswer}
 use Rattle.collector.specs.declared.RequestFields.{RequestFields}
@@ -25,30 +23,30 @@ pub record Fresh (after : List ℕ) : Type 0 where
 
 pub record Registers (i : NodeId) (r : RegisterAnswer) (state after : List ℕ) : Type 0 where
   pub answer : r ≡ registerAnswer (i .0) (boxOf state)
-  pub cause : registerCause r ≡ registerRow (i .0) (boxOf state)
+  pub cause : registerCause r ≡ registerCause (registerAnswer (i .0) (boxOf state))
   pub box : Same (boxOf after) (afterRegister r (i .0) (boxOf state))
   pub bytes : after ≡ registerBytes r (i .0) state
 
 pub record Reads (frame : List ℕ) (r : ReadAnswer) (state after : List ℕ) : Type 0 where
   pub answer : r ≡ readAnswer frame (boxOf state)
-  pub cause : readCause r ≡ readRow frame (boxOf state)
+  pub cause : readCause r ≡ readCause (readAnswer frame (boxOf state))
   pub box : Same (boxOf after) (afterRead r frame (boxOf state))
   pub bytes : after ≡ readBytes r frame state
 
 -- the state is lent to be read: it stays
 pub record Flags (i : NodeId) (r : FlagsAnswer) (state : List ℕ) : Type 0 where
   pub answer : r ≡ flagsAnswer (accountOf state (i .0))
-  pub cause : flagsCause r ≡ flagsRow (accountOf state (i .0))
+  pub cause : flagsCause r ≡ flagsCause (flagsAnswer (accountOf state (i .0)))
 
 pub record Requests (i : NodeId) (f : RequestFields) (r : RequestAnswer) (state target written : List ℕ) : Type 0 where
   pub answer : r ≡ requestAnswer (i .0) f target (accountOf state (i .0))
-  pub cause : requestCause r ≡ requestRow target (accountOf state (i .0))
+  pub cause : requestCause r ≡ requestCause (requestAnswer (i .0) f target (accountOf state (i .0)))
   pub size : (ea : Bool) → length (requestFrame (i .0) f ea) ≡ 60
   pub holds : written ≡ afterRequest (i .0) f target (accountOf state (i .0))
 
 pub record Takes (i : NodeId) (r : TakeAnswer) (state after : List ℕ) : Type 0 where
   pub answer : r ≡ takeAnswer (accountOf state (i .0))
-  pub cause : takeCause r ≡ takeRow (accountOf state (i .0))
+  pub cause : takeCause r ≡ takeCause (takeAnswer (accountOf state (i .0)))
   pub box : Same (boxOf after) (afterTake r (i .0) (boxOf state))
   pub bytes : after ≡ takeBytes r (i .0) state
 
@@ -56,25 +54,12 @@ pub record Takes (i : NodeId) (r : TakeAnswer) (state after : List ℕ) : Type 0
 
 -- the octets after a payload from a node
 abbrev pub statusBytes : ReadAnswer → ℕ → List ℕ → List ℕ → List ℕ
-statusBytes Booked source payload s = bookingBytes (heard.Status (record { 0 = source })) payload s
-statusBytes Known source payload s = s
-statusBytes (Refused e) source payload s = s
-statusBytes NotStatusResponse source payload s = s
-statusBytes NotRegistered source payload s = s
-statusBytes BookFull source payload s = s
+statusBytes r source payload s = whenBooked r (bookingBytes (heard.Status (record { 0 = source })) (saidIn payload) s) s
 
 pub record ReadsStatus (source : ℕ) (payload : List ℕ) (r : ReadAnswer) (state after : List ℕ) : Type 0 where
-  pub answer : r ≡ accountAnswer payload (accountOf state source)
+  pub answer : r ≡ accountAnswer (saidIn payload) (accountOf state source)
   pub bytes : after ≡ statusBytes r source payload state
 
-abbrev pub booksBytes : ReadAnswer → ℕ → Bool → List ℕ → List ℕ → List ℕ
-booksBytes Booked k en payload s = bookedBytes s k en (statusEntries payload)
-booksBytes Known k en payload s = s
-booksBytes (Refused e) k en payload s = s
-booksBytes NotStatusResponse k en payload s = s
-booksBytes NotRegistered k en payload s = s
-booksBytes BookFull k en payload s = s
-
 pub record Books (k : ℕ) (en : Bool) (payload : List ℕ) (r : ReadAnswer) (state after : List ℕ) : Type 0 where
-  pub answer : r ≡ bookAnswer en (statusEntries payload) (accountIn state k)
-  pub bytes : after ≡ booksBytes r k en payload state
+  pub answer : r ≡ bookAnswer en (saidIn payload .entries) (accountIn state k)
+  pub bytes : after ≡ whenBooked r (bookedBytes state k en (saidIn payload .entries)) state

@@ -13,15 +13,11 @@ use Rattle.codec.specs.Frame.{readFrame}
 use Rattle.error_entry.specs.declared.ErrorEntry.{ErrorEntry}
 use Rattle.records.specs.Records.{entryLength, recordAt, withRecord}
 use Rattle.records.specs.Ring.{ring}
-use Rattle.status_response.specs.Fields.{readFields}
-use Rattle.status_response.specs.Steps.{statusEntries}
-use Rattle.collector.specs.Rules.{heads, bookLength, Account, Box, heardIn, enIn, statusPayload}
+use Rattle.collector.specs.Rules.{heads, bookLength, Account, Box, whenRegistered, heardIn, Said, saidIn, enIn, statusPayload, whenBooked, whenTaken}
 use Rattle.collector.specs.declared.ReadAnswer.{ReadAnswer}
-use Rattle.collector.specs.declared.ReadAnswer.the-variants.{Booked, Known, Refused, NotStatusResponse, NotRegistered, BookFull}
+use Rattle.collector.specs.declared.ReadAnswer.the-variants.{Refused}
 use Rattle.collector.specs.declared.RegisterAnswer.{RegisterAnswer}
-use Rattle.collector.specs.declared.RegisterAnswer.the-variants.{Registered, IdOutOfRange, IdRegistered, Full}
 use Rattle.collector.specs.declared.TakeAnswer.{TakeAnswer}
-use Rattle.collector.specs.declared.TakeAnswer.the-variants as taking
 use Rattle.collector.specs.declared.reading.Heard.{Heard}
 use Rattle.collector.specs.declared.reading.Heard.the-variants as heard
 
@@ -117,10 +113,7 @@ unfoldable pub placedBytes : List ℕ → ℕ → ℕ → List ℕ
 placedBytes s k i = set (set (set (set s (block k + nodeAt) i) (block k + eaAt) 0) (block k + startAt) 0) (block k + countAt) 0
 
 abbrev pub registerBytes : RegisterAnswer → ℕ → List ℕ → List ℕ
-registerBytes Registered i s = placedBytes s (findOf s 0) i
-registerBytes IdOutOfRange i s = s
-registerBytes IdRegistered i s = s
-registerBytes Full i s = s
+registerBytes r i s = whenRegistered r (placedBytes s (findOf s 0) i) s
 
 -- the entry's record behind those of the book
 unfoldable pub pushedBytes : List ℕ → ℕ → ErrorEntry → List ℕ
@@ -133,25 +126,17 @@ pushedAll s k (e ∷ es) = pushedAll (pushedBytes s k e) k es
 unfoldable pub bookedBytes : List ℕ → ℕ → Bool → List ErrorEntry → List ℕ
 bookedBytes s k en es = set (pushedAll s k es) (block k + eaAt) (pick en 1 0)
 
-abbrev pub bookingBytes : Heard → List ℕ → List ℕ → List ℕ
-bookingBytes (heard.Refused e) payload s = s
-bookingBytes heard.Other payload s = s
-bookingBytes (heard.Status source) payload s =
-    bookedBytes s (slotOf s (source .0)) (enIn (readFields payload)) (statusEntries payload)
+abbrev pub bookingBytes : Heard → Said → List ℕ → List ℕ
+bookingBytes (heard.Refused e) said s = s
+bookingBytes heard.Other said s = s
+bookingBytes (heard.Status source) said s = bookedBytes s (slotOf s (source .0)) (enIn (said .fields)) (said .entries)
 
 abbrev pub readBytes : ReadAnswer → List ℕ → List ℕ → List ℕ
-readBytes Booked f s = bookingBytes (heardIn (readFrame f)) (statusPayload f) s
-readBytes Known f s = s
-readBytes (Refused e) f s = s
-readBytes NotStatusResponse f s = s
-readBytes NotRegistered f s = s
-readBytes BookFull f s = s
+readBytes r f s = whenBooked r (bookingBytes (heardIn (readFrame f)) (saidIn (statusPayload f)) s) s
 
 -- the book's start moves past its first record
 unfoldable pub takenBytes : List ℕ → ℕ → List ℕ
 takenBytes s k = set (set s (block k + startAt) ((startIn s k + 1) % bookLength)) (block k + countAt) (countIn s k - 1)
 
 abbrev pub takeBytes : TakeAnswer → ℕ → List ℕ → List ℕ
-takeBytes (taking.Taken e) i s = takenBytes s (slotOf s i)
-takeBytes taking.NotRegistered i s = s
-takeBytes taking.NothingBooked i s = s
+takeBytes r i s = whenTaken r (takenBytes s (slotOf s i)) s

@@ -77,6 +77,10 @@ pub record Same (a b : Box) : Type 0 where
 abbrev pub withAccount : ℕ → Account → Box → Box
 withAccount i p b = record { accounts = λ j. pick (eqb j i) (some p) (b .accounts j); vacant = b .vacant }
 
+-- cause 11, "ID not registered", of every call that takes an ID
+abbrev pub notRegistered : Cause
+notRegistered = row 11 []
+
 -- ---- registering
 
 abbrev pub isRegistered : Option Account → Bool
@@ -99,19 +103,16 @@ registerCause IdOutOfRange = row 13 []
 registerCause IdRegistered = row 14 []
 registerCause Full = row 15 []
 
--- and for each input
-abbrev pub registeredRow : Option Account → ℕ → Cause
-registeredRow (some p) vacant = row 14 []
-registeredRow none vacant = need (ltb 0 vacant) (row 15 []) (row 0 [])
+abbrev pub whenRegistered : {A : Type 0} → RegisterAnswer → A → A → A
+whenRegistered Registered a b = a
+whenRegistered IdOutOfRange a b = b
+whenRegistered IdRegistered a b = b
+whenRegistered Full a b = b
 
-abbrev pub registerRow : ℕ → Box → Cause
-registerRow i b = need (leb 1 i && leb i 239) (row 13 []) (registeredRow (b .accounts i) (b .vacant))
-
+-- "gives a head a place": EA 0 and an empty book
 abbrev pub afterRegister : RegisterAnswer → ℕ → Box → Box
-afterRegister Registered i b = record { accounts = withAccount i freshAccount b .accounts; vacant = b .vacant - 1 }
-afterRegister IdOutOfRange i b = b
-afterRegister IdRegistered i b = b
-afterRegister Full i b = b
+afterRegister r i b =
+    whenRegistered r (record { accounts = withAccount i freshAccount b .accounts; vacant = b .vacant - 1 }) b
 
 -- ---- reading a frame
 
@@ -144,6 +145,19 @@ heardIn (frame.Frame f) = heardFrame f
 abbrev pub statusPayload : List ℕ → List ℕ
 statusPayload f = drop 18 f
 
+-- what a StatusResponse says: its fields, or why they cannot be read, and its entries
+pub record Said : Type 0 where
+  pub fields : StatusAnswer
+  pub entries : List ErrorEntry
+
+abbrev pub saidIn : List ℕ → Said
+saidIn payload = record { fields = readFields payload; entries = statusEntries payload }
+
+-- EN, where the fields can be read
+abbrev pub enIn : StatusAnswer → Bool
+enIn (status.Refused e) = false
+enIn (status.Status f) = f .«en_flag»
+
 -- "EN equal to EA means known"; 12: "fewer free places than batch entries"
 unfoldable pub bookAnswer : Bool → List ErrorEntry → Account → ReadAnswer
 bookAnswer en es p = pick (Bool·beq en (p .ea)) Known (need (leb (length (p .book) + length es) bookLength) BookFull Booked)
@@ -154,67 +168,48 @@ statusAnswer (status.Refused e) es p = Refused e
 statusAnswer (status.Status f) es p = bookAnswer (f .«en_flag») es p
 
 -- 11: "ID not registered"
-abbrev pub accountAnswer : List ℕ → Option Account → ReadAnswer
-accountAnswer payload none = NotRegistered
-accountAnswer payload (some p) = statusAnswer (readFields payload) (statusEntries payload) p
+abbrev pub accountAnswer : Said → Option Account → ReadAnswer
+accountAnswer said none = NotRegistered
+accountAnswer said (some p) = statusAnswer (said .fields) (said .entries) p
 
 -- "Box order: frame rules, 10, 11, StatusResponse rules (1, 5), known, 12"
-abbrev pub heardAnswer : Heard → List ℕ → Box → ReadAnswer
-heardAnswer (heard.Refused e) payload b = Refused e
-heardAnswer heard.Other payload b = NotStatusResponse
-heardAnswer (heard.Status source) payload b = accountAnswer payload (b .accounts (source .0))
+abbrev pub heardAnswer : Heard → Said → Box → ReadAnswer
+heardAnswer (heard.Refused e) said b = Refused e
+heardAnswer heard.Other said b = NotStatusResponse
+heardAnswer (heard.Status source) said b = accountAnswer said (b .accounts (source .0))
 
 unfoldable pub readAnswer : List ℕ → Box → ReadAnswer
-readAnswer f b = heardAnswer (heardIn (readFrame f)) (statusPayload f) b
+readAnswer f b = heardAnswer (heardIn (readFrame f)) (saidIn (statusPayload f)) b
 
 abbrev pub readCause : ReadAnswer → Cause
 readCause Booked = row 0 []
 readCause Known = row 0 []
 readCause (Refused e) = causeOf e
 readCause NotStatusResponse = row 10 []
-readCause NotRegistered = row 11 []
+readCause NotRegistered = notRegistered
 readCause BookFull = row 12 []
 
-abbrev pub statusRow : StatusAnswer → List ErrorEntry → Account → Cause
-statusRow (status.Refused e) es p = causeOf e
-statusRow (status.Status f) es p =
-    pick (Bool·beq (f .«en_flag») (p .ea)) (row 0 []) (need (leb (length (p .book) + length es) bookLength) (row 12 []) (row 0 []))
-
-abbrev pub accountRow : List ℕ → Option Account → Cause
-accountRow payload none = row 11 []
-accountRow payload (some p) = statusRow (readFields payload) (statusEntries payload) p
-
-abbrev pub heardRow : Heard → List ℕ → Box → Cause
-heardRow (heard.Refused e) payload b = causeOf e
-heardRow heard.Other payload b = row 10 []
-heardRow (heard.Status source) payload b = accountRow payload (b .accounts (source .0))
-
-abbrev pub readRow : List ℕ → Box → Cause
-readRow f b = heardRow (heardIn (readFrame f)) (statusPayload f) b
-
--- EN of a payload that can be read
-abbrev pub enIn : StatusAnswer → Bool
-enIn (status.Refused e) = false
-enIn (status.Status f) = f .«en_flag»
+abbrev pub whenBooked : {A : Type 0} → ReadAnswer → A → A → A
+whenBooked Booked a b = a
+whenBooked Known a b = b
+whenBooked (Refused e) a b = b
+whenBooked NotStatusResponse a b = b
+whenBooked NotRegistered a b = b
+whenBooked BookFull a b = b
 
 -- "the whole batch goes into the book and EA becomes EN"
-abbrev pub bookedAccount : List ℕ → Option Account → Account
-bookedAccount payload none = freshAccount
-bookedAccount payload (some p) = record { ea = enIn (readFields payload); book = p .book ++ statusEntries payload }
+abbrev pub bookedAccount : Said → Option Account → Account
+bookedAccount said none = freshAccount
+bookedAccount said (some p) = record { ea = enIn (said .fields); book = p .book ++ said .entries }
 
-abbrev pub afterBooking : Heard → List ℕ → Box → Box
-afterBooking (heard.Refused e) payload b = b
-afterBooking heard.Other payload b = b
-afterBooking (heard.Status source) payload b = withAccount (source .0) (bookedAccount payload (b .accounts (source .0))) b
+abbrev pub afterBooking : Heard → Said → Box → Box
+afterBooking (heard.Refused e) said b = b
+afterBooking heard.Other said b = b
+afterBooking (heard.Status source) said b = withAccount (source .0) (bookedAccount said (b .accounts (source .0))) b
 
 -- only what is booked changes anything
 abbrev pub afterRead : ReadAnswer → List ℕ → Box → Box
-afterRead Booked f b = afterBooking (heardIn (readFrame f)) (statusPayload f) b
-afterRead Known f b = b
-afterRead (Refused e) f b = b
-afterRead NotStatusResponse f b = b
-afterRead NotRegistered f b = b
-afterRead BookFull f b = b
+afterRead r f b = whenBooked r (afterBooking (heardIn (readFrame f)) (saidIn (statusPayload f)) b) b
 
 -- ---- the flags
 
@@ -225,11 +220,7 @@ flagsAnswer (some p) = flagging.Flags (record { ea = p .ea; er = false })
 
 abbrev pub flagsCause : FlagsAnswer → Cause
 flagsCause (flagging.Flags f) = row 0 []
-flagsCause flagging.NotRegistered = row 11 []
-
-abbrev pub flagsRow : Option Account → Cause
-flagsRow none = row 11 []
-flagsRow (some p) = row 0 []
+flagsCause flagging.NotRegistered = notRegistered
 
 -- ---- request
 
@@ -256,12 +247,8 @@ requestAnswer i f target (some p) = requestWritten (requestFrame i f (p .ea)) ta
 
 abbrev pub requestCause : RequestAnswer → Cause
 requestCause (requesting.Written n) = row 0 (n ∷ [])
-requestCause requesting.NotRegistered = row 11 []
+requestCause requesting.NotRegistered = notRegistered
 requestCause (requesting.Refused e) = causeOf e
-
-abbrev pub requestRow : List ℕ → Option Account → Cause
-requestRow target none = row 11 []
-requestRow target (some p) = pick (leb 60 (length target)) (row 0 (60 ∷ [])) (row 1 [])
 
 -- what the target then holds
 abbrev pub afterRequest : ℕ → RequestFields → List ℕ → Option Account → List ℕ
@@ -282,23 +269,18 @@ takeAnswer (some p) = takeFirst (p .book)
 
 abbrev pub takeCause : TakeAnswer → Cause
 takeCause (taking.Taken e) = row 0 []
-takeCause taking.NotRegistered = row 11 []
+takeCause taking.NotRegistered = notRegistered
 takeCause taking.NothingBooked = row 16 []
-
-abbrev pub bookRow : List ErrorEntry → Cause
-bookRow [] = row 16 []
-bookRow (e ∷ es) = row 0 []
-
-abbrev pub takeRow : Option Account → Cause
-takeRow none = row 11 []
-takeRow (some p) = bookRow (p .book)
 
 -- "and its place is used again"
 abbrev pub withoutFirst : Option Account → Account
 withoutFirst none = freshAccount
 withoutFirst (some p) = record { ea = p .ea; book = drop 1 (p .book) }
 
+abbrev pub whenTaken : {A : Type 0} → TakeAnswer → A → A → A
+whenTaken (taking.Taken e) a b = a
+whenTaken taking.NotRegistered a b = b
+whenTaken taking.NothingBooked a b = b
+
 abbrev pub afterTake : TakeAnswer → ℕ → Box → Box
-afterTake (taking.Taken e) i b = withAccount i (withoutFirst (b .accounts i)) b
-afterTake taking.NotRegistered i b = b
-afterTake taking.NothingBooked i b = b
+afterTake r i b = whenTaken r (withAccount i (withoutFirst (b .accounts i)) b) b

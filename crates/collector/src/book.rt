@@ -2,9 +2,8 @@
 ghost use mathlib.Core.Path.{_≡_};
 ghost use Prim.Native.Nat.{_+_, _≤_, _<_};
 ghost use lib.ListN.{length, take};
-ghost use Rattle.status_response.specs.Steps.{statusEntries};
 ghost use Rattle.collector.specs.Layout.{countIn, startIn, entryIn, takenBytes, pushedBytes, pushedAll};
-ghost use Rattle.collector.specs.Rules.{heads, bookLength};
+ghost use Rattle.collector.specs.Rules.{saidIn, heads, bookLength};
 use crate::BLOCK_LEN;
 use crate::COUNT_AT;
 use crate::Collector;
@@ -45,7 +44,7 @@ pub(crate) fn push(state: &mut Collector, k: usize, e: ErrorEntry)
 
 // How many entries a payload holds.
 pub(crate) fn count_entries(payload: &[u8]) -> usize
-    ensures { λ r. ⌜ r ≡ length (statusEntries (now (payload .entry))) ⌝ }
+    ensures { λ r. ⌜ r ≡ length (saidIn (now (payload .entry)) .entries) ⌝ }
 {
     let mut n = 0usize;
     let mut at = 14usize;
@@ -62,8 +61,8 @@ pub(crate) fn count_entries(payload: &[u8]) -> usize
 
 // The first `n` entries of a payload join the book, in order.
 pub(crate) fn push_entries(state: &mut Collector, k: usize, payload: &[u8], n: usize)
-    requires { ⌜ (k < heads) × (n ≤ length (statusEntries (now payload))) × (countIn (now state) k + n ≤ bookLength) ⌝ }
-    ensures { λ _. ⌜ now (state .exit) ≡ pushedAll (now (state .entry)) k (take n (statusEntries (now (payload .entry)))) ⌝ }
+    requires { ⌜ (k < heads) × (n ≤ length (saidIn (now payload) .entries)) × (countIn (now state) k + n ≤ bookLength) ⌝ }
+    ensures { λ _. ⌜ now (state .exit) ≡ pushedAll (now (state .entry)) k (take n (saidIn (now (payload .entry)) .entries)) ⌝ }
 {
     let mut i = 0usize;
     while i < n {

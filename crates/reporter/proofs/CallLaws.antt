@@ -20,16 +20,16 @@ use Rattle.reporter.specs.declared.ReadAnswer.the-variants.{Closed, Kept
 use Rattle.reporter.specs.declared.acknowledge.Heard.{Heard}
 use Rattle.reporter.proofs.Meaning.{Widths, made, raises-means, reads-means}
 use Rattle.reporter.proofs.Ranges.{en-is, waiting-length, batch-empty}
-use Rattle.reporter.proofs.Rows.{new-row, raise-row, read-row}
+use Rattle.reporter.proofs.Rows.{read-row}
 
 -- ---- a new head
 
 module _ (i : NodeId) (s : List ℕ) where
   pub makes-not : IdOutOfRange ≡ newAnswer (i .0) → Makes i IdOutOfRange s s
-  makes-not e = record { answer = e; cause = ap newCause e ∙ new-row (i .0); head = λ r. let z : _≡_ {A = ℕ} 0 1 = cc in absurd (omega arith); bytes = refl }
+  makes-not e = record { answer = e; cause = ap newCause e; head = λ r. let z : _≡_ {A = ℕ} 0 1 = cc in absurd (omega arith); bytes = refl }
 
   pub makes : Made ≡ newAnswer (i .0) → Makes i Made s (newBytes Made (i .0) s)
-  makes e = record { answer = e; cause = ap newCause e ∙ new-row (i .0); head = λ r. made (i .0) s; bytes = refl }
+  makes e = record { answer = e; cause = ap newCause e; head = λ r. made (i .0) s; bytes = refl }
 
   pub id-low : i .0 < 1 → IdOutOfRange ≡ newAnswer (i .0)
   id-low h = rw (lt-leb 1 (i .0) h)
@@ -59,14 +59,14 @@ module _ (e : ErrorEntry) (s : List ℕ) where
       raise-good l = rw (sym eb ∙ h, waiting-length s, ← en, lt-ltb n queueLength l)
 
   pub invalid : EntryInvalid ≡ raiseAnswer e (headOf s) → Raises e EntryInvalid s s
-  invalid r = record { answer = r; cause = ap raiseCause r ∙ raise-row e (headOf s); head = refl; bytes = refl }
+  invalid r = record { answer = r; cause = ap raiseCause r; head = refl; bytes = refl }
 
   pub full : QueueFull ≡ raiseAnswer e (headOf s) → Raises e QueueFull s s
-  full r = record { answer = r; cause = ap raiseCause r ∙ raise-row e (headOf s); head = refl; bytes = refl }
+  full r = record { answer = r; cause = ap raiseCause r; head = refl; bytes = refl }
 
   pub raised : (after : List ℕ) → length s ≡ reporterLength → Widths e → Raised ≡ raiseAnswer e (headOf s) → after ≡ raiseBytes Raised e s → Raises e Raised s after
   raised after size w r b =
-      record { answer = r; cause = ap raiseCause r ∙ raise-row e (headOf s); head = ap headOf b ∙ rw (← r) at (raises-means e s size w); bytes = b }
+      record { answer = r; cause = ap raiseCause r; head = ap headOf b ∙ rw (← r) at (raises-means e s size w); bytes = b }
 
 -- ---- reading
 

@@ -12,7 +12,7 @@ use Rattle.section.specs.declared.WriteAnswer.{WriteAnswer}
 use Rattle.codec.specs.Frame.{readFrame, frameCause}
 use Rattle.error_entry.specs.declared.ErrorEntry.{ErrorEntry}
 use Rattle.reporter.specs.Layout.{headOf, newBytes, raiseBytes, answerBytes, readBytes}
-use Rattle.reporter.specs.Rules.{freshHead, newAnswer, newCause, newRow, raiseAnswer, raiseCause, raiseRow, afterRaise, opened, answerFrame, answerLength, afterAnswer, heardIn, eaAnswer, heardAnswer, readCause, afterRead}
+use Rattle.reporter.specs.Rules.{freshHead, newAnswer, newCause, raiseAnswer, raiseCause, afterRaise, opened, answerFrame, answerLength, afterAnswer, heardIn, eaAnswer, heardAnswer, readCause, afterRead}
 use Rattle.reporter.specs.declared.AnswerFields.{AnswerFields}
 use Rattle.reporter.specs.declared.NewAnswer.{NewAnswer}
 use Rattle.reporter.specs.declared.NewAnswer.the-variants.{Made}
@@ -22,13 +22,13 @@ use Rattle.reporter.specs.declared.ReadAnswer.{ReadAnswer}
 -- a head is made, and it is a fresh one; or "no head is made"
 pub record Makes (i : NodeId) (r : NewAnswer) (state after : List ℕ) : Type 0 where
   pub answer : r ≡ newAnswer (i .0)
-  pub cause : newCause r ≡ newRow (i .0)
+  pub cause : newCause r ≡ newCause (newAnswer (i .0))
   pub head : r ≡ Made → headOf after ≡ freshHead (i .0)
   pub bytes : after ≡ newBytes r (i .0) state
 
 pub record Raises (e : ErrorEntry) (r : RaiseAnswer) (state after : List ℕ) : Type 0 where
   pub answer : r ≡ raiseAnswer e (headOf state)
-  pub cause : raiseCause r ≡ raiseRow e (headOf state)
+  pub cause : raiseCause r ≡ raiseCause (raiseAnswer e (headOf state))
   pub head : headOf after ≡ afterRaise r e (headOf state)
   pub bytes : after ≡ raiseBytes r e state
 

@@ -8,17 +8,14 @@ use lib.ListN.{getD, set, replicate}
 use lib.Dec.{eqb, ltb}
 use Rattle.types.specs.Codes.{pick}
 use Rattle.section.specs.declared.WriteAnswer.{WriteAnswer}
-use Rattle.section.specs.declared.WriteAnswer.the-variants as write
 use Rattle.error_entry.specs.declared.ErrorEntry.{ErrorEntry}
 use Rattle.records.specs.Records.{entryLength, recordAt, withRecord}
 use Rattle.records.specs.Ring.{ring}
-use Rattle.reporter.specs.Rules.{batchLength, queueLength, Head}
+use Rattle.reporter.specs.Rules.{batchLength, queueLength, Head, whenRaised, whenWritten, whenClosed}
 use Rattle.reporter.specs.declared.NewAnswer.{NewAnswer}
 use Rattle.reporter.specs.declared.NewAnswer.the-variants.{Made, IdOutOfRange}
 use Rattle.reporter.specs.declared.RaiseAnswer.{RaiseAnswer}
-use Rattle.reporter.specs.declared.RaiseAnswer.the-variants.{Raised, EntryInvalid, QueueFull}
 use Rattle.reporter.specs.declared.ReadAnswer.{ReadAnswer}
-use Rattle.reporter.specs.declared.ReadAnswer.the-variants.{Closed, Kept, Ignored, Refused}
 
 -- ---- where the octets stand: control octets, then the ring's records
 
@@ -92,9 +89,7 @@ unfoldable pub raisedBytes : ErrorEntry → List ℕ → List ℕ
 raisedBytes e s = set (withRecord s (recordPlace (startOf s + openOf s + waitingOf s)) e) waitingAt (waitingOf s + 1)
 
 abbrev pub raiseBytes : RaiseAnswer → ErrorEntry → List ℕ → List ℕ
-raiseBytes Raised e s = raisedBytes e s
-raiseBytes EntryInvalid e s = s
-raiseBytes QueueFull e s = s
+raiseBytes r e s = whenRaised r (raisedBytes e s) s
 
 -- whether an answer opens a batch
 abbrev pub opensIn : List ℕ → Bool
@@ -116,12 +111,8 @@ openedBytes s =
     s
 
 abbrev pub answerBytes : WriteAnswer → List ℕ → List ℕ
-answerBytes (write.Written n) s = openedBytes s
-answerBytes (write.Refused e) s = s
+answerBytes r s = whenWritten r (openedBytes s) s
 
 -- closing moves the ring's start past the batch
 abbrev pub readBytes : ReadAnswer → List ℕ → List ℕ
-readBytes Closed s = set (set s startAt ((startOf s + openOf s) % places)) openAt 0
-readBytes Kept s = s
-readBytes Ignored s = s
-readBytes (Refused e) s = s
+readBytes r s = whenClosed r (set (set s startAt ((startOf s + openOf s) % places)) openAt 0) s

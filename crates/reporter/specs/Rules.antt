@@ -61,10 +61,6 @@ abbrev pub newCause : NewAnswer → Cause
 newCause Made = row 0 []
 newCause IdOutOfRange = row 13 []
 
--- and for each input
-abbrev pub newRow : ℕ → Cause
-newRow i = need (leb 1 i && leb i 239) (row 13 []) (row 0 [])
-
 -- ---- Raise
 
 -- cause 8 says what may not be raised: "entry of mode 0, or profile above 4,095"
@@ -80,14 +76,14 @@ raiseCause Raised = row 0 []
 raiseCause EntryInvalid = row 8 []
 raiseCause QueueFull = row 9 []
 
-abbrev pub raiseRow : ErrorEntry → Head → Cause
-raiseRow e h = need (isRaisable e) (row 8 []) (need (ltb (length (h .waiting)) queueLength) (row 9 []) (row 0 []))
+abbrev pub whenRaised : {A : Type 0} → RaiseAnswer → A → A → A
+whenRaised Raised a b = a
+whenRaised EntryInvalid a b = b
+whenRaised QueueFull a b = b
 
 -- "the entry joins the waiting ones, last"
 abbrev pub afterRaise : RaiseAnswer → ErrorEntry → Head → Head
-afterRaise Raised e h = record { id = h .id; en = h .en; batch = h .batch; waiting = h .waiting ++ (e ∷ []) }
-afterRaise EntryInvalid e h = h
-afterRaise QueueFull e h = h
+afterRaise r e h = whenRaised r (record { id = h .id; en = h .en; batch = h .batch; waiting = h .waiting ++ (e ∷ []) }) h
 
 -- ---- Answer
 
@@ -127,10 +123,13 @@ abbrev pub answerLength : ℕ → ℕ
 answerLength zero = 60
 answerLength (suc n) = 52 + 20 * suc n
 
+abbrev pub whenWritten : {A : Type 0} → WriteAnswer → A → A → A
+whenWritten (write.Written n) a b = a
+whenWritten (write.Refused e) a b = b
+
 -- "A refused answer changes nothing"
 abbrev pub afterAnswer : WriteAnswer → Head → Head
-afterAnswer (write.Written n) h = opened h
-afterAnswer (write.Refused e) h = h
+afterAnswer r h = whenWritten r (opened h) h
 
 -- ---- reading a frame
 
@@ -166,8 +165,11 @@ readCause Kept = row 0 []
 readCause Ignored = row 0 []
 readCause (Refused e) = causeOf e
 
+abbrev pub whenClosed : {A : Type 0} → ReadAnswer → A → A → A
+whenClosed Closed a b = a
+whenClosed Kept a b = b
+whenClosed Ignored a b = b
+whenClosed (Refused e) a b = b
+
 abbrev pub afterRead : ReadAnswer → Head → Head
-afterRead Closed h = record { id = h .id; en = h .en; batch = []; waiting = h .waiting }
-afterRead Kept h = h
-afterRead Ignored h = h
-afterRead (Refused e) h = h
+afterRead r h = whenClosed r (record { id = h .id; en = h .en; batch = []; waiting = h .waiting }) h

@@ -21,7 +21,6 @@ use Rattle.reporter.specs.Rules.{newAnswer, newCause, raiseAnswer, opened, answ
 use Rattle.reporter.specs.declared.AnswerFields.{AnswerFields}
 use Rattle.reporter.specs.declared.NewAnswer.the-variants.{Made}
 use Rattle.reporter.proofs.Meaning.{answer-size, made, new-length, raises-length, raises-means, opens-length, opens-means, reads-length, reads-means}
-use Rattle.reporter.proofs.Rows.{new-row, raise-row}
 use Rattle.reporter.proofs.Rows.{read-row as head-row}
 use Rattle.collector.specs.Calls as collector
 use Rattle.collector.specs.Layout as layout
@@ -29,13 +28,12 @@ use Rattle.collector.specs.Layout.{collectorLength, boxOf, accountOf, freshByte
 use Rattle.collector.specs.Rules.{registerAnswer, readAnswer, requestAnswer, afterRequest, takeAnswer}
 use Rattle.collector.specs.declared.RequestFields.{RequestFields}
 use Rattle.collector.proofs.Meaning.{fresh-means, register-means, register-length, read-means, read-length, request-size, take-means, take-length}
-use Rattle.collector.proofs.Rows.{register-row, read-row, request-row, take-row}
 use Rattle.signaling.specs.Calls.{Numbers, node}
 
 -- ---- the head's calls
 
 pub makes : (i : ℕ) (s : List ℕ) → newAnswer i ≡ Made → reporter.Makes (node i) Made s (newBytes Made i s) × (length (newBytes Made i s) ≡ reporterLength)
-makes i s ok = (record { answer = sym ok; cause = ap newCause (sym ok) ∙ new-row i; head = λ e. made i s; bytes = refl }, new-length i s)
+makes i s ok = (record { answer = sym ok; cause = ap newCause (sym ok); head = λ e. made i s; bytes = refl }, new-length i s)
 
 pub raises : (s : List ℕ) (e : ErrorEntry) → length s ≡ reporterLength → Numbers e
     → reporter.Raises e (raiseAnswer e (headOf s)) s (raiseBytes (raiseAnswer e (headOf s)) e s)
@@ -43,7 +41,7 @@ pub raises : (s : List ℕ) (e : ErrorEntry) → length s ≡ reporterLength →
 raises s e size n = (
   record {
     answer = refl;
-    cause = raise-row e (headOf s);
+    cause = refl;
     head =
         raises-means e s size
         (record { code = n .code; seconds = n .seconds; nanoseconds = n .nanoseconds; information = n .information });
@@ -103,20 +101,20 @@ pub registers : (s : List ℕ) (i : ℕ) → length s ≡ collectorLength
     → collector.Registers (node i) (registerAnswer i (boxOf s)) s (registerBytes (registerAnswer i (boxOf s)) i s)
     × (length (registerBytes (registerAnswer i (boxOf s)) i s) ≡ collectorLength)
 registers s i size =
-    (record { answer = refl; cause = register-row i (boxOf s); box = register-means s size i; bytes = refl }, register-length (registerAnswer i (boxOf s)) i s ∙ size)
+    (record { answer = refl; cause = refl; box = register-means s size i; bytes = refl }, register-length (registerAnswer i (boxOf s)) i s ∙ size)
 
 -- the frame's octets are asked to be octets, since its entries are kept as octets
 pub books : (s bs : List ℕ) → length s ≡ collectorLength → Octets bs
     → collector.Reads bs (readAnswer bs (boxOf s)) s (layout.readBytes (readAnswer bs (boxOf s)) bs s)
     × (length (layout.readBytes (readAnswer bs (boxOf s)) bs s) ≡ collectorLength)
 books s bs size octets =
-    (record { answer = refl; cause = read-row bs (boxOf s); box = read-means s size bs octets; bytes = refl }, read-length (readAnswer bs (boxOf s)) bs s ∙ size)
+    (record { answer = refl; cause = refl; box = read-means s size bs octets; bytes = refl }, read-length (readAnswer bs (boxOf s)) bs s ∙ size)
 
 pub asks : (s : List ℕ) (i : ℕ) (f : RequestFields) (target : List ℕ)
     → collector.Requests (node i) f (requestAnswer i f target (accountOf s i)) s target (afterRequest i f target (accountOf s i))
-asks s i f target = record { answer = refl; cause = request-row i f target (accountOf s i); size = request-size i f; holds = refl }
+asks s i f target = record { answer = refl; cause = refl; size = request-size i f; holds = refl }
 
 pub hands : (s : List ℕ) (i : ℕ) → length s ≡ collectorLength
     → collector.Takes (node i) (takeAnswer (accountOf s i)) s (takeBytes (takeAnswer (accountOf s i)) i s)
     × (length (takeBytes (takeAnswer (accountOf s i)) i s) ≡ collectorLength)
-hands s i size = (record { answer = refl; cause = take-row (accountOf s i); box = take-means s size i; bytes = refl }, take-length (takeAnswer (accountOf s i)) i s ∙ size)
+hands s i size = (record { answer = refl; cause = refl; box = take-means s size i; bytes = refl }, take-length (takeAnswer (accountOf s i)) i s ∙ size)

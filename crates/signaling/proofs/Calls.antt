@@ -23,13 +23,11 @@ use Rattle.codec.specs.Frame.{readFrame}
 use Rattle.codec.specs.declared.FrameAnswer.{FrameAnswer}
 use Rattle.codec.specs.declared.FrameAnswer.the-variants as frame
 use Rattle.error_entry.specs.declared.ErrorEntry.{ErrorEntry}
-use Rattle.status_response.specs.Fields.{readFields}
-use Rattle.status_response.specs.Steps.{statusEntries}
 use Rattle.status_response.specs.declared.fields.StatusAnswer.{StatusAnswer}
-use Rattle.status_response.specs.declared.fields.StatusAnswer.the-variants as said
+use Rattle.status_response.specs.declared.fields.StatusAnswer.the-variants as status
 use Rattle.reporter.specs.Rules.{Head, eaFor, heardFrame, heardIn, heardAnswer, afterRead}
 use Rattle.reporter.specs.declared.acknowledge.Heard.the-variants as heard
-use Rattle.collector.specs.Rules.{bookLength, Account, Box, registerVacant, registerAnswer, afterRegister, heardService, heardFrame as boxHeardFrame, heardIn as boxHeard, statusPayload, bookAnswer, statusAnswer, accountAnswer, enIn, bookedAccount, afterBooking, afterRead as boxAfterRead, requestAnswer, requestFrame, asRequest, afterRequest, takeFirst, takeAnswer, afterTake}
+use Rattle.collector.specs.Rules.{saidIn, Said, bookLength, Account, Box, registerVacant, registerAnswer, afterRegister, heardService, heardFrame as boxHeardFrame, heardIn as boxHeard, statusPayload, bookAnswer, statusAnswer, accountAnswer, enIn, bookedAccount, afterBooking, afterRead as boxAfterRead, requestAnswer, requestFrame, asRequest, afterRequest, takeFirst, takeAnswer, afterTake}
 use Rattle.collector.specs.declared.reading.Heard.the-variants as boxHears
 use Rattle.collector.specs.declared.ReadAnswer.{ReadAnswer}
 use Rattle.collector.specs.declared.ReadAnswer.the-variants as box
@@ -111,11 +109,11 @@ module _ (i j : ℕ) (f : RequestFields) (ea : Bool) (six : length (f .«source_
 
 -- ---- the box reads
 
-pub record WhyBooked (payload : List ℕ) (o : Option Account) : Type 0 where
+pub record WhyBooked (said : Said) (o : Option Account) : Type 0 where
   pub place : Account
   pub known : o ≡ some place
-  pub fresh : Bool·beq (enIn (readFields payload)) (place .ea) ≡ false
-  pub room : length (place .book) + length (statusEntries payload) ≤ bookLength
+  pub fresh : Bool·beq (enIn (said .fields)) (place .ea) ≡ false
+  pub room : length (place .book) + length (said .entries) ≤ bookLength
 
 booked-by : (same fits : Bool) → box.Booked ≡ pick same box.Known (need fits box.BookFull box.Booked) → (same ≡ false) × (fits ≡ true)
 booked-by true fits e = clash cc
@@ -125,22 +123,22 @@ booked-by false false e = clash cc
 booked-status : (a : StatusAnswer) (es : List ErrorEntry) (p : Account) → box.Booked ≡ statusAnswer a es p
     → (Bool·beq (enIn a) (p .ea) ≡ false) × (length (p .book) + length es ≤ bookLength)
 unfolding bookAnswer
-booked-status (said.Refused x) es p e = clash cc
-booked-status (said.Status f) es p e =
+booked-status (status.Refused x) es p e = clash cc
+booked-status (status.Status f) es p e =
     let y = booked-by (Bool·beq (f .«en_flag») (p .ea)) (leb (length (p .book) + length es) bookLength) e in
     (y .0, leb-true (length (p .book) + length es) bookLength (y .1))
 
-pub why-booked : (payload : List ℕ) (o : Option Account) → box.Booked ≡ accountAnswer payload o → WhyBooked payload o
-why-booked payload none e = clash cc
-why-booked payload (some p) e =
-    let y = booked-status (readFields payload) (statusEntries payload) p e in
+pub why-booked : (said : Said) (o : Option Account) → box.Booked ≡ accountAnswer said o → WhyBooked said o
+why-booked said none e = clash cc
+why-booked said (some p) e =
+    let y = booked-status (said .fields) (said .entries) p e in
     record { place = p; known = refl; fresh = y .0; room = y .1 }
 
 -- ---- the place of an ID, as each call of the box leaves it
 
-module _ (i : ℕ) (payload : List ℕ) (b : Box) where
+module _ (i : ℕ) (said : Said) (b : Box) where
   service-elsewhere : (s : ServiceId) (source : NodeId) → (source .0 ≡ i → ⊥)
-      → afterBooking (heardService s source) payload b .accounts i ≡ b .accounts i
+      → afterBooking (heardService s source) said b .accounts i ≡ b .accounts i
   service-elsewhere service.IdentResponse source ne = refl
   service-elsewhere service.StatusResponse source ne = rw (ne-eqb i (source .0) (λ e. ne (sym e)))
   service-elsewhere service.NmtRequest source ne = refl
@@ -154,21 +152,21 @@ module _ (i : ℕ) (payload : List ℕ) (b : Box) where
   service-elsewhere service.NMTPublishHeartbeat source ne = refl
   service-elsewhere service.NMTPublishActiveNodes source ne = refl
 
-  frame-elsewhere : (f : PowerlinkFrame) → (sourceOf f ≡ i → ⊥) → afterBooking (boxHeardFrame f) payload b .accounts i ≡ b .accounts i
+  frame-elsewhere : (f : PowerlinkFrame) → (sourceOf f ≡ i → ⊥) → afterBooking (boxHeardFrame f) said b .accounts i ≡ b .accounts i
   frame-elsewhere (Soc f) ne = refl
   frame-elsewhere (PReq f) ne = refl
   frame-elsewhere (PRes f) ne = refl
   frame-elsewhere (SoA f) ne = refl
   frame-elsewhere (ASnd f) ne = service-elsewhere (f .«service_id») (f .source) ne
 
-  booking-elsewhere : (a : FrameAnswer) → NotFrom i a → afterBooking (boxHeard a) payload b .accounts i ≡ b .accounts i
+  booking-elsewhere : (a : FrameAnswer) → NotFrom i a → afterBooking (boxHeard a) said b .accounts i ≡ b .accounts i
   booking-elsewhere (frame.Refused e) ne = refl
   booking-elsewhere (frame.Frame f) ne = frame-elsewhere f ne
 
 -- what is not from node i leaves its place
 pub read-elsewhere : (i : ℕ) (bs : List ℕ) (b : Box) (r : ReadAnswer) → NotFrom i (readFrame bs)
     → boxAfterRead r bs b .accounts i ≡ b .accounts i
-read-elsewhere i bs b box.Booked ne = booking-elsewhere i (statusPayload bs) b (readFrame bs) ne
+read-elsewhere i bs b box.Booked ne = booking-elsewhere i (saidIn (statusPayload bs)) b (readFrame bs) ne
 read-elsewhere i bs b box.Known ne = refl
 read-elsewhere i bs b (box.Refused e) ne = refl
 read-elsewhere i bs b box.NotStatusResponse ne = refl
@@ -177,7 +175,7 @@ read-elsewhere i bs b box.BookFull ne = refl
 
 -- an answer of node i that is booked
 pub read-here : (i : ℕ) (bs : List ℕ) (b : Box) → boxHeard (readFrame bs) ≡ boxHears.Status (node i)
-    → boxAfterRead box.Booked bs b .accounts i ≡ some (bookedAccount (statusPayload bs) (b .accounts i))
+    → boxAfterRead box.Booked bs b .accounts i ≡ some (bookedAccount (saidIn (statusPayload bs)) (b .accounts i))
 read-here i bs b me = rw (me, eq-eqb i i refl)
 
 -- ---- registering and Take

@@ -11,15 +11,13 @@ use lib.ListN.{length, getElem?, length-append}
 use borrow.Author.Tests.{le-leb}
 use Rattle.section.specs.declared.WriteAnswer.the-variants as write
 use Rattle.codec.specs.Frame.{readFrame}
-use Rattle.status_response.specs.Fields.{readFields}
-use Rattle.status_response.specs.Steps.{statusEntries}
-use Rattle.status_response.specs.declared.fields.StatusAnswer.the-variants as said
+use Rattle.status_response.specs.declared.fields.StatusAnswer.the-variants as status
 use Rattle.status_response.specs.declared.fields.StatusFields.{StatusFields}
 use Rattle.reporter.specs.Rules.{Head, opened, heardIn}
 use Rattle.reporter.specs.declared.ReadAnswer.{ReadAnswer}
 use Rattle.reporter.specs.declared.acknowledge.Heard.the-variants as heard
 use Rattle.collector.specs.Layout.{boxOf}
-use Rattle.collector.specs.Rules.{bookLength, Account, Box, heardIn as boxHeard, statusPayload, bookAnswer, accountAnswer, readAnswer, bookedAccount, afterRead as boxAfterRead}
+use Rattle.collector.specs.Rules.{saidIn, Said, bookLength, Account, Box, heardIn as boxHeard, statusPayload, bookAnswer, accountAnswer, readAnswer, bookedAccount, afterRead as boxAfterRead}
 use Rattle.collector.specs.declared.ReadAnswer.{ReadAnswer as BoxReadAnswer}
 use Rattle.collector.specs.declared.ReadAnswer.the-variants as box
 use Rattle.collector.specs.declared.reading.Heard.the-variants as boxHears
@@ -110,20 +108,20 @@ room-for {i} {w} y new =
     fits-batch y (rw (← (y .held .head)) at (y .held .inv .since) ∙ ap (λ (b : Bool). Bool·beq b en) differ ∙ beq-not en)
 
 -- with room for its batch, an answer is known or booked
-outcome : (payload : List ℕ) (o : Option Account) (f : StatusFields) → IsPlace o → readFields payload ≡ said.Status f
-    → (Bool·beq (f .«en_flag») (eaOf o) ≡ false → length (bookOf o) + length (statusEntries payload) ≤ bookLength)
-    → ((accountAnswer payload o ≡ box.Known) × (eaOf o ≡ f .«en_flag»)) ⊎ (accountAnswer payload o ≡ box.Booked)
+outcome : (said : Said) (o : Option Account) (f : StatusFields) → IsPlace o → said .fields ≡ status.Status f
+    → (Bool·beq (f .«en_flag») (eaOf o) ≡ false → length (bookOf o) + length (said .entries) ≤ bookLength)
+    → ((accountAnswer said o ≡ box.Known) × (eaOf o ≡ f .«en_flag»)) ⊎ (accountAnswer said o ≡ box.Booked)
 unfolding bookAnswer
-outcome payload none f is e room = absurd is
-outcome payload (some p) f is e room =
+outcome said none f is e room = absurd is
+outcome said (some p) f is e room =
     either (Bool·beq (f .«en_flag») (p .ea))
     (λ same. inl (rw (e, same), sym (beq-true (f .«en_flag») (p .ea) same)))
-    (λ new. inr (rw (e, new, le-leb (length (p .book) + length (statusEntries payload)) bookLength (room new))))
+    (λ new. inr (rw (e, new, le-leb (length (p .book) + length (said .entries)) bookLength (room new))))
 
-booked-bit : (payload : List ℕ) (o : Option Account) (f : StatusFields) → IsPlace o → readFields payload ≡ said.Status f
-    → bookedAccount payload o .ea ≡ f .«en_flag»
-booked-bit payload none f is e = absurd is
-booked-bit payload (some p) f is e = rw e
+booked-bit : (said : Said) (o : Option Account) (f : StatusFields) → IsPlace o → said .fields ≡ status.Status f
+    → bookedAccount said o .ea ≡ f .«en_flag»
+booked-bit said none f is e = absurd is
+booked-bit said (some p) f is e = rw e
 
 -- then its bit is EA
 box-agrees : (i : ℕ) (h : Head) (bs : List ℕ) (b : Box) → Says bs h → h .id ≡ i → IsPlace (b .accounts i)
@@ -132,11 +130,11 @@ box-agrees : (i : ℕ) (h : Head) (bs : List ℕ) (b : Box) → Says bs h → h 
 unfolding readAnswer
 box-agrees i h bs b says id is room =
     let me : boxHeard (readFrame bs) ≡ boxHears.Status (node i) = rw (← id) (says .status) in
-    let answer : readAnswer bs b ≡ accountAnswer (statusPayload bs) (b .accounts i) = rw me in
-    elim (outcome (statusPayload bs) (b .accounts i) (says .fields) is (says .read) (rw (says .en, says .entries) room)) [
+    let answer : readAnswer bs b ≡ accountAnswer (saidIn (statusPayload bs)) (b .accounts i) = rw me in
+    elim (outcome (saidIn (statusPayload bs)) (b .accounts i) (says .fields) is (says .read) (rw (says .en, says .entries) room)) [
       | inl k ↦ rw (answer, k .0) (k .1 ∙ says .en)
       | inr k ↦
-          rw (answer, k, read-here i bs b me) (booked-bit (statusPayload bs) (b .accounts i) (says .fields) is (says .read) ∙ says .en)
+          rw (answer, k, read-here i bs b me) (booked-bit (saidIn (statusPayload bs)) (b .accounts i) (says .fields) is (says .read) ∙ says .en)
     ]
 
 -- the first reading, and a repeat: EA is EN behind it

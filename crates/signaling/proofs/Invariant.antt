@@ -9,13 +9,11 @@ use lib.ListN.{length, getElem?}
 use Rattle.types.specs.Codes.{pick}
 use Rattle.codec.specs.Frame.{readFrame}
 use Rattle.error_entry.specs.declared.ErrorEntry.{ErrorEntry}
-use Rattle.status_response.specs.Fields.{readFields}
-use Rattle.status_response.specs.Steps.{statusEntries}
 use Rattle.reporter.specs.Layout.{headOf}
 use Rattle.reporter.specs.Rules.{Head, heardIn}
 use Rattle.reporter.specs.declared.acknowledge.Heard.the-variants as heard
 use Rattle.collector.specs.Layout.{accountOf}
-use Rattle.collector.specs.Rules.{bookLength, Account, statusPayload, enIn, heardIn as boxHeard}
+use Rattle.collector.specs.Rules.{saidIn, bookLength, Account, statusPayload, enIn, heardIn as boxHeard}
 use Rattle.collector.specs.declared.reading.Heard.the-variants as boxHears
 use Rattle.signaling.specs.Calls.{Tally, tally, ruled, World, node, eaOf}
 use Rattle.signaling.proofs.Frames.{Good}
@@ -23,10 +21,10 @@ use Rattle.signaling.proofs.Frames.{Good}
 -- ---- what the frames say
 
 unfoldable pub enSaid : List ℕ → Bool
-enSaid bs = enIn (readFields (statusPayload bs))
+enSaid bs = enIn (saidIn (statusPayload bs) .fields)
 
 unfoldable pub batchSaid : List ℕ → List ErrorEntry
-batchSaid bs = statusEntries (statusPayload bs)
+batchSaid bs = saidIn (statusPayload bs) .entries
 
 -- The answers that can still be given to the box. Those sent since the last opening carry EN, and the open batch; those sent
 -- before carry the opposite bit. Where the last batch is booked, EA is EN, and no answer from before it can still be given to the box.

@@ -4,7 +4,7 @@ use Prim.Native.Nat.{ℕ, _+_, _≤_}
 use mathlib.Core.Bool.{Bool, true, false}
 use mathlib.Core.Path.{_≡_, refl, _∙_}
 use mathlib.Core.Logic.{_⊎_, inl, inr}
-use mathlib.Core.List.{List}
+use mathlib.Core.List.{List, [], _∷_, _++_}
 use mathlib.Core.Option.{Option, none, some}
 use native.Mathlib.Omega.{arith}
 use lib.ListN.{length, take, getElem?, length-append}
@@ -14,13 +14,13 @@ use Rattle.types.specs.Codes.{pick}
 use Rattle.section.specs.declared.WriteAnswer.the-variants as write
 use Rattle.codec.specs.Frame.{readFrame}
 use Rattle.error_entry.specs.declared.ErrorEntry.{ErrorEntry}
-use Rattle.reporter.specs.Rules.{Head, afterRaise, afterAnswer, heardIn, heardAnswer, afterRead}
+use Rattle.reporter.specs.Rules.{whenRaised, Head, afterRaise, afterAnswer, heardIn, heardAnswer, afterRead}
 use Rattle.reporter.specs.declared.RaiseAnswer.{RaiseAnswer}
 use Rattle.reporter.specs.declared.RaiseAnswer.the-variants.{Raised, EntryInvalid, QueueFull}
 use Rattle.reporter.specs.declared.acknowledge.Heard.{Heard}
 use Rattle.reporter.specs.declared.acknowledge.Heard.the-variants as heard
 use Rattle.collector.specs.Layout.{boxOf}
-use Rattle.collector.specs.Rules.{bookLength, Account, Box, withAccount, afterRegister, heardIn as boxHeard, statusPayload, afterBooking, afterRead as boxAfterRead, withoutFirst, afterTake}
+use Rattle.collector.specs.Rules.{saidIn, Said, bookLength, Account, Box, withAccount, afterRegister, heardIn as boxHeard, statusPayload, afterBooking, afterRead as boxAfterRead, withoutFirst, afterTake}
 use Rattle.collector.specs.declared.ReadAnswer.{ReadAnswer as BoxReadAnswer}
 use Rattle.collector.specs.declared.ReadAnswer.the-variants as box
 use Rattle.collector.specs.declared.RegisterAnswer.{RegisterAnswer}
@@ -30,7 +30,7 @@ use Rattle.collector.specs.declared.TakeAnswer.{TakeAnswer}
 use Rattle.collector.specs.declared.TakeAnswer.the-variants as taking
 use Rattle.collector.specs.declared.reading.Heard.{Heard as BoxHeard}
 use Rattle.collector.specs.declared.reading.Heard.the-variants as boxHears
-use Rattle.signaling.specs.Calls.{sent, foreign, Event, raised, answered, headRead, registered, boxRead, requested, taken, hosted, ifRaised, ifTaken, accepted, handedOut, answersSent, requestsSent, eaOf, World, Step, raise, answer, headReads, register, boxReads, request, takes, hosts}
+use Rattle.signaling.specs.Calls.{sent, foreign, Event, raised, answered, headRead, registered, boxRead, requested, taken, hosted, ifTaken, accepted, handedOut, answersSent, requestsSent, eaOf, World, Step, raise, answer, headReads, register, boxReads, request, takes, hosts}
 use Rattle.signaling.specs.Exchanges.{Quiet, NoRepeat, Quietly, still, next, again}
 use Rattle.signaling.proofs.Calls.{unheard, read-elsewhere, register-same}
 use Rattle.signaling.proofs.Facts.{clash, either, at-snoc}
@@ -54,13 +54,13 @@ module _ (i : ℕ) (b : Box) (is : IsPlace (b .accounts i)) where
   register-stays j IdRegistered = is
   register-stays j Full = is
 
-  booking-stays : (s : BoxHeard) (payload : List ℕ) → IsPlace (afterBooking s payload b .accounts i)
-  booking-stays (boxHears.Refused e) payload = is
-  booking-stays boxHears.Other payload = is
-  booking-stays (boxHears.Status source) payload = with-stays (source .0) _
+  booking-stays : (s : BoxHeard) (said : Said) → IsPlace (afterBooking s said b .accounts i)
+  booking-stays (boxHears.Refused e) said = is
+  booking-stays boxHears.Other said = is
+  booking-stays (boxHears.Status source) said = with-stays (source .0) _
 
   read-stays : (bs : List ℕ) (r : BoxReadAnswer) → IsPlace (boxAfterRead r bs b .accounts i)
-  read-stays bs box.Booked = booking-stays (boxHeard (readFrame bs)) (statusPayload bs)
+  read-stays bs box.Booked = booking-stays (boxHeard (readFrame bs)) (saidIn (statusPayload bs))
   read-stays bs box.Known = is
   read-stays bs (box.Refused e) = is
   read-stays bs box.NotStatusResponse = is
@@ -88,7 +88,7 @@ pub record Ready (i : ℕ) (w : World) : Type 0 where
   pub place : IsPlace (placeFor i w)
   pub room : length (accepted i (w .log)) ≤ length (handedOut i (w .log)) + bookLength
 
-none-raised : (e : ErrorEntry) (r : RaiseAnswer) (es : List ErrorEntry) → (r ≡ Raised → ⊥) → ifRaised r e es ≡ es
+none-raised : (e : ErrorEntry) (r : RaiseAnswer) (es : List ErrorEntry) → (r ≡ Raised → ⊥) → whenRaised r (es ++ (e ∷ [])) es ≡ es
 none-raised e Raised es k = absurd (k refl)
 none-raised e EntryInvalid es k = refl
 none-raised e QueueFull es k = refl

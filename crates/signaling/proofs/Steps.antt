@@ -20,7 +20,7 @@ use Rattle.reporter.specs.declared.ReadAnswer.{ReadAnswer}
 use Rattle.reporter.specs.declared.acknowledge.Heard.the-variants as heard
 use Rattle.collector.specs.Calls as collector
 use Rattle.collector.specs.Layout.{boxOf, accountOf}
-use Rattle.collector.specs.Rules.{Account, statusPayload, readAnswer, requestFrame}
+use Rattle.collector.specs.Rules.{saidIn, Account, statusPayload, readAnswer, requestFrame}
 use Rattle.collector.specs.declared.ReadAnswer.{ReadAnswer as BoxReadAnswer}
 use Rattle.collector.specs.declared.ReadAnswer.the-variants as box
 use Rattle.collector.specs.declared.RequestAnswer.{RequestAnswer}
@@ -79,7 +79,7 @@ module _ {i : ℕ} {w : World} (t : Held i w) where
   unfolding readAnswer enSaid batchSaid
   books p bs after d c =
       let me = t .inv .source p bs (d .1) in
-      let y = why-booked (statusPayload bs) o (rw me at (c .answer)) in
+      let y = why-booked (saidIn (statusPayload bs)) o (rw me at (c .answer)) in
       let inv : Inv i (y .place .ea) (y .place .book) (tally i (w .log)) = rw (y .known) at (t .inv) in
       rw (c .box .accounts i, read-here i bs (boxOf (w .box)) me, y .known)
       (box-books inv p bs (d .0) (d .1) (beq-false _ _ (y .fresh)) (y .room))

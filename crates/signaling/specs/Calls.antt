@@ -22,19 +22,17 @@ use Rattle.codec.specs.declared.FrameAnswer.the-variants as frame
 use Rattle.error_entry.specs.declared.ErrorEntry.{ErrorEntry}
 use Rattle.reporter.specs.Calls as reporter
 use Rattle.reporter.specs.Layout.{headOf}
-use Rattle.reporter.specs.Rules.{Head, freshHead, raiseAnswer, afterRaise, opens, afterAnswer, heardIn, heardAnswer, afterRead}
+use Rattle.reporter.specs.Rules.{whenWritten, whenRaised, Head, freshHead, raiseAnswer, afterRaise, opens, afterAnswer, heardIn, heardAnswer, afterRead}
 use Rattle.reporter.specs.declared.AnswerFields.{AnswerFields}
 use Rattle.reporter.specs.declared.NewAnswer.the-variants.{Made}
 use Rattle.reporter.specs.declared.RaiseAnswer.{RaiseAnswer}
-use Rattle.reporter.specs.declared.RaiseAnswer.the-variants.{Raised, EntryInvalid, QueueFull}
 use Rattle.reporter.specs.declared.ReadAnswer.{ReadAnswer}
 use Rattle.reporter.specs.declared.acknowledge.Heard.the-variants as heard
 use Rattle.collector.specs.Calls as collector
 use Rattle.collector.specs.Layout.{accountOf}
-use Rattle.collector.specs.Rules.{Account}
+use Rattle.collector.specs.Rules.{whenBooked, Account}
 use Rattle.collector.specs.declared.FlagsAnswer.the-variants as flagging
 use Rattle.collector.specs.declared.ReadAnswer.{ReadAnswer as BoxReadAnswer}
-use Rattle.collector.specs.declared.ReadAnswer.the-variants as box
 use Rattle.collector.specs.declared.RegisterAnswer.{RegisterAnswer}
 use Rattle.collector.specs.declared.RequestAnswer.{RequestAnswer}
 use Rattle.collector.specs.declared.RequestAnswer.the-variants as requesting
@@ -122,13 +120,8 @@ onRuled f t = record { entries = t .entries; answers = t .answers; requests = t 
 
 -- the entries: "of the Raises not refused"; "what the Takes for the head's ID handed out"
 
-abbrev pub ifRaised : RaiseAnswer → ErrorEntry → List ErrorEntry → List ErrorEntry
-ifRaised Raised e es = es ++ (e ∷ [])
-ifRaised EntryInvalid e es = es
-ifRaised QueueFull e es = es
-
 abbrev pub accepts : RaiseAnswer → ErrorEntry → Entries → Entries
-accepts r e es = record { accepted = ifRaised r e (es .accepted); handedOut = es .handedOut }
+accepts r e es = record { accepted = whenRaised r (es .accepted ++ (e ∷ [])) (es .accepted); handedOut = es .handedOut }
 
 abbrev pub ifTaken : TakeAnswer → List ErrorEntry → List ErrorEntry
 ifTaken (taking.Taken e) es = es ++ (e ∷ [])
@@ -170,24 +163,15 @@ raises e h = afterRaise (raiseAnswer e h) e h
 abbrev pub hears : ℕ → List ℕ → Head → Head
 hears i bs h = afterRead (heardAnswer (heardIn i (readFrame bs)) h) h
 
-abbrev pub openedBy : WriteAnswer → Head → Bool
-openedBy (write.Written n) h = opens h
-openedBy (write.Refused e) h = false
-
 abbrev pub answers : WriteAnswer → ℕ → Ruled → Ruled
 answers r next s =
-    let new = openedBy r (s .head) in
+    let new = whenWritten r (opens (s .head)) false in
     record { head = afterAnswer r (s .head); openedAt = pick new next (s .openedAt); isBooked = pick new false (s .isBooked) }
 
 -- "the box's reading of an answer sent since it first opened ends neither refused nor known"
 abbrev pub booksSince : Origin → BoxReadAnswer → ℕ → Bool
 booksSince foreign r at = false
-booksSince (sent p) box.Booked at = leb at p
-booksSince (sent p) box.Known at = false
-booksSince (sent p) (box.Refused e) at = false
-booksSince (sent p) box.NotStatusResponse at = false
-booksSince (sent p) box.NotRegistered at = false
-booksSince (sent p) box.BookFull at = false
+booksSince (sent p) r at = whenBooked r (leb at p) false
 
 abbrev pub books : Origin → BoxReadAnswer → Ruled → Ruled
 books o r s = record { head = s .head; openedAt = s .openedAt; isBooked = booksSince o r (s .openedAt) || s .isBooked }

@@ -1,28 +1,23 @@
 -- `flags` meets its contract.
 -- Assumes nothing.
-use mathlib.Core.Path.{_≡_, refl, ap, _∙_}
+use mathlib.Core.Path.{_≡_, ap, _∙_}
 use mathlib.Core.Bool.{Bool, false}
 use mathlib.Core.List.{List}
-use mathlib.Core.Option.{Option, none, some}
 use Prim.Native.Nat.{ℕ}
 use native.Mathlib.Omega.{arith}
 use borrow.Author.Needs.{needs}
 use Rattle.types.specs.declared.NodeId.{NodeId}
 use Rattle.collector.specs.Calls.{Flags}
 use Rattle.collector.specs.Layout.{slotOf, eaIn, accountOf}
-use Rattle.collector.specs.Rules.{Account, flagsAnswer, flagsCause, flagsRow}
+use Rattle.collector.specs.Rules.{flagsAnswer, flagsCause}
 use Rattle.collector.specs.declared.FlagsAnswer.{FlagsAnswer}
 use Rattle.collector.specs.declared.FlagsAnswer.the-variants as flagging
 use Rattle.collector.proofs.IdLaws.{place-none, place-some}
 use Rattle.collector.proofs.flags.Statement.{statement}
 use Rattle.collector.proofs.flags.Tie as tie
 
-flags-row : (o : Option Account) → flagsCause (flagsAnswer o) ≡ flagsRow o
-flags-row none = refl
-flags-row (some p) = refl
-
 flags : (i : NodeId) (r : FlagsAnswer) (s : List ℕ) → r ≡ flagsAnswer (accountOf s (i .0)) → Flags i r s
-flags i r s a = record { answer = a; cause = ap flagsCause a ∙ flags-row (accountOf s (i .0)) }
+flags i r s a = record { answer = a; cause = ap flagsCause a }
 
 returns : tie.Need-returns
 returns c =
