@@ -13,7 +13,7 @@ use Rattle.error_entry.specs.declared.ErrorEntry.{ErrorEntry}
 use Rattle.status_response.specs.ReadBack.{EachInRange}
 use Rattle.records.proofs.RingLaws.{ring-same}
 use Rattle.collector.specs.Layout.{eaAt, collectorLength, block, nodeIn, eaIn, startIn, countIn, entryIn, bookIn, accountIn, pushedBytes, pushedAll, bookedBytes}
-use Rattle.collector.specs.Rules.{heads, bookLength}
+use Rattle.collector.specs.Rules.{withBook, withEa, heads, bookLength}
 use Rattle.collector.proofs.BlockLaws.{Kept, kept-again, entry-set, kept-set}
 use Rattle.collector.proofs.BookLaws.{pushed-length, pushed-node, pushed-kept, pushed-count, book-pushed, start-set, count-set, node-set}
 
@@ -83,7 +83,7 @@ module _ (s : List ℕ) (k : ℕ) (en : Bool) (es : List ErrorEntry) where
       kept-again s t (set t (block k + eaAt) (pick en 1 0)) k (all-kept k es s) (kept-set t k eaAt (pick en 1 0) (omega arith))
 
   pub booked-place : length s ≡ collectorLength → k < heads → EachInRange es → countIn s k + length es ≤ bookLength
-      → accountIn (bookedBytes s k en es) k ≡ record { ea = en; book = bookIn s k ++ es }
+      → accountIn (bookedBytes s k en es) k ≡ withEa en (withBook (bookIn s k ++ es) (accountIn s k))
   unfolding bookedBytes
   booked-place size place each room =
       rw (

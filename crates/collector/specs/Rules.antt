@@ -68,6 +68,12 @@ freshBox = record { accounts = λ i. none; vacant = heads }
 abbrev pub freshAccount : Account
 freshAccount = record { ea = false; book = [] }
 
+abbrev pub withEa : Bool → Account → Account
+withEa b p = record { ea = b; book = p .book }
+
+abbrev pub withBook : List ErrorEntry → Account → Account
+withBook es p = record { ea = p .ea; book = es }
+
 -- two boxes in which every ID has the same
 pub record Same (a b : Box) : Type 0 where
   pub accounts : (i : ℕ) → a .accounts i ≡ b .accounts i
@@ -200,7 +206,7 @@ whenBooked BookFull a b = b
 -- "the whole batch goes into the book and EA becomes EN"
 abbrev pub bookedAccount : Said → Option Account → Account
 bookedAccount said none = freshAccount
-bookedAccount said (some p) = record { ea = enIn (said .fields); book = p .book ++ said .entries }
+bookedAccount said (some p) = withEa (enIn (said .fields)) (withBook (p .book ++ said .entries) p)
 
 abbrev pub afterBooking : Heard → Said → Box → Box
 afterBooking (heard.Refused e) said b = b
@@ -275,7 +281,7 @@ takeCause taking.NothingBooked = row 16 []
 -- "and its place is used again"
 abbrev pub withoutFirst : Option Account → Account
 withoutFirst none = freshAccount
-withoutFirst (some p) = record { ea = p .ea; book = drop 1 (p .book) }
+withoutFirst (some p) = withBook (drop 1 (p .book)) p
 
 abbrev pub whenTaken : {A : Type 0} → TakeAnswer → A → A → A
 whenTaken (taking.Taken e) a b = a

@@ -6,14 +6,14 @@ use mathlib.Core.Bool.{Bool, true, false, not, _&&_}
 use mathlib.Core.List.{List}
 use native.Mathlib.Nat.{add-zero}
 use native.Mathlib.Omega.{arith}
-use lib.ListN.{length, getD, set, take, drop, length-set}
+use lib.ListN.{length, getD, set, length-set}
 use lib.Seq.{getD-set-same, getD-set-other}
 use lib.Dec.{eqb, ltb}
 use borrow.Author.Tests.{eqb-true}
 use Rattle.types.specs.Codes.{pick}
 use Rattle.records.specs.Ring.{ring}
 use Rattle.reporter.specs.Layout.{waitingAt, openAt, startAt, enAt, idAt, reporterLength, places, enOf, startOf, openOf, waitingOf, entryIn, headOf, opensIn, carriedIn, openedBytes}
-use Rattle.reporter.specs.Rules.{batchLength, Head, opened}
+use Rattle.reporter.specs.Rules.{withNewBatch, batchLength, Head, opened}
 use Rattle.reporter.proofs.Entries.{entry-set, ring-kept, ring-first, ring-others}
 use Rattle.reporter.proofs.Ranges.{waiting-small, open-of, waiting-of, batch-empty, waiting-filled, head-same}
 
@@ -25,19 +25,16 @@ flipped : (b : Bool) → eqb (pick b 0 1 % 2) 1 ≡ not b
 flipped true = refl
 flipped false = refl
 
-abbrev moved : Head → Head
-moved h = record { id = h .id; en = not (h .en); batch = take batchLength (h .waiting); waiting = drop batchLength (h .waiting) }
-
-pub opened-is : (s : List ℕ) → opened (headOf s) ≡ pick (opensIn s) (moved (headOf s)) (headOf s)
+pub opened-is : (s : List ℕ) → opened (headOf s) ≡ pick (opensIn s) (withNewBatch (headOf s)) (headOf s)
 unfolding opened
 opened-is s = rw (batch-empty s, waiting-filled s)
 
 -- a part of the head that an answer leaves
 module _ {A : Type 0} (part : Head → A) (s : List ℕ) where
-  part-opened : part (opened (headOf s)) ≡ pick (opensIn s) (part (moved (headOf s))) (part (headOf s))
+  part-opened : part (opened (headOf s)) ≡ pick (opensIn s) (part (withNewBatch (headOf s))) (part (headOf s))
   part-opened = ap part (opened-is s) ∙ split (opensIn s)
     where
-      split : (b : Bool) → part (pick b (moved (headOf s)) (headOf s)) ≡ pick b (part (moved (headOf s))) (part (headOf s))
+      split : (b : Bool) → part (pick b (withNewBatch (headOf s)) (headOf s)) ≡ pick b (part (withNewBatch (headOf s))) (part (headOf s))
       split true = refl
       split false = refl
 
@@ -118,7 +115,7 @@ module _ (s : List ℕ) (opens : opensIn s ≡ true) where
         let there : getD octets waitingAt 0 ≡ waitingOf s - few = getD-set-same t waitingAt (waitingOf s - few) 0 (omega arith) in
         rw (waiting-of octets, there) (omega (arith, waiting-small s))
 
-    means : headOf octets ≡ moved (headOf s)
+    means : headOf octets ≡ withNewBatch (headOf s)
     unfolding headOf
     means =
         head-same (octet-kept idAt (omega arith) (omega arith) (omega arith)) en-flipped

@@ -50,6 +50,15 @@ pub record Head : Type 0 where
 abbrev pub freshHead : ℕ → Head
 freshHead i = record { id = i; en = false; batch = []; waiting = [] }
 
+abbrev pub withBatch : List ErrorEntry → Head → Head
+withBatch b h = record { id = h .id; en = h .en; batch = b; waiting = h .waiting }
+
+abbrev pub withWaiting : List ErrorEntry → Head → Head
+withWaiting w h = record { id = h .id; en = h .en; batch = h .batch; waiting = w }
+
+abbrev pub withEn : Bool → Head → Head
+withEn b h = record { id = h .id; en = b; batch = h .batch; waiting = h .waiting }
+
 -- ---- a new head
 
 -- cause 13: the ID of a new head is not 1 to 239
@@ -83,7 +92,7 @@ whenRaised QueueFull a b = b
 
 -- "the entry joins the waiting ones, last"
 abbrev pub afterRaise : RaiseAnswer → ErrorEntry → Head → Head
-afterRaise r e h = whenRaised r (record { id = h .id; en = h .en; batch = h .batch; waiting = h .waiting ++ (e ∷ []) }) h
+afterRaise r e h = whenRaised r (withWaiting (h .waiting ++ (e ∷ [])) h) h
 
 -- ---- Answer
 
@@ -96,11 +105,11 @@ abbrev pub opens : Head → Bool
 opens h = isEmpty (h .batch) && not (isEmpty (h .waiting))
 
 -- "the first 4 (or all, if fewer) become the open batch and EN flips"
+abbrev pub withNewBatch : Head → Head
+withNewBatch h = withEn (not (h .en)) (withBatch (take batchLength (h .waiting)) (withWaiting (drop batchLength (h .waiting)) h))
+
 unfoldable pub opened : Head → Head
-opened h =
-    pick (opens h)
-    (record { id = h .id; en = not (h .en); batch = take batchLength (h .waiting); waiting = drop batchLength (h .waiting) })
-    h
+opened h = pick (opens h) (withNewBatch h) h
 
 -- the caller's fields, with EN
 abbrev pub statusFields : AnswerFields → Bool → StatusFields
@@ -172,4 +181,4 @@ whenClosed Ignored a b = b
 whenClosed (Refused e) a b = b
 
 abbrev pub afterRead : ReadAnswer → Head → Head
-afterRead r h = whenClosed r (record { id = h .id; en = h .en; batch = []; waiting = h .waiting }) h
+afterRead r h = whenClosed r (withBatch [] h) h

@@ -1,7 +1,6 @@
 -- Takes can be made until one is refused.
 -- Assumes nothing.
 use Prim.Native.Nat.{ℕ}
-use mathlib.Core.Bool.{Bool}
 use mathlib.Core.Path.{_≡_, refl, ap, _∙_}
 use mathlib.Core.List.{List, [], _∷_}
 use mathlib.Core.Option.{Option, none, some}
@@ -9,7 +8,7 @@ use lib.ListN.{length}
 use borrow.Author.Tests.{eq-eqb}
 use Rattle.error_entry.specs.declared.ErrorEntry.{ErrorEntry}
 use Rattle.collector.specs.Layout.{collectorLength, accountOf, takeBytes}
-use Rattle.collector.specs.Rules.{Account}
+use Rattle.collector.specs.Rules.{withBook, Account}
 use Rattle.collector.specs.declared.TakeAnswer.the-variants as taking
 use Rattle.collector.proofs.Meaning.{register-length, read-length, take-length}
 use Rattle.signaling.specs.Calls.{Event, World, Step, raise, answer, headReads, register, boxReads, request, takes, hosts, Run, fresh, call, Drained, over, more}
@@ -35,14 +34,14 @@ box-size (call r s) = step-size s ∙ box-size r
 -- ---- what further Takes hand out is the book
 
 module _ (i : ℕ) where
-  draining-place : (ea : Bool) (es : List ErrorEntry) (b : List ℕ) → length b ≡ collectorLength → accountOf b i ≡ some (record { ea = ea; book = es })
+  draining-place : (es : List ErrorEntry) (p : Account) (b : List ℕ) → p .book ≡ es → length b ≡ collectorLength → accountOf b i ≡ some p
       → Drained i b es
-  draining-place ea [] b size e = let r = rw e at (hands b i size) in over taking.NothingBooked b (r .0) tt
-  draining-place ea (x ∷ es) b size e =
-      let r = rw e at (hands b i size) in
+  draining-place [] p b is size e = let r = rw (e, is) at (hands b i size) in over taking.NothingBooked b (r .0) tt
+  draining-place (x ∷ es) p b is size e =
+      let r = rw (e, is) at (hands b i size) in
       more x (takeBytes (taking.Taken x) i b) es (r .0)
-      (draining-place ea es (takeBytes (taking.Taken x) i b) (r .1) (r .0 .box .accounts i ∙ rw (eq-eqb i i refl, e)))
+      (draining-place es (withBook es p) (takeBytes (taking.Taken x) i b) refl (r .1) (r .0 .box .accounts i ∙ rw (eq-eqb i i refl, e, is)))
 
   pub draining : (o : Option Account) (b : List ℕ) → length b ≡ collectorLength → accountOf b i ≡ o → Drained i b (bookOf o)
   draining none b size e = let r = rw e at (hands b i size) in over taking.NotRegistered b (r .0) tt
-  draining (some p) b size e = draining-place (p .ea) (p .book) b size e
+  draining (some p) b size e = draining-place (p .book) p b refl size e

@@ -11,7 +11,7 @@ use Rattle.reporter.specs.Rules.{Head, opened, answerFrame, answerLength, heard
 use Rattle.reporter.specs.declared.AnswerFields.{AnswerFields}
 use Rattle.reporter.specs.declared.ReadAnswer.the-variants.{Closed}
 use Rattle.reporter.specs.declared.acknowledge.Heard.the-variants as heard
-use Rattle.collector.specs.Rules.{Account, bookAnswer, requestFrame}
+use Rattle.collector.specs.Rules.{withBook, withEa, Account, bookAnswer, requestFrame}
 use Rattle.collector.specs.declared.ReadAnswer.the-variants as box
 use Rattle.collector.specs.declared.RequestAnswer.the-variants as requesting
 use Rattle.collector.specs.declared.RequestFields.{RequestFields}
@@ -33,7 +33,7 @@ module _ (i : ℕ) (f : AnswerFields) (g : RequestFields) (sizes : AnswerSizes f
     frame₁ = answerFrame f (opened h)
 
     abbrev pub booked : Account
-    booked = record { ea = opened h .en; book = p .book ++ opened h .batch }
+    booked = withEa (opened h .en) (withBook (p .book ++ opened h .batch) p)
 
     abbrev pub frame₂ : List ℕ
     frame₂ = requestFrame i g (opened h .en)

@@ -12,7 +12,7 @@ use Rattle.types.specs.Codes.{pick, need}
 use Rattle.section.specs.declared.WriteAnswer.the-variants as write
 use Rattle.codec.specs.Frame.{readFrame}
 use Rattle.error_entry.specs.declared.ErrorEntry.{ErrorEntry}
-use Rattle.reporter.specs.Rules.{queueLength, batchLength, Head, isRaisable, raiseAnswer, afterRaise, isEmpty, opens, opened, heardIn, eaAnswer, heardAnswer, afterRead}
+use Rattle.reporter.specs.Rules.{withNewBatch, queueLength, batchLength, Head, isRaisable, raiseAnswer, afterRaise, isEmpty, opens, opened, heardIn, eaAnswer, heardAnswer, afterRead}
 use Rattle.reporter.specs.declared.RaiseAnswer.{RaiseAnswer}
 use Rattle.reporter.specs.declared.RaiseAnswer.the-variants.{Raised, EntryInvalid, QueueFull}
 use Rattle.reporter.specs.declared.ReadAnswer.the-variants.{Closed, Kept}
@@ -86,7 +86,7 @@ module _ {i : ℕ} {ea : Bool} {book : List ErrorEntry} {c : Tally} (t : Inv i e
   -- no batch was open and w waits: from now on the batch is open and not booked
   open-new : (x : ErrorEntry) (w : List ErrorEntry) → h .batch ≡ [] → h .waiting ≡ x ∷ w
       → Inv i ea book (onRuled (λ s. record {
-        head = record { id = h .id; en = not (h .en); batch = take batchLength (h .waiting); waiting = drop batchLength (h .waiting) };
+        head = withNewBatch h;
         openedAt = length (c .answers .frames);
         isBooked = false;
       }) c)

@@ -23,7 +23,7 @@ use Rattle.reporter.specs.declared.ReadAnswer.the-variants.{Closed}
 use Rattle.collector.specs.Calls as collector
 use Rattle.collector.specs.Layout as layout
 use Rattle.collector.specs.Layout.{collectorLength, boxOf, accountOf, freshBytes, registerBytes}
-use Rattle.collector.specs.Rules.{Account, freshAccount, registerAnswer, bookAnswer, readAnswer, requestFrame}
+use Rattle.collector.specs.Rules.{withBook, withEa, Account, freshAccount, registerAnswer, bookAnswer, readAnswer, requestFrame}
 use Rattle.collector.specs.declared.ReadAnswer.the-variants as box
 use Rattle.collector.specs.declared.RegisterAnswer.the-variants.{Registered}
 use Rattle.collector.specs.declared.RequestAnswer.the-variants as requesting
@@ -185,7 +185,7 @@ module _ {i : ℕ} {s b : List ℕ} {l : Log} {h : Head} {p : Account} (k : Know
         }
 
     pub booking : (q : ℕ) → Delivered i (sent q) bs (tally i l .answers) → Octets bs → bookAnswer (g .en) (g .batch) p ≡ box.Booked
-        → Next i s b l (boxRead (sent q) bs box.Booked) h (record { ea = g .en; book = p .book ++ g .batch })
+        → Next i s b l (boxRead (sent q) bs box.Booked) h (withEa (g .en) (withBook (p .book ++ g .batch) p))
     booking q given octets ok =
         let r = rw (read-as, ok) at (books b bs (k .boxSize) octets) in
         record {

@@ -1,16 +1,16 @@
 -- Each exchange closes what the answer carries: w entries are closed after at most w exchanges.
 -- Assumes nothing.
 use Prim.Native.Nat.{ℕ, _-_, _≤_}
-use mathlib.Core.Bool.{Bool}
 use mathlib.Core.Path.{_≡_, refl, ap}
 use mathlib.Core.Logic.{inl}
 use mathlib.Core.List.{List, [], _∷_, _++_}
 use native.Mathlib.Omega.{arith}
 use lib.ListN.{length, length-append, length-drop}
 use Rattle.error_entry.specs.declared.ErrorEntry.{ErrorEntry}
-use Rattle.reporter.specs.Rules.{Head, opened}
+use Rattle.reporter.specs.Rules.{opens, Head, opened}
 use Rattle.signaling.specs.Calls.{accepted, handedOut, ruled, unbooked, World, Run}
 use Rattle.signaling.specs.Exchanges.{pending, Exchanges, done, more, Room, Progress}
+use mathlib.Core.Bool.{false, true}
 use Rattle.signaling.proofs.Exchange.{exchanged}
 use Rattle.signaling.proofs.Invariant.{headIn, Held}
 use Rattle.signaling.proofs.Quiet.{Ready}
@@ -22,16 +22,15 @@ use Rattle.signaling.proofs.Steps.{held}
 pending-in : {i : ℕ} {w : World} → Held i w → pending i w ≡ entries (headIn w)
 pending-in t = rw (← (t .head))
 
-open-fewer : (i : ℕ) (en : Bool) (b w : List ErrorEntry)
-    → length (opened (record { id = i; en = en; batch = b; waiting = w }) .waiting) ≤ length (b ++ w) - 1
+open-fewer : (h : Head) (b w : List ErrorEntry) → h .batch ≡ b → h .waiting ≡ w → length (opened h .waiting) ≤ length (entries h) - 1
 unfolding opened
-open-fewer i en [] [] = omega arith
-open-fewer i en [] (x ∷ w) = omega (arith, length-drop 3 w)
-open-fewer i en (x ∷ b) w = omega (arith, length-append b w)
+open-fewer h [] [] eb ew = let o : opens h ≡ false = rw (eb, ew) in rw (o, eb, ew) (omega arith)
+open-fewer h [] (x ∷ w) eb ew = let o : opens h ≡ true = rw (eb, ew) in rw (o, eb, ew) (omega (arith, length-drop 3 w))
+open-fewer h (x ∷ b) w eb ew = let o : opens h ≡ false = rw eb in rw (o, eb) (omega (arith, length-append b (h .waiting)))
 
 -- what an exchange leaves: fewer by one at least, where there was one
 opened-fewer : (h : Head) → length (opened h .waiting) ≤ length (entries h) - 1
-opened-fewer h = open-fewer (h .id) (h .en) (h .batch) (h .waiting)
+opened-fewer h = open-fewer h (h .batch) (h .waiting) refl refl
 
 -- ---- many exchanges
 

@@ -1,7 +1,7 @@
 -- What quiet calls, and repeats among them, leave of a head: it is as it was, or its answer has opened a batch.
 -- Assumes nothing.
 use Prim.Native.Nat.{ℕ}
-use mathlib.Core.Bool.{Bool}
+use mathlib.Core.Bool.{false, true, Bool}
 use mathlib.Core.Path.{_≡_, refl, ap, _∙_}
 use mathlib.Core.Logic.{_⊎_, inl, inr}
 use mathlib.Core.List.{List, [], _∷_, _++_}
@@ -9,7 +9,7 @@ use lib.ListN.{take-append-drop}
 use Rattle.section.specs.declared.WriteAnswer.the-variants as write
 use Rattle.codec.specs.Frame.{readFrame}
 use Rattle.error_entry.specs.declared.ErrorEntry.{ErrorEntry}
-use Rattle.reporter.specs.Rules.{batchLength, Head, opened, heardIn, eaAnswer, afterRead}
+use Rattle.reporter.specs.Rules.{opens, withBatch, batchLength, Head, opened, heardIn, eaAnswer, afterRead}
 use Rattle.reporter.specs.declared.ReadAnswer.{ReadAnswer}
 use Rattle.reporter.specs.declared.acknowledge.Heard.the-variants as heard
 use Rattle.signaling.specs.Calls.{Origin, sent, Event, raised, answered, headRead, registered, boxRead, requested, taken, hosted, World, Step, headReads}
@@ -19,31 +19,31 @@ use Rattle.signaling.proofs.Invariant.{headIn, Held}
 use Rattle.signaling.proofs.Quiet.{Ready, goes-on, quiet-raises-not, headAfter, calm, quietly, no-repeat}
 use Rattle.signaling.proofs.Steps.{head-now, keeps}
 
--- ---- the head's opening, by cases of the two lists; a head is the record of its fields
+-- ---- the head's opening, by cases of the two lists
 
-open-twice : (i : ℕ) (en : Bool) (b w : List ErrorEntry)
-    → opened (opened (record { id = i; en = en; batch = b; waiting = w })) ≡ opened (record { id = i; en = en; batch = b; waiting = w })
+open-twice : (h : Head) (b w : List ErrorEntry) → h .batch ≡ b → h .waiting ≡ w → opened (opened h) ≡ opened h
 unfolding opened
-open-twice i en [] [] = refl
-open-twice i en [] (x ∷ w) = refl
-open-twice i en (x ∷ b) w = refl
+open-twice h [] [] eb ew = let o : opens h ≡ false = rw (eb, ew) in rw (o, o)
+open-twice h [] (x ∷ w) eb ew = let o : opens h ≡ true = rw (eb, ew) in rw (o, ew)
+open-twice h (x ∷ b) w eb ew = let o : opens h ≡ false = rw eb in rw (o, o)
 
 -- an opened head has nothing more to open
 pub opened-twice : (h : Head) → opened (opened h) ≡ opened h
-opened-twice h = open-twice (h .id) (h .en) (h .batch) (h .waiting)
+opened-twice h = open-twice h (h .batch) (h .waiting) refl refl
 
 abbrev pub entries : Head → List ErrorEntry
 entries h = h .batch ++ h .waiting
 
-open-entries : (i : ℕ) (en : Bool) (b w : List ErrorEntry) → entries (opened (record { id = i; en = en; batch = b; waiting = w })) ≡ b ++ w
+open-entries : (h : Head) (b w : List ErrorEntry) → h .batch ≡ b → h .waiting ≡ w → entries (opened h) ≡ entries h
 unfolding opened
-open-entries i en [] [] = refl
-open-entries i en [] (x ∷ w) = take-append-drop batchLength (x ∷ w)
-open-entries i en (x ∷ b) w = refl
+open-entries h [] [] eb ew = let o : opens h ≡ false = rw (eb, ew) in rw o
+open-entries h [] (x ∷ w) eb ew =
+    let o : opens h ≡ true = rw (eb, ew) in rw (o, eb) (take-append-drop batchLength (h .waiting))
+open-entries h (x ∷ b) w eb ew = let o : opens h ≡ false = rw eb in rw o
 
 -- opening moves none
 opened-entries : (h : Head) → entries (opened h) ≡ entries h
-opened-entries h = open-entries (h .id) (h .en) (h .batch) (h .waiting)
+opened-entries h = open-entries h (h .batch) (h .waiting) refl refl
 
 -- ---- the head's reading
 
@@ -56,30 +56,28 @@ head-hears me t (headReads o bs r after d c) = head-now t bs r after c ∙ rw me
 
 -- a head with no open batch
 abbrev pub shut : Head → Head
-shut h = record { id = h .id; en = h .en; batch = []; waiting = h .waiting }
+shut h = withBatch [] h
 
-closed-by : (i : ℕ) (en : Bool) (b w : List ErrorEntry)
-    → afterRead (eaAnswer en (record { id = i; en = en; batch = b; waiting = w })) (record { id = i; en = en; batch = b; waiting = w })
-    ≡ record { id = i; en = en; batch = []; waiting = w }
+closed-by : (h : Head) (b : List ErrorEntry) → h .batch ≡ b → afterRead (eaAnswer (h .en) h) h ≡ shut h
 unfolding eaAnswer
-closed-by i en [] w = refl
-closed-by i en (x ∷ b) w = rw (beq-same en)
+closed-by h [] eb =
+    let same : afterRead (eaAnswer (h .en) h) h ≡ h = rw eb in
+    same ∙ ap (λ (b : List ErrorEntry). withBatch b h) eb
+closed-by h (x ∷ b) eb = rw (eb, beq-same (h .en))
 
 -- a request that carries EN leaves no batch open
 pub closed : (h : Head) → afterRead (eaAnswer (h .en) h) h ≡ shut h
-closed h = closed-by (h .id) (h .en) (h .batch) (h .waiting)
+closed h = closed-by h (h .batch) refl
 
-kept-by : (i : ℕ) (en : Bool) (w : List ErrorEntry)
-    → afterRead (eaAnswer en (opened (record { id = i; en = en; batch = []; waiting = w })))
-    (opened (record { id = i; en = en; batch = []; waiting = w }))
-    ≡ opened (record { id = i; en = en; batch = []; waiting = w })
+kept-by : (h : Head) (w : List ErrorEntry) → h .waiting ≡ w
+    → afterRead (eaAnswer (h .en) (opened (shut h))) (opened (shut h)) ≡ opened (shut h)
 unfolding opened eaAnswer
-kept-by i en [] = refl
-kept-by i en (x ∷ w) = rw (beq-not en)
+kept-by h [] ew = simp ew
+kept-by h (x ∷ w) ew = simp (ew, beq-not (h .en))
 
 -- and one from before the next batch opened does not close that
 kept : (h : Head) → afterRead (eaAnswer (h .en) (opened (shut h))) (opened (shut h)) ≡ opened (shut h)
-kept h = kept-by (h .id) (h .en) (h .waiting)
+kept h = kept-by h (h .waiting) refl
 
 -- ---- a head at rest
 

@@ -1,6 +1,9 @@
 //! Our side: the C functions of libpowerlink.a, as include/powerlink.h declares them.
 use crate::case::*;
 
+/// The octets of a box, as the header has them.
+const COLLECTOR_LEN: usize = 5184;
+
 unsafe extern "C" {
     fn powerlink_deserialize_frame(buffer: *const u8, len: usize, values: *mut u64, octet: *mut u8) -> u8;
     fn powerlink_deserialize_eth_header(
@@ -195,7 +198,7 @@ pub enum Boxed {
 /// A fresh box with one head reads a frame; then its book is taken to the end. A refusal must leave the box and `outcome`, and
 /// what is known must book nothing.
 pub fn boxed(id: u8, frame: &[u8]) -> Boxed {
-    let mut state = [0u8; 5184];
+    let mut state = [0u8; COLLECTOR_LEN];
     let (mut outcome, mut octet) = (0xFF, 0);
     unsafe {
         assert_eq!(powerlink_collector_new(state.as_mut_ptr()), 0);
