@@ -21,19 +21,15 @@ use Rattle.collector.specs.Rules.{saidIn, Said, bookLength, Account, Box, heard
 use Rattle.collector.specs.declared.ReadAnswer.{ReadAnswer as BoxReadAnswer}
 use Rattle.collector.specs.declared.ReadAnswer.the-variants as box
 use Rattle.collector.specs.declared.reading.Heard.the-variants as boxHears
-use Rattle.signaling.specs.Calls.{sent, Event, answered, headRead, boxRead, answersSent, requestsSent, isBooked, node, World, Step, headReads, boxReads, eaOf}
+use Rattle.signaling.specs.Calls.{answer, sent, Event, answered, headRead, boxRead, answersSent, requestsSent, isBooked, node, World, Step, headReads, boxReads, eaOf}
 use Rattle.signaling.specs.Exchanges.{Quiet, AnswerAgain, RequestAgain, NoRepeat, Quietly, Exchange}
 use Rattle.signaling.proofs.Calls.{read-here}
 use Rattle.signaling.proofs.Facts.{either, not-not, beq-not, beq-true, beq-false, at-lt}
 use Rattle.signaling.proofs.Frames.{Says}
 use Rattle.signaling.proofs.Invariant.{bookOf, headIn, placeFor}
-use Rattle.signaling.proofs.Quiet.{IsPlace, Ready, goes-on, headAfter, Calm, calm, quietly, no-repeat}
-use Rattle.signaling.proofs.Resting.{opened-twice, head-hears, shut, closed, quiet-ready, opens-or-not, Resting, rests-again}
+use Rattle.signaling.proofs.Quiet.{IsPlace, Ready, goes-on, Calm, calm, quietly, no-repeat}
+use Rattle.signaling.proofs.Resting.{opened-twice, head-hears, shut, closed, quiet-ready, Resting, rests-again}
 use Rattle.signaling.proofs.Steps.{keeps}
-
--- only an answer that opens changes the head
-settled-after : (x : Event) (h : Head) → opened h ≡ h → headAfter x h ≡ h
-settled-after x h s = elim (opens-or-not x h) [ inl e ↦ e | inr e ↦ e ∙ s ]
 
 -- ---- both ends, while nothing changes
 
@@ -59,12 +55,11 @@ steady-from {i} {w} y eh eb =
     }
 
 module _ {i : ℕ} {h : Head} {ea : Bool} {n m : ℕ} where
-  steady-by : {w v : World} {x : Event} → Ready i v → Calm i x w v → headAfter x (headIn w) ≡ h → eaOf (placeFor i w) ≡ ea
+  steady-by : {w v : World} → Ready i v → Calm i w v → headIn v ≡ h → eaOf (placeFor i w) ≡ ea
       → ((p : ℕ) (a : List ℕ) → n ≤ p → getElem? (answersSent i (w .log)) p ≡ some a → Says a h)
       → ((q : ℕ) (f : List ℕ) (x : Bool) → m ≤ q → getElem? (requestsSent i (w .log)) q ≡ some f → heardIn i (readFrame f) ≡ heard.Ea x → x ≡ ea)
       → Steady i h ea n m v
-  steady-by {v} y z eh eb mine its =
-      let head : headIn v ≡ h = z .head ∙ eh in
+  steady-by y z head eb mine its =
       record {
         ready = y;
         head = head;
@@ -74,9 +69,13 @@ module _ {i : ℕ} {h : Head} {ea : Bool} {n m : ℕ} where
       }
 
   quiet-steady : {w v : World} {x : Event} → Step i w x v → Quiet i x → opened h ≡ h → Steady i h ea n m w → Steady i h ea n m v
-  quiet-steady {x} s k settled y =
-      steady-by (quiet-ready s k (y .ready)) (calm (y .ready .held) s k) (ap (headAfter x) (y .head) ∙ settled-after x h settled) (y .bit)
-      (y .mine) (y .its)
+  quiet-steady s k settled y =
+      let z = calm (y .ready .held) s k in
+      steady-by (quiet-ready s k (y .ready)) z
+      (elim (z .head) [ inl e ↦ e ∙ y .head | inr e ↦ e ∙ ap opened (y .head) ∙ settled ])
+      (y .bit)
+      (y .mine)
+      (y .its)
 
   quietly-steady : {w v : World} → opened h ≡ h → Quietly i NoRepeat w v → Steady i h ea n m w → Steady i h ea n m v
   quietly-steady settled =
@@ -85,8 +84,10 @@ module _ {i : ℕ} {h : Head} {ea : Bool} {n m : ℕ} where
 -- the answer that opens: from its place on, all answers say what the opened head holds
 first-steady : {i : ℕ} {w v : World} {n : ℕ} {bs : List ℕ} → Step i w (answered (write.Written n) bs) v → Ready i w
     → Steady i (opened (headIn w)) (eaOf (placeFor i w)) (length (answersSent i (w .log))) (length (requestsSent i (w .log))) v
-first-steady {i} {w} s y =
-    steady-by (quiet-ready s tt y) (calm (y .held) s tt) refl refl
+first-steady {i} {w} {n} {bs} (answer f r after target written sizes c) y =
+    let s : Step i w (answered (write.Written n) bs) (record { head = after; box = w .box; log = answered (write.Written n) bs ∷ w .log }) =
+    answer f (write.Written n) after target bs sizes c in
+    steady-by (quiet-ready s tt y) (calm (y .held) s tt) (c .head) refl
     (λ p a le e. absurd (omega (arith, at-lt (answersSent i (w .log)) a p e)))
     (λ q f x le e me. absurd (omega (arith, at-lt (requestsSent i (w .log)) f q e)))
 
@@ -142,12 +143,12 @@ box-steady : {i : ℕ} {h : Head} {ea : Bool} {n m p : ℕ} {bs : List ℕ} {r :
     → Step i w (boxRead (sent p) bs r) v
     → Steady i h ea n m w
     → Steady i h (h .en) n (length (requestsSent i (w .log))) v
-box-steady {i} {h} {p} {bs} {r} {w} le (boxReads from octets answer after d c) y =
+box-steady {i} {h} {p} {bs} {r} {w} le (boxReads from octets told after d c) y =
     let s : Step i w (boxRead (sent p) bs r) (record { head = w .head; box = after; log = boxRead (sent p) bs r ∷ w .log }) =
     boxReads (sent p) bs r after d c in
     let id : h .id ≡ i = rw (← (y .head), y .ready .held .head) (y .ready .held .inv .id) in
     record {
-      ready = goes-on s tt (keeps (y .ready .held) s) (y .ready);
+      ready = goes-on s (λ t. refl) (keeps (y .ready .held) s) (y .ready);
       head = y .head;
       bit =
           rw (c .box .accounts i, c .answer)
@@ -171,7 +172,7 @@ module _ {i : ℕ} {h : Head} {n : ℕ} (settled : opened h ≡ h) where
 
 module _ {i : ℕ} {h : Head} {n m q : ℕ} {bs : List ℕ} {x : Bool} {r : ReadAnswer} (le : m ≤ q) (me : heardIn i (readFrame bs) ≡ heard.Ea x) where
   carries-en : {w v : World} → Step i w (headRead (sent q) bs r) v → Steady i h (h .en) n m w → heardIn i (readFrame bs) ≡ heard.Ea (h .en)
-  carries-en (headReads from octets answer after d c) y = me ∙ ap heard.Ea (y .its q bs x le (d .1) me)
+  carries-en (headReads from octets told after d c) y = me ∙ ap heard.Ea (y .its q bs x le (d .1) me)
 
   head-ends : {w u v : World} → Step i w (headRead (sent q) bs r) u → Quietly i (RequestAgain q bs) u v → Steady i h (h .en) n m w
       → Resting i (shut h) v
@@ -179,7 +180,7 @@ module _ {i : ℕ} {h : Head} {n m q : ℕ} {bs : List ℕ} {x : Bool} {r : Read
       let mine = carries-en s y in
       rests-again h mine l
       (record {
-        ready = goes-on s tt (keeps (y .ready .held) s) (y .ready);
+        ready = goes-on s (λ t. refl) (keeps (y .ready .held) s) (y .ready);
         head = inl (head-hears mine (y .ready .held) s ∙ rw (y .head) (closed h));
       })
 

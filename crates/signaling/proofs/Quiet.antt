@@ -4,7 +4,7 @@ use Prim.Native.Nat.{ℕ, _+_, _≤_}
 use mathlib.Core.Bool.{Bool, true, false}
 use mathlib.Core.Path.{_≡_, refl, _∙_}
 use mathlib.Core.Logic.{_⊎_, inl, inr}
-use mathlib.Core.List.{List, [], _∷_, _++_}
+use mathlib.Core.List.{List}
 use mathlib.Core.Option.{Option, none, some}
 use native.Mathlib.Omega.{arith}
 use lib.ListN.{length, take, getElem?, length-append}
@@ -14,7 +14,7 @@ use Rattle.types.specs.Codes.{pick}
 use Rattle.section.specs.declared.WriteAnswer.the-variants as write
 use Rattle.codec.specs.Frame.{readFrame}
 use Rattle.error_entry.specs.declared.ErrorEntry.{ErrorEntry}
-use Rattle.reporter.specs.Rules.{whenRaised, Head, afterRaise, afterAnswer, heardIn, heardAnswer, afterRead}
+use Rattle.reporter.specs.Rules.{opened, Head, afterRaise, heardIn, heardAnswer, afterRead}
 use Rattle.reporter.specs.declared.RaiseAnswer.{RaiseAnswer}
 use Rattle.reporter.specs.declared.RaiseAnswer.the-variants.{Raised, EntryInvalid, QueueFull}
 use Rattle.reporter.specs.declared.acknowledge.Heard.{Heard}
@@ -30,10 +30,10 @@ use Rattle.collector.specs.declared.TakeAnswer.{TakeAnswer}
 use Rattle.collector.specs.declared.TakeAnswer.the-variants as taking
 use Rattle.collector.specs.declared.reading.Heard.{Heard as BoxHeard}
 use Rattle.collector.specs.declared.reading.Heard.the-variants as boxHears
-use Rattle.signaling.specs.Calls.{sent, foreign, Event, raised, answered, headRead, registered, boxRead, requested, taken, hosted, ifTaken, accepted, handedOut, answersSent, requestsSent, eaOf, World, Step, raise, answer, headReads, register, boxReads, request, takes, hosts}
+use Rattle.signaling.specs.Calls.{tally, adds, Tally, sent, foreign, Event, raised, answered, headRead, registered, boxRead, requested, taken, hosted, ifTaken, accepted, handedOut, answersSent, requestsSent, eaOf, World, Step, raise, answer, headReads, register, boxReads, request, takes, hosts}
 use Rattle.signaling.specs.Exchanges.{Quiet, NoRepeat, Quietly, still, next, again}
 use Rattle.signaling.proofs.Calls.{unheard, read-elsewhere, register-same}
-use Rattle.signaling.proofs.Facts.{clash, either, at-snoc}
+use Rattle.signaling.proofs.Facts.{either, at-snoc}
 use Rattle.signaling.proofs.Frames.{Says}
 use Rattle.signaling.proofs.Invariant.{headIn, placeFor, Held}
 use Rattle.signaling.proofs.Steps.{answer-says, head-now, request-says}
@@ -72,26 +72,15 @@ module _ (i : ℕ) (b : Box) (is : IsPlace (b .accounts i)) where
   take-stays j taking.NotRegistered = is
   take-stays j taking.NothingBooked = is
 
-abbrev pub NoRaise : Event → Type 0
-NoRaise (raised e r) = r ≡ Raised → ⊥
-NoRaise (answered r bs) = Unit {0}
-NoRaise (headRead o bs r) = Unit {0}
-NoRaise (registered j r) = Unit {0}
-NoRaise (boxRead o bs r) = Unit {0}
-NoRaise (requested j r bs) = Unit {0}
-NoRaise (taken j r) = Unit {0}
-NoRaise (hosted bs) = Unit {0}
+-- nothing is accepted
+abbrev pub NoRaise : ℕ → Event → Type 0
+NoRaise i x = (t : Tally) → adds i x t .entries .accepted ≡ t .entries .accepted
 
 -- the head is registered, and the book has places for all that is not in it
 pub record Ready (i : ℕ) (w : World) : Type 0 where
   pub held : Held i w
   pub place : IsPlace (placeFor i w)
   pub room : length (accepted i (w .log)) ≤ length (handedOut i (w .log)) + bookLength
-
-none-raised : (e : ErrorEntry) (r : RaiseAnswer) (es : List ErrorEntry) → (r ≡ Raised → ⊥) → whenRaised r (es ++ (e ∷ [])) es ≡ es
-none-raised e Raised es k = absurd (k refl)
-none-raised e EntryInvalid es k = refl
-none-raised e QueueFull es k = refl
 
 -- a Take takes back nothing
 hands-on : (mine : Bool) (r : TakeAnswer) (es : List ErrorEntry) → length es ≤ length (pick mine (ifTaken r es) es)
@@ -100,9 +89,9 @@ hands-on true (taking.Taken e) es = simp length-append (omega arith)
 hands-on true taking.NotRegistered es = omega arith
 hands-on true taking.NothingBooked es = omega arith
 
-pub goes-on : {i : ℕ} {w v : World} {x : Event} → Step i w x v → NoRaise x → Held i v → Ready i w → Ready i v
+pub goes-on : {i : ℕ} {w v : World} {x : Event} → Step i w x v → NoRaise i x → Held i v → Ready i w → Ready i v
 goes-on {i} {w} (raise e r after n c) k t y =
-    record { held = t; place = y .place; room = rw (none-raised e r (accepted i (w .log)) k) (y .room) }
+    record { held = t; place = y .place; room = rw (k (tally i (w .log))) (y .room) }
 goes-on (answer f r after target written sizes c) k t y = record { held = t; place = y .place; room = y .room }
 goes-on (headReads o bs r after d c) k t y = record { held = t; place = y .place; room = y .room }
 goes-on {i} {w} (register j r after c) k t y =
@@ -118,34 +107,23 @@ goes-on {i} {w} (takes j r after c) k t y =
       room = omega (arith, y .room, hands-on (eqb j i) r (handedOut i (w .log)));
     }
 
-pub quiet-raises-not : (i : ℕ) (x : Event) → Quiet i x → NoRaise x
+pub quiet-raises-not : (i : ℕ) (x : Event) → Quiet i x → NoRaise i x
 quiet-raises-not i (raised e Raised) k = absurd (omega arith)
-quiet-raises-not i (raised e EntryInvalid) k = λ is. clash cc
-quiet-raises-not i (raised e QueueFull) k = λ is. clash cc
-quiet-raises-not i (answered r bs) k = tt
-quiet-raises-not i (headRead o bs r) k = tt
-quiet-raises-not i (registered j r) k = tt
-quiet-raises-not i (boxRead o bs r) k = tt
-quiet-raises-not i (requested j r bs) k = tt
-quiet-raises-not i (taken j r) k = tt
-quiet-raises-not i (hosted bs) k = tt
+quiet-raises-not i (raised e EntryInvalid) k = λ t. refl
+quiet-raises-not i (raised e QueueFull) k = λ t. refl
+quiet-raises-not i (answered r bs) k = λ t. refl
+quiet-raises-not i (headRead o bs r) k = λ t. refl
+quiet-raises-not i (registered j r) k = λ t. refl
+quiet-raises-not i (boxRead o bs r) k = λ t. refl
+quiet-raises-not i (requested j r bs) k = λ t. refl
+quiet-raises-not i (taken j r) k = λ t. refl
+quiet-raises-not i (hosted bs) k = λ t. refl
 
 -- ---- quiet calls
 
--- only an answer changes the head
-abbrev pub headAfter : Event → Head → Head
-headAfter (raised e r) h = h
-headAfter (answered r bs) h = afterAnswer r h
-headAfter (headRead o bs r) h = h
-headAfter (registered j r) h = h
-headAfter (boxRead o bs r) h = h
-headAfter (requested j r bs) h = h
-headAfter (taken j r) h = h
-headAfter (hosted bs) h = h
-
 -- the head but for its opening, EA, and the frames sent but for those that say what both hold
-pub record Calm (i : ℕ) (x : Event) (w v : World) : Type 0 where
-  pub head : headIn v ≡ headAfter x (headIn w)
+pub record Calm (i : ℕ) (w v : World) : Type 0 where
+  pub head : (headIn v ≡ headIn w) ⊎ (headIn v ≡ opened (headIn w))
   pub bit : eaOf (placeFor i v) ≡ eaOf (placeFor i w)
   pub answers : (p : ℕ) (a : List ℕ) → getElem? (answersSent i (v .log)) p ≡ some a
       → (getElem? (answersSent i (w .log)) p ≡ some a) ⊎ Says a (headIn v)
@@ -167,10 +145,10 @@ take-bit i j b taking.NotRegistered = refl
 take-bit i j b taking.NothingBooked = refl
 
 -- a Raise that is refused leaves the head
-not-raised : (e : ErrorEntry) (r : RaiseAnswer) (h : Head) → (r ≡ Raised → ⊥) → afterRaise r e h ≡ h
-not-raised e Raised h k = absurd (k refl)
-not-raised e EntryInvalid h k = refl
-not-raised e QueueFull h k = refl
+not-raised : (i : ℕ) (e : ErrorEntry) (r : RaiseAnswer) → Quiet i (raised e r) → (h : Head) → afterRaise r e h ≡ h
+not-raised i e Raised k h = absurd k
+not-raised i e EntryInvalid k h = refl
+not-raised i e QueueFull k h = refl
 
 -- what gives no EA leaves the head
 silent : (a : Heard) (h : Head) → ((ea : Bool) → a ≡ heard.Ea ea → ⊥) → afterRead (heardAnswer a h) h ≡ h
@@ -178,19 +156,19 @@ silent (heard.Refused e) h k = refl
 silent heard.Nothing h k = refl
 silent (heard.Ea ea) h k = absurd (k ea refl)
 
-pub calm : {i : ℕ} {w v : World} {x : Event} → Held i w → Step i w x v → Quiet i x → Calm i x w v
+pub calm : {i : ℕ} {w v : World} {x : Event} → Held i w → Step i w x v → Quiet i x → Calm i w v
 calm {i} {w} t (raise e r after n c) k =
     record {
-      head = c .head ∙ not-raised e r (headIn w) (quiet-raises-not i (raised e r) k);
+      head = inl (c .head ∙ not-raised i e r k (headIn w));
       bit = refl;
       answers = λ p a y. inl y;
       requests = λ q f y. inl y;
     }
 calm {i} {w} t (answer f (write.Refused e) after target written sizes c) k =
-    record { head = c .head; bit = refl; answers = λ p a y. inl y; requests = λ q f y. inl y }
+    record { head = inl (c .head); bit = refl; answers = λ p a y. inl y; requests = λ q f y. inl y }
 calm {i} {w} t (answer f (write.Written n) after target written sizes c) k =
     record {
-      head = c .head;
+      head = inr (c .head);
       bit = refl;
       answers = λ p a y.
           elim (at-snoc (answersSent i (w .log)) (take n written) a p y) [
@@ -201,40 +179,40 @@ calm {i} {w} t (answer f (write.Written n) after target written sizes c) k =
     }
 calm {i} {w} t (headReads foreign bs r after d c) k =
     record {
-      head = head-now t bs r after c ∙ unheard i (readFrame bs) (headIn w) d;
+      head = inl (head-now t bs r after c ∙ unheard i (readFrame bs) (headIn w) d);
       bit = refl;
       answers = λ p a y. inl y;
       requests = λ q f y. inl y;
     }
 calm {i} {w} t (headReads (sent q) bs r after d c) k =
     record {
-      head = head-now t bs r after c ∙ silent (heardIn i (readFrame bs)) (headIn w) k;
+      head = inl (head-now t bs r after c ∙ silent (heardIn i (readFrame bs)) (headIn w) k);
       bit = refl;
       answers = λ p a y. inl y;
       requests = λ q f y. inl y;
     }
 calm {i} {w} t (register j r after c) k =
     record {
-      head = refl;
+      head = inl refl;
       bit = rw (c .box .accounts i) (register-same i j (boxOf (w .box)) r (c .answer) .0);
       answers = λ p a y. inl y;
       requests = λ q f y. inl y;
     }
 calm {i} {w} t (boxReads foreign bs r after d c) k =
     record {
-      head = refl;
+      head = inl refl;
       bit = rw (c .box .accounts i, read-elsewhere i bs (boxOf (w .box)) r d);
       answers = λ p a y. inl y;
       requests = λ q f y. inl y;
     }
 calm {i} {w} t (boxReads (sent p) bs r after d c) k = absurd k
 calm {i} {w} t (request j f requesting.NotRegistered target written six c) k =
-    record { head = refl; bit = refl; answers = λ p a y. inl y; requests = λ q f y. inl y }
+    record { head = inl refl; bit = refl; answers = λ p a y. inl y; requests = λ q f y. inl y }
 calm {i} {w} t (request j f (requesting.Refused e) target written six c) k =
-    record { head = refl; bit = refl; answers = λ p a y. inl y; requests = λ q f y. inl y }
+    record { head = inl refl; bit = refl; answers = λ p a y. inl y; requests = λ q f y. inl y }
 calm {i} {w} t (request j f (requesting.Written n) target written six c) k =
     record {
-      head = refl;
+      head = inl refl;
       bit = refl;
       answers = λ p a y. inl y;
       requests = λ q g y.
@@ -245,7 +223,7 @@ calm {i} {w} t (request j f (requesting.Written n) target written six c) k =
     }
 calm {i} {w} t (hosts bs told) k =
     record {
-      head = refl;
+      head = inl refl;
       bit = refl;
       answers = λ p a y. inl y;
       requests = λ q g y.
@@ -253,7 +231,7 @@ calm {i} {w} t (hosts bs told) k =
     }
 calm {i} {w} t (takes j r after c) k =
     record {
-      head = refl;
+      head = inl refl;
       bit = rw (c .box .accounts i) (take-bit i j (boxOf (w .box)) r);
       answers = λ p a y. inl y;
       requests = λ q f y. inl y;

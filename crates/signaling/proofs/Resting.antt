@@ -6,17 +6,16 @@ use mathlib.Core.Path.{_≡_, refl, ap, _∙_}
 use mathlib.Core.Logic.{_⊎_, inl, inr}
 use mathlib.Core.List.{List, [], _∷_, _++_}
 use lib.ListN.{take-append-drop}
-use Rattle.section.specs.declared.WriteAnswer.the-variants as write
 use Rattle.codec.specs.Frame.{readFrame}
 use Rattle.error_entry.specs.declared.ErrorEntry.{ErrorEntry}
 use Rattle.reporter.specs.Rules.{opens, withBatch, batchLength, Head, opened, heardIn, eaAnswer, afterRead}
 use Rattle.reporter.specs.declared.ReadAnswer.{ReadAnswer}
 use Rattle.reporter.specs.declared.acknowledge.Heard.the-variants as heard
-use Rattle.signaling.specs.Calls.{Origin, sent, Event, raised, answered, headRead, registered, boxRead, requested, taken, hosted, World, Step, headReads}
+use Rattle.signaling.specs.Calls.{Origin, sent, Event, headRead, World, Step, headReads}
 use Rattle.signaling.specs.Exchanges.{Quiet, NoRepeat, RequestAgain, Quietly}
 use Rattle.signaling.proofs.Facts.{beq-same, beq-not}
 use Rattle.signaling.proofs.Invariant.{headIn, Held}
-use Rattle.signaling.proofs.Quiet.{Ready, goes-on, quiet-raises-not, headAfter, calm, quietly, no-repeat}
+use Rattle.signaling.proofs.Quiet.{Ready, goes-on, quiet-raises-not, calm, quietly, no-repeat}
 use Rattle.signaling.proofs.Steps.{head-now, keeps}
 
 -- ---- the head's opening, by cases of the two lists
@@ -84,18 +83,6 @@ kept h = kept-by h (h .waiting) refl
 pub quiet-ready : {i : ℕ} {w v : World} {x : Event} → Step i w x v → Quiet i x → Ready i w → Ready i v
 quiet-ready {i} {x} s k y = goes-on s (quiet-raises-not i x k) (keeps (y .held) s) y
 
--- only an answer changes the head
-pub opens-or-not : (x : Event) (h : Head) → (headAfter x h ≡ h) ⊎ (headAfter x h ≡ opened h)
-opens-or-not (raised e r) h = inl refl
-opens-or-not (answered (write.Written n) bs) h = inr refl
-opens-or-not (answered (write.Refused e) bs) h = inl refl
-opens-or-not (headRead o bs r) h = inl refl
-opens-or-not (registered j r) h = inl refl
-opens-or-not (boxRead o bs r) h = inl refl
-opens-or-not (requested j r bs) h = inl refl
-opens-or-not (taken j r) h = inl refl
-opens-or-not (hosted bs) h = inl refl
-
 pub record Resting (i : ℕ) (h : Head) (w : World) : Type 0 where
   pub ready : Ready i w
   pub head : (headIn w ≡ h) ⊎ (headIn w ≡ opened h)
@@ -106,16 +93,11 @@ resting-entries {h} y = elim (y .head) [ inl e ↦ ap entries e | inr e ↦ ap e
 module _ {i : ℕ} {h : Head} where
   quiet-rests : (w v : World) (x : Event) → Step i w x v → Quiet i x → Resting i h w → Resting i h v
   quiet-rests w v x s k y =
-      let now = calm (y .ready .held) s k .head in
       record {
         ready = quiet-ready s k (y .ready);
-        head = elim (opens-or-not x (headIn w)) [
-          | inl same ↦ elim (y .head) [ inl e ↦ inl (now ∙ same ∙ e) | inr e ↦ inr (now ∙ same ∙ e) ]
-          | inr opens ↦
-              elim (y .head) [
-                | inl e ↦ inr (now ∙ opens ∙ ap opened e)
-                | inr e ↦ inr (now ∙ opens ∙ ap opened e ∙ opened-twice h)
-              ]
+        head = elim (calm (y .ready .held) s k .head) [
+          | inl same ↦ elim (y .head) [ inl e ↦ inl (same ∙ e) | inr e ↦ inr (same ∙ e) ]
+          | inr opens ↦ elim (y .head) [ inl e ↦ inr (opens ∙ ap opened e) | inr e ↦ inr (opens ∙ ap opened e ∙ opened-twice h) ]
         ];
       }
 
@@ -129,7 +111,7 @@ module _ {i : ℕ} (h : Head) {q : ℕ} {bs : List ℕ} (me : heardIn i (readFra
       let read : Step i w (headRead (sent q) bs (k .0)) v = rw (k .1) at s in
       let now = head-hears me (y .ready .held) read in
       record {
-        ready = goes-on read tt (keeps (y .ready .held) s) (y .ready);
+        ready = goes-on read (λ t. refl) (keeps (y .ready .held) s) (y .ready);
         head = elim (y .head) [ inl e ↦ inl (now ∙ rw e (closed (shut h))) | inr e ↦ inr (now ∙ rw e (kept h)) ];
       }
 
