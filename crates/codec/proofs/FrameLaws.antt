@@ -8,25 +8,29 @@ use borrow.Author.Needs.{needs}
 use borrow.Author.Tests.{le-leb, lt-leb, le-ltb, lt-ltb, eq-eqb, ne-eqb}
 use Rattle.octets.specs.Numbers.{beAt}
 use Rattle.types.specs.Header.{ethertypeEPL}
-use Rattle.types.specs.Messages.{messageOf}
+use Rattle.types.specs.Messages.{messageCode, messageOf}
 use Rattle.types.specs.declared.hal.PowerlinkError.the-variants.{BufferTooShort, InvalidEthernetFrame, InvalidPlFrame, InvalidMessageType}
 use Rattle.types.specs.declared.message_type.MessageType.{MessageType}
-use Rattle.types.specs.declared.message_type.MessageTypeAnswer.{MessageTypeAnswer}
-use Rattle.types.specs.declared.message_type.MessageTypeAnswer.the-variants.{Known, Unknown}
+use Rattle.types.specs.declared.message_type.MessageTypeAnswer.the-variants.{Unknown}
+use Rattle.types.proofs.ReadBack.{message-known}
 use Rattle.codec.specs.Frame.{byKind, readSection, readFrame}
-use Rattle.codec.specs.declared.FrameAnswer.{FrameAnswer}
+use Rattle.codec.specs.Verdicts.{kindAnswer}
 use Rattle.codec.specs.declared.FrameAnswer.the-variants.{Refused}
+use Rattle.codec.specs.declared.KindAnswer.{KindAnswer}
 
-module _ (s : List ℕ) (n : ℕ) (a : MessageTypeAnswer) (en : n ≡ getD s 0 0) (ea : a ≡ messageOf (n % 0x80)) where
-  pub section-unknown : (b : ℕ) → a ≡ Unknown b → Refused (InvalidMessageType b) ≡ readSection s
+message-none : (b : ℕ) → (b ≡ 1 → ⊥) → (b ≡ 3 → ⊥) → (b ≡ 4 → ⊥) → (b ≡ 5 → ⊥) → (b ≡ 6 → ⊥) → messageOf b ≡ Unknown b
+unfolding messageOf
+message-none b h₁ h₃ h₄ h₅ h₆ = rw (ne-eqb b 1 h₁, ne-eqb b 3 h₃, ne-eqb b 4 h₄, ne-eqb b 5 h₅, ne-eqb b 6 h₆)
+
+module _ (s : List ℕ) (n : ℕ) (en : n ≡ getD s 0 0) where
+  pub section-known : (kind : MessageType) → n % 0x80 ≡ messageCode kind → byKind kind s ≡ readSection s
   unfolding readSection
-  section-unknown b g = rw (← en, ← ea, g)
+  section-known kind em = rw (← en, em, message-known kind)
 
-  pub section-known : (kind : MessageType) (r : FrameAnswer) → a ≡ Known kind → r ≡ byKind kind s → r ≡ readSection s
+  pub section-unknown : (n % 0x80 ≡ 1 → ⊥) → (n % 0x80 ≡ 3 → ⊥) → (n % 0x80 ≡ 4 → ⊥) → (n % 0x80 ≡ 5 → ⊥) → (n % 0x80 ≡ 6 → ⊥)
+      → Refused (InvalidMessageType (n % 0x80)) ≡ readSection s
   unfolding readSection
-  section-known kind r g er = rw (← en, ← ea, g) er
-
-pub ruleset section-laws = (needs, section-unknown, section-known)
+  section-unknown h₁ h₃ h₄ h₅ h₆ = rw (← en, message-none (n % 0x80) h₁ h₃ h₄ h₅ h₆)
 
 module _ (f : List ℕ) where
   pub frame-short : length f < 14 → Refused BufferTooShort ≡ readFrame f
@@ -43,7 +47,7 @@ module _ (f : List ℕ) where
       unfolding readFrame
       frame-empty k = rw (le-leb 14 (length f) long, ← ew, eq-eqb w ethertypeEPL epl, le-ltb 14 (length f) k)
 
-      pub frame-read : (s : List ℕ) (r : FrameAnswer) → 14 < length f → s ≡ drop 14 f → r ≡ readSection s → r ≡ readFrame f
+      pub frame-read : (s : List ℕ) (r : KindAnswer) → 14 < length f → s ≡ drop 14 f → kindAnswer r s ≡ readSection s → kindAnswer r (drop 14 f) ≡ readFrame f
       unfolding readFrame
       frame-read s r k es er = rw (le-leb 14 (length f) long, ← ew, eq-eqb w ethertypeEPL epl, lt-ltb 14 (length f) k, ← es) er
 

@@ -5,3 +5,4 @@ pub mod PReq
 pub mod PRes
 pub mod SoA
 pub mod SoC
+pub mod Verdicts

@@ -2,6 +2,7 @@
 ghost use mathlib.Core.Path.{_≡_};
 ghost use Prim.Native.Nat.{_≤_};
 ghost use lib.ListN.{length};
+ghost use Rattle.codec.specs.Verdicts.{ASndJudged};
 ghost use Rattle.codec.specs.ASnd.{asndOf, readASnd, asndPayloadLength};
 use crate::FrameAnswer;
 use control::asnd::ASndFrame;
@@ -13,22 +14,40 @@ use types::hal::PowerlinkError;
 use types::service::ServiceId;
 use types::service::ServiceIdAnswer;
 
+// What the tests of a section come to: the codes and the size that its fields are read with, or why it is refused.
+pub enum ASndVerdict {
+    Read(ServiceId),
+    TooShort,
+    NoService(u8),
+}
+
+pub fn judge(s: &[u8]) -> ASndVerdict
+    ensures { λ r. ⌜ ASndJudged (now (s .entry)) r ⌝ }
+{
+    if s.len() < 4 {
+        return ASndVerdict::TooShort;
+    }
+    match ServiceId::from_u8(s[3]) {
+        ServiceIdAnswer::Unknown(b) => ASndVerdict::NoService(b),
+        ServiceIdAnswer::Known(service) => ASndVerdict::Read(service),
+    }
+}
+
+// The frame, or why it is refused.
 pub(crate) fn deserialize(s: &[u8]) -> FrameAnswer
     ensures { λ r. ⌜ r ≡ readASnd (now (s .entry)) ⌝ }
 {
-    if s.len() < 4 {
-        return FrameAnswer::Refused(PowerlinkError::BufferTooShort);
-    }
-    match ServiceId::from_u8(s[3]) {
-        ServiceIdAnswer::Unknown(b) => FrameAnswer::Refused(PowerlinkError::InvalidServiceId(b)),
-        ServiceIdAnswer::Known(service) => {
+    match judge(s) {
+        ASndVerdict::Read(service) => {
             FrameAnswer::Frame(PowerlinkFrame::ASnd(fields(s, service)))
         }
+        ASndVerdict::TooShort => FrameAnswer::Refused(PowerlinkError::BufferTooShort),
+        ASndVerdict::NoService(b) => FrameAnswer::Refused(PowerlinkError::InvalidServiceId(b)),
     }
 }
 
 // The fields of a section that has passed the tests.
-fn fields(s: &[u8], service_id: ServiceId) -> ASndFrame
+pub fn fields(s: &[u8], service_id: ServiceId) -> ASndFrame
     requires { ⌜ 4 ≤ length (now s) ⌝ }
     ensures { λ r. ⌜ r ≡ asndOf (now (s .entry)) «service_id» ⌝ }
 {

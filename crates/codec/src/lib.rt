@@ -1,13 +1,16 @@
-// Reading any frame (powerlink-rs: frame/codec.rs). A kind's rules are reached only through `read_frame`, which `deserialize_frame` calls.
+// Reading any frame (powerlink-rs: frame/codec.rs): the tests are
+// `kind_of` and then the `judge` of the kind, and `read_frame` and any other reading go by their verdicts.
 ghost use mathlib.Core.Path.{_≡_};
+ghost use lib.ListN.{drop};
 ghost use Rattle.codec.specs.Frame.{readFrame, readSection, byKind, placeOf, payloadOf, Reads};
+ghost use Rattle.codec.specs.Verdicts.{kindAnswer};
 
 pub mod asnd;
 pub mod headers;
-mod preq;
-mod pres;
-mod soa;
-mod soc;
+pub mod preq;
+pub mod pres;
+pub mod soa;
+pub mod soc;
 
 use frame::PowerlinkFrame;
 use headers::eth_header_at;
@@ -20,11 +23,16 @@ use types::C_DLL_ETHERTYPE_EPL;
 use types::basic::EthernetHeader;
 use types::hal::PowerlinkError;
 use types::message_type::MessageType;
-use types::message_type::MessageTypeAnswer;
 
 // The frame that was read, or why it is refused.
 pub enum FrameAnswer {
     Frame(PowerlinkFrame),
+    Refused(PowerlinkError),
+}
+
+// The kind whose rules the section of a frame is read by, or why the frame is refused before.
+pub enum KindAnswer {
+    Kind(MessageType),
     Refused(PowerlinkError),
 }
 
@@ -86,27 +94,46 @@ pub fn payload(place: PayloadPlace, buffer: &[u8]) -> &[u8]
 pub fn read_frame(buffer: &[u8]) -> FrameAnswer
     ensures { λ r. ⌜ r ≡ readFrame (now (buffer .entry)) ⌝ }
 {
-    if buffer.len() < 14 {
-        return FrameAnswer::Refused(PowerlinkError::BufferTooShort);
+    match kind_of(buffer) {
+        KindAnswer::Refused(e) => FrameAnswer::Refused(e),
+        KindAnswer::Kind(kind) => read_kind(kind, tail(buffer, 14)),
     }
-    if get_u16_be(buffer, 12) != C_DLL_ETHERTYPE_EPL {
-        return FrameAnswer::Refused(PowerlinkError::InvalidEthernetFrame);
-    }
-    if buffer.len() <= 14 {
-        return FrameAnswer::Refused(PowerlinkError::InvalidPlFrame);
-    }
-    read_section(tail(buffer, 14))
 }
 
-// The section `s`, by its message type.
-fn read_section(s: &[u8]) -> FrameAnswer
-    ensures { λ r. ⌜ r ≡ readSection (now (s .entry)) ⌝ }
+// The tests of a frame before those of its kind. What a caller does for each kind then is its own.
+pub fn kind_of(buffer: &[u8]) -> KindAnswer
+    ensures { λ r. ⌜ kindAnswer r (drop 14 (now (buffer .entry))) ≡ readFrame (now (buffer .entry)) ⌝ }
 {
-    match MessageType::from_u8(byte_at(s, 0) % 0x80) {
-        MessageTypeAnswer::Unknown(b) => FrameAnswer::Refused(PowerlinkError::InvalidMessageType(
-            b,
-        )),
-        MessageTypeAnswer::Known(kind) => read_kind(kind, s),
+    if buffer.len() < 14 {
+        return KindAnswer::Refused(PowerlinkError::BufferTooShort);
+    }
+    if get_u16_be(buffer, 12) != C_DLL_ETHERTYPE_EPL {
+        return KindAnswer::Refused(PowerlinkError::InvalidEthernetFrame);
+    }
+    if buffer.len() <= 14 {
+        return KindAnswer::Refused(PowerlinkError::InvalidPlFrame);
+    }
+    kind_in(tail(buffer, 14))
+}
+
+// The kind of the section `s`. Two tests of a few codes each: one of all five is compiled to a table of jumps.
+fn kind_in(s: &[u8]) -> KindAnswer
+    ensures { λ r. ⌜ kindAnswer r (now (s .entry)) ≡ readSection (now (s .entry)) ⌝ }
+{
+    let code = byte_at(s, 0) % 0x80;
+    if code < 4 {
+        match code {
+            1 => KindAnswer::Kind(MessageType::SoC),
+            3 => KindAnswer::Kind(MessageType::PReq),
+            _ => KindAnswer::Refused(PowerlinkError::InvalidMessageType(code)),
+        }
+    } else {
+        match code {
+            4 => KindAnswer::Kind(MessageType::PRes),
+            5 => KindAnswer::Kind(MessageType::SoA),
+            6 => KindAnswer::Kind(MessageType::ASnd),
+            _ => KindAnswer::Refused(PowerlinkError::InvalidMessageType(code)),
+        }
     }
 }
 

@@ -2,6 +2,7 @@
 ghost use mathlib.Core.Path.{_≡_};
 ghost use Prim.Native.Nat.{_≤_};
 ghost use lib.ListN.{length};
+ghost use Rattle.codec.specs.Verdicts.{PReqJudged};
 ghost use Rattle.codec.specs.PReq.{preqOf, readPReq};
 use crate::FrameAnswer;
 use frame::PowerlinkFrame;
@@ -12,22 +13,38 @@ use types::NodeId;
 use types::hal::PowerlinkError;
 use types::mapping::PDOVersion;
 
-pub fn deserialize(s: &[u8]) -> FrameAnswer
-    ensures { λ r. ⌜ r ≡ readPReq (now (s .entry)) ⌝ }
+// What the tests of a section come to: the codes and the size that its fields are read with, or why it is refused.
+pub enum PReqVerdict {
+    Read(u16),
+    TooShort,
+}
+
+pub fn judge(s: &[u8]) -> PReqVerdict
+    ensures { λ r. ⌜ PReqJudged (now (s .entry)) r ⌝ }
 {
     if s.len() < 10 {
-        return FrameAnswer::Refused(PowerlinkError::BufferTooShort);
+        return PReqVerdict::TooShort;
     }
     let size = get_u16_le(s, 8);
     let len = size as usize;
     if s.len() - 10 < len {
-        return FrameAnswer::Refused(PowerlinkError::BufferTooShort);
+        return PReqVerdict::TooShort;
     }
-    FrameAnswer::Frame(PowerlinkFrame::PReq(fields(s, size)))
+    PReqVerdict::Read(size)
+}
+
+// The frame, or why it is refused.
+pub(crate) fn deserialize(s: &[u8]) -> FrameAnswer
+    ensures { λ r. ⌜ r ≡ readPReq (now (s .entry)) ⌝ }
+{
+    match judge(s) {
+        PReqVerdict::Read(size) => FrameAnswer::Frame(PowerlinkFrame::PReq(fields(s, size))),
+        PReqVerdict::TooShort => FrameAnswer::Refused(PowerlinkError::BufferTooShort),
+    }
 }
 
 // The fields of a section that has passed the tests.
-fn fields(s: &[u8], payload_size: u16) -> PReqFrame
+pub fn fields(s: &[u8], payload_size: u16) -> PReqFrame
     requires { ⌜ 10 ≤ length (now s) ⌝ }
     ensures { λ r. ⌜ r ≡ preqOf (now (s .entry)) «payload_size» ⌝ }
 {

@@ -2,6 +2,7 @@
 ghost use mathlib.Core.Path.{_≡_};
 ghost use Prim.Native.Nat.{_≤_};
 ghost use lib.ListN.{length};
+ghost use Rattle.codec.specs.Verdicts.{PResJudged};
 ghost use Rattle.codec.specs.PRes.{presOf, presFlags, readPRes};
 use crate::FrameAnswer;
 use frame::PowerlinkFrame;
@@ -17,30 +18,52 @@ use types::poll_flags::RSFlag;
 use types::states::NmtState;
 use types::states::NmtStateAnswer;
 
-pub fn deserialize(s: &[u8]) -> FrameAnswer
-    ensures { λ r. ⌜ r ≡ readPRes (now (s .entry)) ⌝ }
+// What the tests of a section come to: the codes and the size that its fields are read with, or why it is refused.
+pub enum PResVerdict {
+    Read(NmtState, u16),
+    TooShort,
+    NotToAll,
+    NoState(u8),
+}
+
+pub fn judge(s: &[u8]) -> PResVerdict
+    ensures { λ r. ⌜ PResJudged (now (s .entry)) r ⌝ }
 {
     if s.len() < 10 {
-        return FrameAnswer::Refused(PowerlinkError::BufferTooShort);
+        return PResVerdict::TooShort;
     }
     if s[1] != C_ADR_BROADCAST_NODE_ID {
-        return FrameAnswer::Refused(PowerlinkError::InvalidPlFrame);
+        return PResVerdict::NotToAll;
     }
     match NmtState::from_u8(s[3]) {
-        NmtStateAnswer::Unknown(b) => FrameAnswer::Refused(PowerlinkError::InvalidNmtState(b)),
+        NmtStateAnswer::Unknown(b) => PResVerdict::NoState(b),
         NmtStateAnswer::Known(nmt_state) => {
             let size = get_u16_le(s, 8);
             let len = size as usize;
             if s.len() - 10 < len {
-                return FrameAnswer::Refused(PowerlinkError::BufferTooShort);
+                return PResVerdict::TooShort;
             }
-            FrameAnswer::Frame(PowerlinkFrame::PRes(fields(s, nmt_state, size)))
+            PResVerdict::Read(nmt_state, size)
         }
     }
 }
 
+// The frame, or why it is refused.
+pub(crate) fn deserialize(s: &[u8]) -> FrameAnswer
+    ensures { λ r. ⌜ r ≡ readPRes (now (s .entry)) ⌝ }
+{
+    match judge(s) {
+        PResVerdict::Read(state, size) => {
+            FrameAnswer::Frame(PowerlinkFrame::PRes(fields(s, state, size)))
+        }
+        PResVerdict::TooShort => FrameAnswer::Refused(PowerlinkError::BufferTooShort),
+        PResVerdict::NotToAll => FrameAnswer::Refused(PowerlinkError::InvalidPlFrame),
+        PResVerdict::NoState(b) => FrameAnswer::Refused(PowerlinkError::InvalidNmtState(b)),
+    }
+}
+
 // The fields of a section that has passed the tests.
-fn fields(s: &[u8], nmt_state: NmtState, payload_size: u16) -> PResFrame
+pub fn fields(s: &[u8], nmt_state: NmtState, payload_size: u16) -> PResFrame
     requires { ⌜ 10 ≤ length (now s) ⌝ }
     ensures { λ r. ⌜ r ≡ presOf (now (s .entry)) «nmt_state» «payload_size» ⌝ }
 {

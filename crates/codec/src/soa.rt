@@ -2,6 +2,7 @@
 ghost use mathlib.Core.Path.{_≡_};
 ghost use Prim.Native.Nat.{_≤_};
 ghost use lib.ListN.{length};
+ghost use Rattle.codec.specs.Verdicts.{SoAJudged};
 ghost use Rattle.codec.specs.SoA.{soaOf, readSoA};
 use crate::FrameAnswer;
 use control::soa::SoAFlags;
@@ -15,27 +16,47 @@ use types::requested_service::RequestedServiceIdAnswer;
 use types::states::NmtState;
 use types::states::NmtStateAnswer;
 
-pub fn deserialize(s: &[u8]) -> FrameAnswer
-    ensures { λ r. ⌜ r ≡ readSoA (now (s .entry)) ⌝ }
+// What the tests of a section come to: the codes and the size that its fields are read with, or why it is refused.
+pub enum SoAVerdict {
+    Read(NmtState, RequestedServiceId),
+    TooShort,
+    NoState(u8),
+    NoService(u8),
+}
+
+pub fn judge(s: &[u8]) -> SoAVerdict
+    ensures { λ r. ⌜ SoAJudged (now (s .entry)) r ⌝ }
 {
     if s.len() < 9 {
-        return FrameAnswer::Refused(PowerlinkError::BufferTooShort);
+        return SoAVerdict::TooShort;
     }
     match NmtState::from_u8(s[3]) {
-        NmtStateAnswer::Unknown(b) => FrameAnswer::Refused(PowerlinkError::InvalidNmtState(b)),
+        NmtStateAnswer::Unknown(b) => SoAVerdict::NoState(b),
         NmtStateAnswer::Known(state) => match RequestedServiceId::from_u8(s[6]) {
-            RequestedServiceIdAnswer::Unknown(b) => {
-                FrameAnswer::Refused(PowerlinkError::InvalidRequestedServiceId(b))
-            }
-            RequestedServiceIdAnswer::Known(service) => {
-                FrameAnswer::Frame(PowerlinkFrame::SoA(fields(s, state, service)))
-            }
+            RequestedServiceIdAnswer::Unknown(b) => SoAVerdict::NoService(b),
+            RequestedServiceIdAnswer::Known(service) => SoAVerdict::Read(state, service),
         },
     }
 }
 
+// The frame, or why it is refused.
+pub(crate) fn deserialize(s: &[u8]) -> FrameAnswer
+    ensures { λ r. ⌜ r ≡ readSoA (now (s .entry)) ⌝ }
+{
+    match judge(s) {
+        SoAVerdict::Read(state, service) => {
+            FrameAnswer::Frame(PowerlinkFrame::SoA(fields(s, state, service)))
+        }
+        SoAVerdict::TooShort => FrameAnswer::Refused(PowerlinkError::BufferTooShort),
+        SoAVerdict::NoState(b) => FrameAnswer::Refused(PowerlinkError::InvalidNmtState(b)),
+        SoAVerdict::NoService(b) => {
+            FrameAnswer::Refused(PowerlinkError::InvalidRequestedServiceId(b))
+        }
+    }
+}
+
 // The fields of a section that has passed the tests.
-fn fields(s: &[u8], nmt_state: NmtState, req_service_id: RequestedServiceId) -> SoAFrame
+pub fn fields(s: &[u8], nmt_state: NmtState, req_service_id: RequestedServiceId) -> SoAFrame
     requires { ⌜ 9 ≤ length (now s) ⌝ }
     ensures { λ r. ⌜ r ≡ soaOf (now (s .entry)) «nmt_state» «req_service_id» ⌝ }
 {

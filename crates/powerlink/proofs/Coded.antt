@@ -9,14 +9,8 @@ use lib.Dec.{eqb, eqb→eq}
 use borrow.Author.Tests.{eqb-true}
 use Rattle.types.specs.Codes.{pick, decoded}
 use Rattle.types.specs.PollFlags.{priorityCode, priorities, priorityIn}
-use Rattle.types.specs.RequestedServices.{requestedCode, requestedServices, requestedOf}
-use Rattle.types.specs.Services.{serviceCode, services, serviceOf}
 use Rattle.types.specs.States.{stateCode, states, stateOf}
 use Rattle.types.specs.declared.poll_flags.PRFlag.the-variants.{Low1}
-use Rattle.types.specs.declared.requested_service.RequestedServiceId.{RequestedServiceId}
-use Rattle.types.specs.declared.requested_service.RequestedServiceIdAnswer.the-variants as requested
-use Rattle.types.specs.declared.service.ServiceId.{ServiceId}
-use Rattle.types.specs.declared.service.ServiceIdAnswer.the-variants as service
 use Rattle.types.specs.declared.states.NmtState.{NmtState}
 use Rattle.types.specs.declared.states.NmtStateAnswer.the-variants as state
 use Rattle.types.proofs.Codes.{at}
@@ -34,14 +28,6 @@ module _ {A R : Type 0} (code : A → ℕ) (known : A → R) (other : R) (same :
 pub state-code : (b : ℕ) (x : NmtState) → stateOf b ≡ state.Known x → stateCode x ≡ b
 unfolding stateOf
 state-code b x e = code-read stateCode state.Known (state.Unknown b) (λ y z q. cc) (λ y q. let w : _≡_ {A = ℕ} 0 1 = cc in omega arith) states b x e
-
-pub service-code : (b : ℕ) (x : ServiceId) → serviceOf b ≡ service.Known x → serviceCode x ≡ b
-unfolding serviceOf
-service-code b x e = code-read serviceCode service.Known (service.Unknown b) (λ y z q. cc) (λ y q. let w : _≡_ {A = ℕ} 0 1 = cc in omega arith) services b x e
-
-pub requested-code : (b : ℕ) (x : RequestedServiceId) → requestedOf b ≡ requested.Known x → requestedCode x ≡ b
-unfolding requestedOf
-requested-code b x e = code-read requestedCode requested.Known (requested.Unknown b) (λ y z q. cc) (λ y q. let w : _≡_ {A = ℕ} 0 1 = cc in omega arith) requestedServices b x e
 
 priority-right : ℕ → Bool
 priority-right k = eqb (priorityCode (decoded priorityCode (λ p. p) Low1 priorities k)) k

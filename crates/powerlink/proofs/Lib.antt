@@ -4,5 +4,4 @@ mod Fronts
 mod Journals
 mod Readers
 mod Reporters
-mod Sections
 mod Writers

@@ -12,7 +12,11 @@ use Rattle.types.specs.declared.hal.PowerlinkError.{PowerlinkError}
 use Rattle.types.specs.declared.hal.PowerlinkError.the-variants.{BufferTooShort, InvalidNmtState}
 use Rattle.types.specs.declared.states.NmtState.{NmtState}
 use Rattle.types.specs.declared.states.NmtStateAnswer.the-variants.{Known, Unknown}
+use Rattle.frame.specs.declared.PowerlinkFrame.{PowerlinkFrame}
+use Rattle.codec.specs.Frame.{readFrame, deserializeFrame, placeInFrame}
 use Rattle.codec.specs.Headers.{deserializeEthHeader, deserializePlHeader}
+use Rattle.codec.specs.declared.FrameAnswer.{FrameAnswer}
+use Rattle.codec.specs.declared.FrameAnswer.the-variants.{Frame, Refused}
 use Rattle.codec.specs.declared.headers.DeserializedEthHeader.{DeserializedEthHeader}
 use Rattle.codec.specs.declared.headers.EthHeaderAnswer.the-variants as eth
 use Rattle.codec.specs.declared.headers.PlHeader.{PlHeader}
@@ -28,12 +32,29 @@ use Rattle.status_response.specs.declared.bit_field.ErrorFieldAnswer.the-varian
 use Rattle.status_response.specs.declared.fields.StatusAnswer.the-variants as status
 use Rattle.status_response.specs.declared.walk.EntryStep.the-variants as step
 use Rattle.numbers.specs.Answers.{errorOctet}
-use Rattle.numbers.specs.Values.{statusNumbers, entryNumbers}
-use Rattle.powerlink.specs.Reading.{EthRead, PlRead, StatusRead, FieldRead, EntryRead, StepRead}
+use Rattle.numbers.specs.Values.{frameNumbers, statusNumbers, entryNumbers}
+use Rattle.powerlink.specs.Reading.{FrameRead, SectionRead, EthRead, PlRead, StatusRead, FieldRead, EntryRead, StepRead}
 
 -- what `refusal` tells of an error
 abbrev Told : PowerlinkError → ℕ → ℕ → ℕ → Type 0
 Told e r o o′ = (r ≡ causeNumber e) × (o′ ≡ errorOctet e o)
+
+module _ (a : FrameAnswer) (s v : List ℕ) where
+  pub section-refused : (r o o′ : ℕ) (e : PowerlinkError) → Refused e ≡ a → Told e r o o′ → SectionRead a s r v v o o′
+  section-refused r o o′ e q t = record { cause = rw (← q) (t .0); values = rw (← q); octet = rw (← q) (t .1) }
+
+  pub section-frame : (v′ : List ℕ) (o : ℕ) (x : PowerlinkFrame) → Frame x ≡ a → v′ ≡ frameNumbers x (placeInFrame x s) → SectionRead a s 0 v v′ o o
+  section-frame v′ o x q ev = record { cause = rw (← q); values = rw (← q) ev; octet = rw (← q) }
+
+module _ (f : List ℕ) where
+  pub frame-refused : (v : List ℕ) (r o o′ : ℕ) (e : PowerlinkError) → Refused e ≡ readFrame f → Told e r o o′ → FrameRead f r v v o o′
+  frame-refused v r o o′ e q t = record { cause = rw (← q) (t .0); values = rw (← q); octet = rw (← q) (t .1) }
+
+  -- a frame is told as its section is
+  pub frame-section : (a : FrameAnswer) (s : List ℕ) → a ≡ readFrame f → s ≡ drop 14 f → (r : ℕ) (v v′ : List ℕ) (o o′ : ℕ) → SectionRead a s r v v′ o o′
+      → FrameRead f r v v′ o o′
+  unfolding deserializeFrame
+  frame-section a s q es r v v′ o o′ w = record { cause = rw (← q) (w .cause); values = rw (← q, ← es) (w .values); octet = rw (← q) (w .octet) }
 
 module _ (f : List ℕ) (d : DeserializedEthHeader) (w : d ≡ deserializeEthHeader f) where
   pub eth-refused : (a b : List ℕ) (t r : ℕ) (e : PowerlinkError) → d .answer ≡ eth.Refused e → r ≡ causeNumber e → EthRead f r a a b b t t

@@ -3,5 +3,4 @@ pub mod Given
 pub mod Journal
 pub mod Reading
 pub mod Reporting
-pub mod Sections
 pub mod Writing

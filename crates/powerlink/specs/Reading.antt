@@ -6,7 +6,7 @@ use mathlib.Core.List.{List, [], _∷_}
 use lib.ListN.{getD, drop}
 use Rattle.types.specs.Header.{ethHeaderOf}
 use Rattle.types.specs.Messages.{messageCode}
-use Rattle.codec.specs.Frame.{readFrame, deserializeFrame, frameCause}
+use Rattle.codec.specs.Frame.{readFrame, deserializeFrame, placeOf, frameCause}
 use Rattle.codec.specs.Headers.{deserializeEthHeader, ethHeaderCause, deserializePlHeader, plHeaderCause}
 use Rattle.codec.specs.declared.FrameAnswer.{FrameAnswer}
 use Rattle.codec.specs.declared.FrameAnswer.the-variants.{Frame, Refused}
@@ -78,6 +78,12 @@ pub record FrameRead (f : List ℕ) (r : ℕ) (v v′ : List ℕ) (o o′ : ℕ)
   pub cause : r ≡ frameCause (readFrame f) .number
   pub values : v′ ≡ frameAfter (readFrame f) (deserializeFrame f .«payload_place») v
   pub octet : o′ ≡ getD (frameCause (readFrame f) .returned) 0 o
+
+-- the same of the section s, to which the rules answer a
+pub record SectionRead (a : FrameAnswer) (s : List ℕ) (r : ℕ) (v v′ : List ℕ) (o o′ : ℕ) : Type 0 where
+  pub cause : r ≡ frameCause a .number
+  pub values : v′ ≡ frameAfter a (placeOf a s) v
+  pub octet : o′ ≡ getD (frameCause a .returned) 0 o
 
 pub record EthRead (f : List ℕ) (r : ℕ) (d d′ s s′ : List ℕ) (t t′ : ℕ) : Type 0 where
   pub cause : r ≡ ethHeaderCause (deserializeEthHeader f .answer) .number

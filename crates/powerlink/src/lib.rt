@@ -5,11 +5,11 @@
 // A call answers with 01's number of the cause, or 0. A refusal leaves every buffer and out-parameter as it was, but for
 // `octet`, which receives the octet that 01's table returns with causes 4 to 7.
 pub mod collecting;
+mod frame_values;
 pub mod frames;
 pub mod headers;
 pub mod journal;
 pub mod reading;
 pub mod reporting;
-mod section_values;
 pub mod status;
 pub mod writing;

@@ -1,8 +1,6 @@
--- `codec::asnd::deserialize` meets its contract: each `return` is a case of `readASnd`.
+-- `codec::asnd::deserialize` meets its contract: each verdict is read as its answer.
 -- Assumes nothing.
 use borrow.Author.Needs.{needs}
-use native.Mathlib.Omega.{arith}
-use Rattle.codec.proofs.ASndLaws.{asnd-short, asnd-laws}
 use Rattle.codec.proofs.asnd.deserialize.Statement.{statement}
 use Rattle.codec.proofs.asnd.deserialize.Tie as tie
 
@@ -10,11 +8,11 @@ pub deserialize-spec : {M : Type 1} → statement M
 deserialize-spec =
     tie.close
     (tie.spec
-    (λ c. asnd-short _ (omega arith))
     (search needs)
     (search needs)
+    (λ c κs. (rw (c .before .service .given .1) at (c .before .before .before .judge .ensures)) .enough)
     (search needs)
     (search needs)
-    (search needs)
-    (λ c. search asnd-laws)
-    (λ c. search asnd-laws))
+    (λ c. rw (c .fields .ensures) ((rw (c .before .before .service .given .1) at (c .before .before .before .before .judge .ensures)) .frame))
+    (λ c. rw (c .enum-told .given .1) at (c .before .before .judge .ensures))
+    (λ c. rw (c .before .b .given .1) at (c .before .before .before .judge .ensures)))

@@ -1,9 +1,6 @@
--- `codec::preq::deserialize` meets its contract: each `return` is a case of `readPReq`.
+-- `codec::preq::deserialize` meets its contract: each verdict is read as its answer.
 -- Assumes nothing.
 use borrow.Author.Needs.{needs}
-use native.Mathlib.Omega.{arith}
-use Rattle.codec.proofs.PReqLaws.{preq-short, preq-laws}
-use Rattle.codec.proofs.PollLaws.{payload-cut, payload-fits}
 use Rattle.codec.proofs.preq.deserialize.Statement.{statement}
 use Rattle.codec.proofs.preq.deserialize.Tie as tie
 
@@ -11,10 +8,9 @@ pub deserialize-spec : {M : Type 1} → statement M
 deserialize-spec =
     tie.close
     (tie.spec
-    (λ c. preq-short _ (omega arith))
     (search needs)
     (search needs)
+    (λ c κs. (rw (c .before .size .given .1) at (c .before .before .before .judge .ensures)) .enough)
     (search needs)
-    (λ c. let k = payload-cut _ _ _ (c .before .get-u16-le .ensures) (omega arith) in search preq-laws)
-    (search needs)
-    (λ c. let k = payload-fits _ _ _ (c .before .before .get-u16-le .ensures) (omega arith) in search preq-laws))
+    (λ c. rw (c .fields .ensures) ((rw (c .before .before .size .given .1) at (c .before .before .before .before .judge .ensures)) .frame))
+    (λ c. rw (c .enum-told .given .1) at (c .before .before .judge .ensures)))

@@ -1,8 +1,6 @@
--- `codec::soa::deserialize` meets its contract: each `return` is a case of `readSoA`.
+-- `codec::soa::deserialize` meets its contract: each verdict is read as its answer.
 -- Assumes nothing.
 use borrow.Author.Needs.{needs}
-use native.Mathlib.Omega.{arith}
-use Rattle.codec.proofs.SoALaws.{soa-short, soa-laws}
 use Rattle.codec.proofs.soa.deserialize.Statement.{statement}
 use Rattle.codec.proofs.soa.deserialize.Tie as tie
 
@@ -10,16 +8,13 @@ pub deserialize-spec : {M : Type 1} → statement M
 deserialize-spec =
     tie.close
     (tie.spec
-    (λ c. soa-short _ (omega arith))
+    (search needs)
+    (search needs)
+    (λ c κs. (rw (c .before .state .given .1) at (c .before .before .before .judge .ensures)) .enough)
     (search needs)
     (search needs)
     (search needs)
-    (search needs)
-    (search needs)
-    (search needs)
-    (search needs)
-    (search needs)
-    (search needs)
-    (λ c. search soa-laws)
-    (λ c. search soa-laws)
-    (λ c. search soa-laws))
+    (λ c. rw (c .fields .ensures) ((rw (c .before .before .state .given .1) at (c .before .before .before .before .judge .ensures)) .frame))
+    (λ c. rw (c .enum-told .given .1) at (c .before .before .judge .ensures))
+    (λ c. rw (c .before .b .given .1) at (c .before .before .before .judge .ensures))
+    (λ c. rw (c .before .b2 .given .1) at (c .before .before .before .judge .ensures)))

@@ -1,8 +1,6 @@
--- `codec::soc::deserialize` meets its contract: each `return` is a case of `readSoC`.
+-- `codec::soc::deserialize` meets its contract: each verdict is read as its answer.
 -- Assumes nothing.
 use borrow.Author.Needs.{needs}
-use native.Mathlib.Omega.{arith}
-use Rattle.codec.proofs.SoCLaws.{soc-short, soc-laws}
 use Rattle.codec.proofs.soc.deserialize.Statement.{statement}
 use Rattle.codec.proofs.soc.deserialize.Tie as tie
 
@@ -10,6 +8,9 @@ pub deserialize-spec : {M : Type 1} → statement M
 deserialize-spec =
     tie.close
     (tie.spec
-    (λ c. soc-short _ (omega arith))
     (search needs)
-    (λ c. search soc-laws))
+    (search needs)
+    (λ c κs. (rw (c .enum-told .given .1) at (c .before .before .judge .ensures)) .enough)
+    (search needs)
+    (λ c. rw (c .fields .ensures) ((rw (c .before .enum-told .given .1) at (c .before .before .before .judge .ensures)) .frame))
+    (λ c. rw (c .enum-told2 .given .1) at (c .before .before .judge .ensures)))

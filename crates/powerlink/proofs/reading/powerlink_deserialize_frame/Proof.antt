@@ -1,34 +1,31 @@
--- `reading::powerlink_deserialize_frame` meets its contract: each `return` is a case of `readFrame`.
+-- `reading::powerlink_deserialize_frame` meets its contract: a frame is told as its section is.
 -- Assumes nothing.
 use borrow.Author.Needs.{needs}
-use mathlib.Core.Path.{refl}
-use native.Mathlib.Omega.{arith}
-use Rattle.types.specs.declared.hal.PowerlinkError.the-variants.{BufferTooShort, InvalidEthernetFrame, InvalidPlFrame}
-use Rattle.codec.proofs.FrameLaws.{frame-short, frame-laws}
-use Rattle.powerlink.proofs.Sections.{frame-refused, frame-section}
+use Rattle.powerlink.proofs.Readers.{frame-refused, frame-section}
 use Rattle.powerlink.proofs.reading.powerlink_deserialize_frame.Statement.{statement}
 use Rattle.powerlink.proofs.reading.powerlink_deserialize_frame.Tie as tie
 
 returns : tie.Need-returns
-returns c = frame-refused _ _ _ _ BufferTooShort (frame-short _ (omega arith)) refl refl
+returns c =
+    let m = c .before .before .before in
+    frame-refused _ _ _ _ _ _ (rw (m .e .given .1) at (m .before .before .kind-of .ensures)) (c .refusal .ensures)
 
 returns-2 : tie.Need-returns-2
-returns-2 c = frame-refused _ _ _ _ InvalidEthernetFrame (search frame-laws) refl refl
-
-returns-3 : tie.Need-returns-3
-returns-3 c = frame-refused _ _ _ _ InvalidPlFrame (search frame-laws) refl refl
-
-returns-4 : tie.Need-returns-4
-returns-4 c = frame-section _ _ (search needs) (search frame-laws) _ _ _ _ _ (c .read-section .ensures)
+returns-2 c =
+    let t = c .before .before .before in
+    let m = t .before .before in
+    let q = rw (← t .tail .ensures) at (rw (m .kind .given .1) at (m .before .before .kind-of .ensures)) in
+    frame-section _ _ _ q (t .tail .ensures) _ _ _ _ _ (c .read-kind .ensures)
 
 pub powerlink-deserialize-frame-spec : {M : Type 1} → statement M
 powerlink-deserialize-frame-spec =
     tie.close
     (tie.spec
+    (search needs)
+    (search needs)
+    (search needs)
+    (search needs)
+    (search needs)
+    (search needs)
     returns
-    (search needs)
-    returns-2
-    returns-3
-    (search needs)
-    (search needs)
-    returns-4)
+    returns-2)

@@ -1,41 +1,44 @@
--- `reading::read_asnd` meets its contract: each `return` is a case of `readASnd`.
+-- `reading::read_asnd` meets its contract: each verdict is told as its answer.
 -- Assumes nothing.
 use borrow.Author.Needs.{needs}
-use mathlib.Core.Path.{refl, sym, _∙_}
-use native.Mathlib.Omega.{arith}
 use Rattle.types.specs.declared.hal.PowerlinkError.the-variants.{BufferTooShort, InvalidServiceId}
 use Rattle.frame.specs.declared.PowerlinkFrame.the-variants.{ASnd}
-use Rattle.codec.specs.ASnd.{asndOf}
-use Rattle.codec.proofs.ASndLaws.{asnd-short, asnd-laws, asnd-read}
-use Rattle.powerlink.proofs.Sections.{section-refused, section-frame}
+use Rattle.powerlink.proofs.Readers.{section-refused, section-frame}
 use Rattle.powerlink.proofs.reading.read_asnd.Statement.{statement}
 use Rattle.powerlink.proofs.reading.read_asnd.Tie as tie
 
+fields-requires : tie.Need-fields-requires
+fields-requires c κs = (rw (c .before .service .given .1) at (c .before .before .before .judge .ensures)) .enough
+
 returns : tie.Need-returns
-returns c = section-refused _ _ _ _ _ _ BufferTooShort (asnd-short _ (omega arith)) refl refl
+returns c =
+    let f = c .before .before in
+    let m = c .before .before .before .before in
+    section-frame _ _ _ _ _ (ASnd (f .fields .result)) (rw (f .fields .ensures) ((rw (m .service .given .1) at (m .before .before .judge .ensures)) .frame)) (rw (c .before .payload-len .ensures) at (c .asnd-values .ensures))
 
 returns-2 : tie.Need-returns-2
-returns-2 c = section-refused _ _ _ _ _ _ (InvalidServiceId (c .before .b .given .0 .0)) (search asnd-laws) refl refl
+returns-2 c =
+    let m = c .before .before in
+    section-refused _ _ _ _ _ _ BufferTooShort (rw (m .enum-told .given .1) at (m .before .before .judge .ensures)) (c .refusal .ensures)
 
 returns-3 : tie.Need-returns-3
 returns-3 c =
-    let m = c .before in
-    let a = m .before .before in
-    let s = a .before .before .before .before .args .s .now in
-    let f = asndOf s (m .enum-told .given .0 .0) in
-    section-frame _ s _ _ _ (ASnd f)
-    (asnd-read s (omega arith) _ (a .from-u8 .ensures) _ f (m .enum-told .given .1) refl)
-    (c .asnd-values .ensures _ (sym (a .from-u8 .ensures) ∙ m .enum-told .given .1))
+    let m = c .before .before .before in
+    section-refused _ _ _ _ _ _ (InvalidServiceId (m .b .given .0 .0)) (rw (m .b .given .1) at (m .before .before .judge .ensures)) (c .refusal2 .ensures)
 
 pub read-asnd-spec : {M : Type 1} → statement M
 read-asnd-spec =
     tie.close
     (tie.spec
+    (search needs)
+    (search needs)
+    fields-requires
+    (search needs)
+    (search needs)
+    (search needs)
+    (search needs)
+    (search needs)
+    (search needs)
     returns
-    (search needs)
-    (search needs)
-    (search needs)
-    (search needs)
-    (search needs)
     returns-2
     returns-3)

@@ -1,41 +1,35 @@
--- `reading::read_preq` meets its contract: each `return` is a case of `readPReq`.
+-- `reading::read_preq` meets its contract: each verdict is told as its answer.
 -- Assumes nothing.
 use borrow.Author.Needs.{needs}
-use mathlib.Core.Path.{refl}
-use native.Mathlib.Omega.{arith}
 use Rattle.types.specs.declared.hal.PowerlinkError.the-variants.{BufferTooShort}
 use Rattle.frame.specs.declared.PowerlinkFrame.the-variants.{PReq}
-use Rattle.codec.specs.PReq.{preqOf}
-use Rattle.codec.proofs.PReqLaws.{preq-short, preq-laws, preq-read}
-use Rattle.codec.proofs.PollLaws.{payload-cut, payload-fits}
-use Rattle.powerlink.proofs.Sections.{section-refused, section-frame}
+use Rattle.powerlink.proofs.Readers.{section-refused, section-frame}
 use Rattle.powerlink.proofs.reading.read_preq.Statement.{statement}
 use Rattle.powerlink.proofs.reading.read_preq.Tie as tie
 
+fields-requires : tie.Need-fields-requires
+fields-requires c κs = (rw (c .before .size .given .1) at (c .before .before .before .judge .ensures)) .enough
+
 returns : tie.Need-returns
-returns c o = section-refused _ _ _ _ _ _ BufferTooShort (preq-short _ (omega arith)) refl refl
+returns c =
+    let f = c .before in
+    let m = c .before .before .before in
+    section-frame _ _ _ _ _ (PReq (f .fields .result)) (rw (f .fields .ensures) ((rw (m .size .given .1) at (m .before .before .judge .ensures)) .frame)) (c .preq-values .ensures)
 
 returns-2 : tie.Need-returns-2
-returns-2 c o =
-    let k = payload-cut _ _ _ (c .before .get-u16-le .ensures) (omega arith) in
-    section-refused _ _ _ _ _ _ BufferTooShort (search preq-laws) refl refl
-
-returns-3 : tie.Need-returns-3
-returns-3 c o =
-    let g = c .before .before in
-    let e = g .get-u16-le .ensures in
-    let s = g .before .before .before .args .s .now in
-    let f = preqOf s (g .get-u16-le .result) in
-    section-frame _ s _ _ _ (PReq f) (preq-read s (omega arith) _ f e (payload-fits _ _ _ e (omega arith)) refl) (c .preq-values .ensures)
+returns-2 c =
+    let m = c .before .before in
+    section-refused _ _ _ _ _ _ BufferTooShort (rw (m .enum-told .given .1) at (m .before .before .judge .ensures)) (c .refusal .ensures)
 
 pub read-preq-spec : {M : Type 1} → statement M
 read-preq-spec =
     tie.close
     (tie.spec
+    (search needs)
+    (search needs)
+    fields-requires
+    (search needs)
+    (search needs)
+    (search needs)
     returns
-    (search needs)
-    (search needs)
-    (search needs)
-    returns-2
-    (search needs)
-    returns-3)
+    returns-2)

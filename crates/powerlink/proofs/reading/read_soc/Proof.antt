@@ -1,28 +1,35 @@
--- `reading::read_soc` meets its contract: each `return` is a case of `readSoC`.
+-- `reading::read_soc` meets its contract: each verdict is told as its answer.
 -- Assumes nothing.
 use borrow.Author.Needs.{needs}
-use mathlib.Core.Path.{refl}
-use native.Mathlib.Omega.{arith}
 use Rattle.types.specs.declared.hal.PowerlinkError.the-variants.{BufferTooShort}
 use Rattle.frame.specs.declared.PowerlinkFrame.the-variants.{Soc}
-use Rattle.codec.specs.SoC.{socOf}
-use Rattle.codec.proofs.SoCLaws.{soc-short, soc-read}
-use Rattle.powerlink.proofs.Sections.{section-refused, section-frame}
+use Rattle.powerlink.proofs.Readers.{section-refused, section-frame}
 use Rattle.powerlink.proofs.reading.read_soc.Statement.{statement}
 use Rattle.powerlink.proofs.reading.read_soc.Tie as tie
 
+fields-requires : tie.Need-fields-requires
+fields-requires c κs = (rw (c .enum-told .given .1) at (c .before .before .judge .ensures)) .enough
+
 returns : tie.Need-returns
-returns c o = section-refused _ _ _ _ _ _ BufferTooShort (soc-short _ (omega arith)) refl refl
+returns c =
+    let f = c .before in
+    let m = c .before .before in
+    section-frame _ _ _ _ _ (Soc (f .fields .result)) (rw (f .fields .ensures) ((rw (m .enum-told .given .1) at (m .before .before .judge .ensures)) .frame)) (c .soc-values .ensures)
 
 returns-2 : tie.Need-returns-2
-returns-2 c o =
-    let s = c .before .before .before .args .s .now in
-    section-frame _ s _ _ _ (Soc (socOf s)) (soc-read s (socOf s) (omega arith) refl) (c .soc-values .ensures)
+returns-2 c =
+    let m = c .before .before in
+    section-refused _ _ _ _ _ _ BufferTooShort (rw (m .enum-told2 .given .1) at (m .before .before .judge .ensures)) (c .refusal .ensures)
 
 pub read-soc-spec : {M : Type 1} → statement M
 read-soc-spec =
     tie.close
     (tie.spec
-    returns
     (search needs)
+    (search needs)
+    fields-requires
+    (search needs)
+    (search needs)
+    (search needs)
+    returns
     returns-2)

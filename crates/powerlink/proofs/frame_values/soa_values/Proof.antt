@@ -1,0 +1,21 @@
+-- `frame_values::soa_values` meets its contract.
+-- Assumes nothing.
+use borrow.Author.Needs.{needs}
+use Rattle.powerlink.proofs.frame_values.soa_values.Statement.{statement}
+use Rattle.powerlink.proofs.frame_values.soa_values.Tie as tie
+
+pub soa-values-spec : {M : Type 1} → statement M
+soa-values-spec =
+    tie.close
+    (tie.spec
+    (search needs)
+    (search needs)
+    (search needs)
+    (search needs)
+    (search needs)
+    (search needs)
+    (search needs)
+    (search needs)
+    (search needs)
+    (search needs)
+    (λ c. cc))
