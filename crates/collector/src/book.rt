@@ -1,7 +1,7 @@
 // A node's book: a ring of records.
 ghost use mathlib.Core.Path.{_≡_};
 ghost use Prim.Native.Nat.{_+_, _≤_, _<_};
-ghost use lib.ListN.{length, take};
+ghost use lib.ListN.{length};
 ghost use Rattle.collector.specs.Layout.{countIn, startIn, entryIn, takenBytes, pushedBytes, pushedAll};
 ghost use Rattle.collector.specs.Rules.{saidIn, heads, bookLength};
 use crate::BLOCK_LEN;
@@ -59,17 +59,19 @@ pub(crate) fn count_entries(payload: &[u8]) -> usize
     }
 }
 
-// The first `n` entries of a payload join the book, in order.
-pub(crate) fn push_entries(state: &mut Collector, k: usize, payload: &[u8], n: usize)
-    requires { ⌜ (k < heads) × (n ≤ length (saidIn (now payload) .entries)) × (countIn (now state) k + n ≤ bookLength) ⌝ }
-    ensures { λ _. ⌜ now (state .exit) ≡ pushedAll (now (state .entry)) k (take n (saidIn (now (payload .entry)) .entries)) ⌝ }
+// The entries of a payload join the book, in order.
+pub(crate) fn push_entries(state: &mut Collector, k: usize, payload: &[u8])
+    requires { ⌜ (k < heads) × (countIn (now state) k + length (saidIn (now payload) .entries) ≤ bookLength) ⌝ }
+    ensures { λ _. ⌜ now (state .exit) ≡ pushedAll (now (state .entry)) k (saidIn (now (payload .entry)) .entries) ⌝ }
 {
-    let mut i = 0usize;
-    while i < n {
-        match step_from(payload, 14 + 20 * i) {
+    let mut at = 14usize;
+    loop {
+        match step_from(payload, at) {
             EntryStep::End => return,
-            EntryStep::Entry(e, _) => push(state, k, e),
+            EntryStep::Entry(e, next) => {
+                push(state, k, e);
+                at = next;
+            }
         }
-        i += 1;
     }
 }

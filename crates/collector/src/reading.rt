@@ -81,7 +81,7 @@ fn book(state: &mut Collector, k: usize, en: bool, payload: &[u8]) -> ReadAnswer
     if free < n {
         return ReadAnswer::BookFull;
     }
-    push_entries(state, k, payload, n);
+    push_entries(state, k, payload);
     state[BLOCK_LEN * k + EA_AT] = if en { 1 } else { 0 };
     ReadAnswer::Booked
 }

@@ -1,78 +1,95 @@
--- `push_entries` meets its contract. The loop's invariant: the first i entries have joined the book. The measure is how many are left.
+-- `push_entries` meets its contract. The loop's invariant: the entries in front of `at` have joined the book. The measure is what is left
+-- of the payload.
 -- Assumes nothing.
-use Prim.Native.Nat.{ℕ, _+_, _-_, _≤_}
+use Prim.Native.Nat.{ℕ, _+_, _*_, _-_, _≤_}
 use mathlib.Core.Path.{_≡_, refl, sym, ap, _∙_}
 use mathlib.Core.List.{List, [], _∷_, _++_}
 use native.Mathlib.Numerals.{add-one}
 use native.Mathlib.Omega.{arith}
-use lib.ListN.{take}
+use lib.ListN.{length, take}
+use lib.Seq.{take-length}
 use borrow.Author.Needs.{needs}
 use Rattle.error_entry.specs.declared.ErrorEntry.{ErrorEntry}
-use Rattle.status_response.specs.Steps.{statusEntries}
+use Rattle.status_response.specs.Steps.{statusEntries, stepAt}
 use Rattle.collector.specs.Layout.{countIn, pushedBytes, pushedAll}
 use Rattle.collector.proofs.BatchLaws.{all-snoc}
-use Rattle.collector.proofs.WalkLaws.{entry-fits, step-end, step-take}
+use Rattle.collector.proofs.WalkLaws.{entry-shape, step-end, step-more, step-take}
 use Rattle.collector.proofs.book.push_entries.Statement.{statement}
 use Rattle.collector.proofs.book.push_entries.Tie as tie
 
+-- n entries are behind the walk, and in the book
+record Joined (before : List ℕ) (k : ℕ) (payload : List ℕ) (state : List ℕ) (at : ℕ) : Type 0 where
+  pub n : ℕ
+  pub few : n ≤ length (statusEntries payload)
+  pub place : at ≡ 14 + 20 * n
+  pub book : state ≡ pushedAll before k (take n (statusEntries payload))
+  pub count : countIn state k ≡ countIn before k + n
+
 abbrev Inv-loop : tie.InvT-loop
-Inv-loop state₀ k payload n i₀ state i =
-    (state ≡ pushedAll state₀ k (take i (statusEntries payload))) × (countIn state k ≡ countIn state₀ k + i) × (i ≤ n)
+Inv-loop state₀ k payload at₀ state at = Joined state₀ k payload state at
 
 abbrev μ-loop : tie.MeasureT-loop
-μ-loop state₀ k payload n i₀ state i = n - i
+μ-loop state₀ k payload at₀ state at = length payload - at
 
 loop-holds : tie.Need-loop-holds Inv-loop μ-loop
 unfolding pushedAll
-loop-holds c = (refl, omega arith, omega arith)
-
-mul-step-from : tie.Need-mul-step-from Inv-loop μ-loop
-mul-step-from c =
-    let l = c .before in
-    let a = l .before .before in
-    omega (arith, entry-fits (a .args .payload .now) (l .loop .i) (omega arith), a .good .1 .1 .0)
-
-add-step-from : tie.Need-add-step-from Inv-loop μ-loop
-add-step-from c =
-    let l = c .before in
-    let a = l .before .before in
-    omega (arith, entry-fits (a .args .payload .now) (l .loop .i) (omega arith), a .good .1 .1 .0)
+loop-holds c = record { n = 0; few = omega arith; place = omega arith; book = refl; count = omega arith }
 
 returns : tie.Need-returns Inv-loop μ-loop
 returns c =
     let f = c .before .before in
-    let l = f .before .before in
-    let a = l .before .before in
-    let e = step-end (a .args .payload .now) (l .loop .i) (omega arith) (sym (f .step-from .ensures) ∙ c .enum-told .given .1) in
-    absurd (omega arith)
+    let l = f .before in
+    let a = l .before .before .args in
+    let s : List ℕ = a .payload .now in
+    let j = l .loop .inv in
+    let all = step-end s (j .n) (j .few) (ap (stepAt s) (sym (j .place)) ∙ sym (f .step-from .ensures) ∙ c .enum-told .given .1) in
+    j .book ∙ ap (λ (n : ℕ). pushedAll (a .state .now) (a .k) (take n (statusEntries s))) all ∙ ap (pushedAll (a .state .now) (a .k)) (take-length (statusEntries s))
+
+push-requires : tie.Need-push-requires Inv-loop μ-loop
+push-requires c κs =
+    let m = c .before .before in
+    let f = m .before .before in
+    let l = f .before in
+    let s : List ℕ = l .before .before .args .payload .now in
+    let j = l .loop .inv in
+    let more = step-more s (j .n) (j .few) _ _ (ap (stepAt s) (sym (j .place)) ∙ sym (f .step-from .ensures) ∙ m .e .given .1) in
+    omega arith
+
+loop-less : tie.Need-loop-less Inv-loop μ-loop
+loop-less c =
+    let m = c .before .before .before in
+    let f = m .before .before in
+    let l = f .before in
+    let s : List ℕ = l .before .before .args .payload .now in
+    let shape = entry-shape s (l .loop .at) _ _ (sym (f .step-from .ensures) ∙ m .e .given .1) in
+    omega arith
 
 loop-again : tie.Need-loop-again Inv-loop μ-loop
 loop-again c =
     let m = c .before .before .before in
     let f = m .before .before in
-    let l = f .before .before in
-    let t = l .before .before in
-    let a = t .args in
-    let s : List ℕ = a .state .now in
-    let es : List ErrorEntry = statusEntries (a .payload .now) in
-    let i : ℕ = l .loop .i in
-    let e : ErrorEntry = m .e .given .0 .0 in
-    let joined : take (i + 1) es ≡ take i es ++ (e ∷ []) =
-    ap (λ (j : ℕ). take j es) (add-one i) ∙ step-take (a .payload .now) i (omega arith) e _ (sym (f .step-from .ensures) ∙ m .e .given .1) in (
-      c .push .ensures .0
-          ∙ ap (λ (t : List ℕ). pushedBytes t (a .k) e) (l .loop .inv .0)
-          ∙ sym (all-snoc (a .k) (take i es) s e)
-          ∙ ap (pushedAll s (a .k)) (sym joined),
-      c .push .ensures .1 ∙ omega arith,
-      omega arith,
-    )
-
-returns-2 : tie.Need-returns-2 Inv-loop μ-loop
-returns-2 c =
-    let l = c .before in
+    let l = f .before in
     let a = l .before .before .args in
-    let e : l .loop .i ≡ a .n = omega arith in
-    l .loop .inv .0 ∙ ap (λ (j : ℕ). pushedAll (a .state .now) (a .k) (take j (statusEntries (a .payload .now)))) e
+    let s : List ℕ = a .payload .now in
+    let es : List ErrorEntry = statusEntries s in
+    let j = l .loop .inv in
+    let n : ℕ = j .n in
+    let e : ErrorEntry = m .e .given .0 .0 in
+    let here = sym (f .step-from .ensures) ∙ m .e .given .1 in
+    let found = ap (stepAt s) (sym (j .place)) ∙ here in
+    let shape = entry-shape s (l .loop .at) _ _ here in
+    let more = step-more s n (j .few) e _ found in
+    let joined : take (n + 1) es ≡ take n es ++ (e ∷ []) = ap (λ (i : ℕ). take i es) (add-one n) ∙ step-take s n (j .few) e _ found in
+    record {
+      n = n + 1;
+      few = omega arith;
+      place = omega arith;
+      book = c .push .ensures .0
+          ∙ ap (λ (t : List ℕ). pushedBytes t (a .k) e) (j .book)
+          ∙ sym (all-snoc (a .k) (take n es) (a .state .now) e)
+          ∙ ap (pushedAll (a .state .now) (a .k)) (sym joined);
+      count = c .push .ensures .1 ∙ omega arith;
+    }
 
 pub push-entries-spec : {M : Type 1} → statement M
 push-entries-spec =
@@ -81,14 +98,10 @@ push-entries-spec =
     Inv-loop
     μ-loop
     loop-holds
-    mul-step-from
-    add-step-from
     (search needs)
     (search needs)
     returns
     (search needs)
-    (λ c κs. omega arith)
-    (λ c. omega arith)
-    (λ c. omega arith)
-    loop-again
-    returns-2)
+    push-requires
+    loop-less
+    loop-again)

@@ -6,8 +6,6 @@ use mathlib.Core.Bool.{Bool, Bool·beq}
 use mathlib.Core.List.{List}
 use mathlib.Core.Logic.{⊎-elim}
 use native.Mathlib.Omega.{arith}
-use lib.ListN.{take}
-use lib.Seq.{take-length}
 use borrow.Author.Needs.{needs}
 use Rattle.types.specs.Codes.{pick}
 use Rattle.error_entry.specs.declared.ErrorEntry.{ErrorEntry}
@@ -47,7 +45,6 @@ returns-3 c =
     let a = b .before .before .before .args in
     let s : List ℕ = a .state .now in
     let es : List ErrorEntry = statusEntries (a .payload .now) in
-    let all : take (m .count-entries .result) es ≡ es = ap (λ (j : ℕ). take j es) (m .count-entries .ensures) ∙ take-length es in
     let bit : c .if3 .state ≡ pick (a .en) 1 0 =
     ⊎-elim
     (λ w. w .1 ∙ ap (λ (x : Bool). pick {A = ℕ} x 1 0) (sym (w .0 .taken)))
@@ -56,7 +53,7 @@ returns-3 c =
     record {
       answer = book-room s (a .k) (a .en) es (ap (Bool·beq (a .en)) (sym (b .ea .ensures)) ∙ d .if1 .left)
           (omega (arith, n .count .ensures .0, m .count-entries .ensures));
-      bytes = rw (p .push-entries .ensures, all, bit);
+      bytes = rw (p .push-entries .ensures, bit);
     }
 
 pub book-spec : {M : Type 1} → statement M
