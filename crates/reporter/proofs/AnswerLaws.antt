@@ -1,79 +1,101 @@
 -- How an answer's frame is put together, and what an answer promises from it.
 -- Assumes nothing.
-use Prim.Native.Nat.{ℕ, _+_, _*_, _≤_, min}
-use mathlib.Core.Path.{_≡_, refl, sym, ap, subst, _∙_}
-use mathlib.Core.List.{List}
+use Prim.Native.Nat.{ℕ, _+_, _-_, _≤_, _<_}
+use mathlib.Core.Path.{_≡_, sym, ap, _∙_}
+use mathlib.Core.List.{List, _++_, append-assoc}
+use native.Mathlib.Nat.{zero-add}
 use native.Mathlib.Omega.{arith}
-use lib.ListN.{length, take, drop, getD, length-take}
-use lib.Seq.{take-at}
-use borrow.Author.Tests.{le-leb}
-use Rattle.section.specs.Write.{overwritten, Writes}
+use lib.ListN.{length, take, replicate, length-append, length-replicate}
+use lib.Seq.{sets}
+use Rattle.octets.proofs.Sets.{sets-append, sets-front}
+use Rattle.types.specs.Header.{ethBytes}
+use Rattle.types.specs.declared.hal.PowerlinkError.{PowerlinkError}
+use Rattle.types.specs.declared.hal.PowerlinkError.the-variants.{BufferTooShort}
+use Rattle.section.specs.Write.{padded, Writes}
 use Rattle.section.specs.declared.WriteAnswer.{WriteAnswer}
+use Rattle.section.specs.declared.WriteAnswer.the-variants.{Written, Refused}
+use Rattle.section.proofs.Behind.{refused, written}
+use Rattle.section.proofs.Sections.{refuses, writes}
+use Rattle.control.specs.ASnd.{asndBytes, asndSection}
 use Rattle.control.specs.declared.asnd.NewASndFrame.{NewASndFrame}
 use Rattle.frame.specs.Write.{frameBytes}
-use Rattle.frame.specs.declared.PowerlinkFrame.the-variants.{ASnd}
 use Rattle.error_entry.specs.declared.ErrorEntry.{ErrorEntry}
 use Rattle.status_response.specs.Fields.{headBytes}
 use Rattle.status_response.specs.Steps.{statusBytes}
 use Rattle.status_response.specs.declared.fields.StatusFields.{StatusFields}
 use Rattle.reporter.specs.Calls.{Answers}
-use Rattle.reporter.specs.Layout.{idAt, headOf, carriedIn, firstFour, answerBytes}
-use Rattle.reporter.specs.Rules.{opened, statusFields, answerPayload, answerASnd, answerFrame, afterAnswer}
+use Rattle.reporter.specs.Layout.{headOf, carriedIn, firstFour, answerBytes}
+use Rattle.reporter.specs.Rules.{Head, opened, statusFields, answerPayload, filledPayload, answerASnd, answerFront, answerFrame, afterAnswer}
 use Rattle.reporter.specs.declared.AnswerFields.{AnswerFields}
-use Rattle.reporter.proofs.Answering.{payload-length}
-use Rattle.reporter.proofs.Meaning.{carried-small, carried-length, carried-batch, answer-size}
-use Rattle.reporter.proofs.Opening.{id-opened}
+use Rattle.reporter.proofs.Meaning.{carried-batch, answer-size}
 
--- octets that were written are the front of what the target then holds
-written-front : (bs t after : List ℕ) (r : WriteAnswer) → length bs ≤ length t → Writes bs r t after → take (length bs) after ≡ bs
-unfolding overwritten
-written-front bs t after r fits w =
-    ap (take (length bs)) (w .holds ∙ rw (le-leb (length bs) (length t) fits)) ∙ take-at bs (drop (length bs) t) (length bs) refl
+-- ---- zeros behind octets that were written
+
+module _ (bs t : List ℕ) (m : ℕ) where
+  abbrev filled : List ℕ
+  filled = bs ++ replicate (m - length bs) 0
+
+  filled-length : length filled ≡ length bs + (m - length bs)
+  filled-length = simp (length-append, length-replicate)
+
+  -- not even the smallest fits
+  pub filled-short : length t < m → Writes filled (Refused BufferTooShort) t t
+  filled-short h = refuses filled t (omega (arith, filled-length))
+
+  pub filled-refused : (r : WriteAnswer) (e : PowerlinkError) (after : List ℕ) → Writes bs r t after → r ≡ Refused e → Writes filled (Refused e) t after
+  filled-refused r e after w q =
+      let p = refused bs t r e after w q in
+      rw (p .1 .0, p .1 .1) (refuses filled t (omega (arith, p .0, filled-length)))
+
+  pub filled-written : (r : WriteAnswer) (n : ℕ) (after t₂ : List ℕ) → Writes bs r t after → r ≡ Written n → m ≤ length t
+      → t₂ ≡ sets after n (replicate (m - n) 0) → Writes filled (Written (n + (m - n))) t t₂
+  filled-written r n after t₂ w q least e =
+      let p = written bs t r n after w q in
+      let b : n ≡ length bs = p .1 .0 in
+      let zs : List ℕ = replicate (m - length bs) 0 in
+      let all : t₂ ≡ sets t 0 filled =
+      e
+      ∙ ap (λ (k : ℕ). sets after k (replicate (m - k) 0)) b
+      ∙ ap (λ (l : List ℕ). sets l (length bs) zs) (p .1 .1 ∙ sym (sets-front t bs (p .0)))
+      ∙ ap (λ (k : ℕ). sets (sets t 0 bs) k zs) (sym (zero-add (length bs)))
+      ∙ sym (sets-append t 0 bs zs) in
+      rw all (writes filled t (n + (m - n)) (omega (arith, filled-length)) (omega (arith, p .0)))
+
+-- ---- the parts of an answer
+
+pub frame-parts : (f : AnswerFields) (h : Head) → answerFrame f h ≡ answerFront f (h .id) ++ filledPayload f h
+unfolding answerFrame frameBytes asndSection padded
+frame-parts f h =
+    let e : List ℕ = ethBytes (answerASnd f (h .id) .«eth_header») in
+    let a : List ℕ = asndBytes (answerASnd f (h .id) .frame) in
+    let p : List ℕ = answerPayload f h in
+    let l : 46 - length (a ++ p) ≡ 42 - length p = simp length-append (omega arith) in
+    ap (λ (n : ℕ). e ++ ((a ++ p) ++ replicate n 0)) l ∙ (simp append-assoc)
+
+pub front-length : (f : AnswerFields) (i : ℕ) → length (answerFront f i) ≡ 18
+unfolding ethBytes
+front-length f i = simp length-append (omega arith)
+
+-- 14 octets, and 4 behind them
+pub front-put : (f : AnswerFields) (i : ℕ) (a : NewASndFrame) (t t₁ t₂ : List ℕ) → a ≡ answerASnd f i → t₁ ≡ sets t 0 (ethBytes (a .«eth_header»))
+    → t₂ ≡ sets t₁ 14 (asndBytes (a .frame)) → t₂ ≡ sets t 0 (answerFront f i)
+unfolding ethBytes
+front-put f i a t t₁ t₂ ea e₁ e₂ =
+    e₂ ∙ rw (e₁, ea) (sym (sets-append t 0 (ethBytes (answerASnd f i .«eth_header»)) (asndBytes (answerASnd f i .frame))))
 
 module _ (f : AnswerFields) (s : List ℕ) where
   abbrev payload : List ℕ
   payload = answerPayload f (opened (headOf s))
-
-  abbrev size : ℕ
-  size = 34 + 20 * carriedIn s
-
-  pub payload-size : length payload ≡ size
-  payload-size = payload-length f (opened (headOf s)) ∙ ap (λ (n : ℕ). 34 + 20 * n) (carried-length s)
 
   payload-is : (front : StatusFields) (four : List ErrorEntry) (n : ℕ) → front ≡ statusFields f (opened (headOf s) .en) → four ≡ firstFour s
       → n ≡ carriedIn s → statusBytes (headBytes front (f .«static_error_bit_field»)) (take n four) ≡ payload
   unfolding answerPayload
   payload-is front four n e₁ e₂ e₃ = rw (e₁, e₂, e₃, carried-batch s)
 
-  pub payload-put : (front : StatusFields) (four : List ErrorEntry) (n : ℕ) (t after : List ℕ) (r : WriteAnswer)
-      → front ≡ statusFields f (opened (headOf s) .en) → four ≡ firstFour s → n ≡ carriedIn s → length t ≡ 114
-      → Writes (statusBytes (headBytes front (f .«static_error_bit_field»)) (take n four)) r t after → take size after ≡ payload
-  payload-put front four n t after r e₁ e₂ e₃ l w =
-      let w′ : Writes payload r t after = rw (payload-is front four n e₁ e₂ e₃) at w in
-      ap (λ (k : ℕ). take k after) (sym payload-size)
-      ∙ written-front payload t after r (omega (arith, payload-size, carried-small s)) w′
-
-  -- the payload was put to the front of p, and n is how many entries it holds
-  module _ (p : List ℕ) (n : ℕ) (put : take size p ≡ payload) (en : n ≡ carriedIn s) where
-    taken : take (34 + 20 * n) p ≡ payload
-    taken = ap (λ (k : ℕ). take (34 + 20 * k) p) en ∙ put
-
-    pub payload-there : 34 + 20 * n ≡ length (take (34 + 20 * n) p)
-    payload-there = omega (arith, ap length taken ∙ payload-size)
-
-    pub payload-fits : 34 + 20 * n ≤ length p
-    payload-fits =
-        let l : length (take (34 + 20 * n) p) ≡ min (34 + 20 * n) (length p) = length-take (34 + 20 * n) p in
-        omega (arith, payload-there)
-
-    pub frame-writes : (a : NewASndFrame) (t after : List ℕ) (r : WriteAnswer) → a ≡ answerASnd f (getD s idAt 0)
-        → Writes (frameBytes (a .«eth_header») (ASnd (a .frame)) (take (34 + 20 * n) p)) r t after → Writes (answerFrame f (opened (headOf s))) r t after
-    unfolding answerFrame
-    frame-writes a t after r ea w =
-        subst
-        (λ (i : ℕ). Writes (frameBytes (answerASnd f i .«eth_header») (ASnd (answerASnd f i .frame)) payload) r t after)
-        (sym (id-opened s))
-        (rw (ea, taken) at w)
+  pub payload-writes : (front : StatusFields) (four : List ErrorEntry) (n : ℕ) (t after : List ℕ) (r : WriteAnswer)
+      → front ≡ statusFields f (opened (headOf s) .en) → four ≡ firstFour s → n ≡ carriedIn s
+      → Writes (statusBytes (headBytes front (f .«static_error_bit_field»)) (take n four)) r t after → Writes payload r t after
+  payload-writes front four n t after r e₁ e₂ e₃ w = rw (payload-is front four n e₁ e₂ e₃) at w
 
   pub answers : (r r′ : WriteAnswer) (after t written : List ℕ) → r ≡ r′ → Writes (answerFrame f (opened (headOf s))) r t written
       → headOf after ≡ afterAnswer r′ (headOf s) → after ≡ answerBytes r′ s → Answers f r′ s after t written

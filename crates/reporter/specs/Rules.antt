@@ -1,16 +1,17 @@
 -- The rules of 01, "The error exchange", for the head: a controlled node that reports errors (EPSG DS 301, 6.5).
 -- Assumes nothing.
-use Prim.Native.Nat.{ℕ, zero, suc, _+_, _*_}
+use Prim.Native.Nat.{ℕ, zero, suc, _+_, _*_, _-_}
 use mathlib.Core.Bool.{Bool, true, false, not, _&&_, Bool·beq}
 use mathlib.Core.List.{List, [], _∷_, _++_}
-use lib.ListN.{length, take, drop}
+use lib.ListN.{length, take, drop, replicate}
 use lib.Dec.{leb, ltb, eqb}
 use Rattle.types.specs.Causes.{Cause, row, causeOf}
 use Rattle.types.specs.Codes.{pick, need}
+use Rattle.types.specs.Header.{ethBytes}
 use Rattle.types.specs.declared.service.ServiceId.the-variants as service
 use Rattle.section.specs.declared.WriteAnswer.{WriteAnswer}
 use Rattle.section.specs.declared.WriteAnswer.the-variants as write
-use Rattle.control.specs.ASnd.{newASnd}
+use Rattle.control.specs.ASnd.{newASnd, asndBytes}
 use Rattle.control.specs.declared.asnd.NewASndFrame.{NewASndFrame}
 use Rattle.frame.specs.Write.{frameBytes}
 use Rattle.frame.specs.declared.PowerlinkFrame.{PowerlinkFrame}
@@ -126,6 +127,14 @@ answerASnd f i = newASnd (f .«source_mac») (f .«dest_mac») (record { 0 = 255
 -- "an Ethernet frame from its ID to node 255, service 2"
 unfoldable pub answerFrame : AnswerFields → Head → List ℕ
 answerFrame f h = frameBytes (answerASnd f (h .id) .«eth_header») (ASnd (answerASnd f (h .id) .frame)) (answerPayload f h)
+
+-- its two parts: what stands in front of the payload, and the payload with the zeros up to the smallest frame
+
+abbrev pub answerFront : AnswerFields → ℕ → List ℕ
+answerFront f i = ethBytes (answerASnd f i .«eth_header») ++ asndBytes (answerASnd f i .frame)
+
+abbrev pub filledPayload : AnswerFields → Head → List ℕ
+filledPayload f h = answerPayload f h ++ replicate (42 - length (answerPayload f h)) 0
 
 -- "60 bytes without entries, else 52 + 20 per entry"
 abbrev pub answerLength : ℕ → ℕ

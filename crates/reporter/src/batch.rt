@@ -1,10 +1,11 @@
 // The batch that an answer carries, and the answer's frame.
 ghost use mathlib.Core.Path.{_≡_};
-ghost use Prim.Native.Nat.{_+_, _*_, _≤_};
-ghost use lib.ListN.{length, take};
+ghost use Prim.Native.Nat.{_+_, _-_, _≤_};
+ghost use lib.ListN.{length, replicate};
+ghost use lib.Seq.{sets};
 ghost use Rattle.section.specs.Write.{Writes};
 ghost use Rattle.reporter.specs.Layout.{reporterLength, headOf, opensIn, openedBytes, carriedIn, firstFour};
-ghost use Rattle.reporter.specs.Rules.{batchLength, opened, statusFields, answerPayload, answerFrame};
+ghost use Rattle.reporter.specs.Rules.{batchLength, opened, statusFields, filledPayload, answerFront, answerFrame};
 use crate::AnswerFields;
 use crate::BATCH_LEN;
 use crate::EN_AT;
@@ -19,18 +20,22 @@ use crate::state::start;
 use crate::state::waiting;
 use control::asnd::ASndFrame;
 use error_entry::ErrorEntry;
-use frame::PowerlinkFrame;
-use frame::write::serialize_frame;
+use octets::slices::put;
+use octets::slices::tail;
 use records::get;
 use section::WriteAnswer;
 use status_response::entries::serialize_batch;
 use status_response::fields::StatusFields;
 use types::C_ADR_BROADCAST_NODE_ID;
 use types::NodeId;
+use types::hal::PowerlinkError;
 use types::service::ServiceId;
 
-// The payload of the largest answer: 14 octets in front, four entries and the terminator.
-const PAYLOAD_MAX: usize = 114;
+// What stands in front of an answer's payload: the Ethernet header and the four octets of the ASnd.
+const FRONT_LEN: usize = 18;
+
+// The payload that fills the smallest frame (IEEE 802.3: 60 octets).
+const PAYLOAD_MIN: usize = 42;
 
 // Whether an answer opens a batch: none is open, and entries wait.
 fn opens(state: &Reporter) -> bool
@@ -94,28 +99,35 @@ fn status_fields(state: &Reporter, fields: AnswerFields) -> StatusFields
     }
 }
 
-// Puts an answer's payload at the front of `payload`.
-fn put_payload(state: &Reporter, fields: AnswerFields, payload: &mut [u8; PAYLOAD_MAX])
-    ensures { λ _. ⌜ take (34 + 20 * carriedIn (now (state .entry))) (now (payload .exit)) ≡ answerPayload fields (opened (headOf (now (state .entry)))) ⌝ }
+// Puts zeros behind `len` octets, up to the smallest payload, and answers how many octets there are then.
+fn fill(len: usize, target: &mut [u8]) -> usize
+    ensures { λ r. ⌜ (r ≡ len + (42 - len)) × (now (target .exit) ≡ sets (now (target .entry)) len (replicate (42 - len) 0)) ⌝ }
 {
-    let front = status_fields(state, fields);
-    let n = carried(state) as usize;
-    serialize_batch(
-        front,
-        fields.static_error_bit_field,
-        first_four(state),
-        n,
-        payload,
-    );
+    let zeros = [0u8; PAYLOAD_MIN];
+    put(target, len, tail(&zeros, len));
+    if len < PAYLOAD_MIN { PAYLOAD_MIN } else { len }
 }
 
-// Writes the frame of an answer, if it fits.
-pub(crate) fn answer_frame(state: &Reporter, fields: AnswerFields, target: &mut [u8]) -> WriteAnswer
-    ensures { λ r. ⌜ Writes (answerFrame fields (opened (headOf (now (state .entry))))) r (now (target .entry)) (now (target .exit)) ⌝ }
+// Writes an answer's payload, and behind it the zeros up to the smallest frame, if both fit.
+fn write_payload(state: &Reporter, fields: AnswerFields, target: &mut [u8]) -> WriteAnswer
+    ensures { λ r. ⌜ Writes (filledPayload fields (opened (headOf (now (state .entry))))) r (now (target .entry)) (now (target .exit)) ⌝ }
 {
-    let mut payload = [0u8; PAYLOAD_MAX];
-    put_payload(state, fields, &mut payload);
-    let len = 34 + 20 * (carried(state) as usize);
+    if target.len() < PAYLOAD_MIN {
+        return WriteAnswer::Refused(PowerlinkError::BufferTooShort);
+    }
+    let front = status_fields(state, fields);
+    let n = carried(state) as usize;
+    let batch = first_four(state);
+    match serialize_batch(front, fields.static_error_bit_field, batch, n, target) {
+        WriteAnswer::Refused(e) => WriteAnswer::Refused(e),
+        WriteAnswer::Written(len) => WriteAnswer::Written(fill(len, target)),
+    }
+}
+
+// Puts what stands in front of an answer's payload: the Ethernet header, and the fields of the ASnd.
+fn put_front(state: &Reporter, fields: AnswerFields, target: &mut [u8])
+    ensures { λ _. ⌜ now (target .exit) ≡ sets (now (target .entry)) 0 (answerFront fields (opened (headOf (now (state .entry))) .id)) ⌝ }
+{
     let source_mac = fields.source_mac;
     let dest_mac = fields.dest_mac;
     let asnd = ASndFrame::new(
@@ -127,10 +139,22 @@ pub(crate) fn answer_frame(state: &Reporter, fields: AnswerFields, target: &mut 
     );
     let eth_header = asnd.eth_header;
     let frame = asnd.frame;
-    serialize_frame(
-        eth_header,
-        PowerlinkFrame::ASnd(frame),
-        &payload[..len],
-        target,
-    )
+    put(target, 0, &eth_header.to_bytes());
+    put(target, 14, &frame.to_bytes());
+}
+
+// Writes the frame of an answer, if it fits. Its payload goes first, straight to its place, since it alone can still be refused.
+pub(crate) fn answer_frame(state: &Reporter, fields: AnswerFields, target: &mut [u8]) -> WriteAnswer
+    ensures { λ r. ⌜ Writes (answerFrame fields (opened (headOf (now (state .entry))))) r (now (target .entry)) (now (target .exit)) ⌝ }
+{
+    if target.len() < FRONT_LEN {
+        return WriteAnswer::Refused(PowerlinkError::BufferTooShort);
+    }
+    match write_payload(state, fields, &mut target[FRONT_LEN..]) {
+        WriteAnswer::Refused(e) => WriteAnswer::Refused(e),
+        WriteAnswer::Written(n) => {
+            put_front(state, fields, target);
+            WriteAnswer::Written(FRONT_LEN + n)
+        }
+    }
 }
