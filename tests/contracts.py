@@ -1,28 +1,47 @@
-"""Every public function of a library crate has an `ensures` and no `requires`: what it cannot do, it refuses."""
+"""Every public function of a library crate answers every input: it has no `requires`, and its `ensures` speaks of what it gives
+back and of what each parameter that is lent to be changed holds at its end. Run this at the repository's root.
+
+That what is said determines them is not looked at: docs/CLAIMS.md says which definition each equals."""
 import pathlib
 import re
 import sys
 
-# A public function up to its body, which begins with the first line that ends in a brace of no clause; methods and
-# exported functions among them.
-FUNCTION = re.compile(
-    r'^[ \t]*pub (?:[a-z]+ )*(?:extern "C" )?fn (\w+)(.*?)(?<!ensures )(?<!requires )\{[ \t]*$', re.S | re.M
-)
+from sources import functions
 
 
-def faults(path):
-    text = re.sub(r'//[^\n]*', '', path.read_text(encoding='utf-8'))
-    for name, head in FUNCTION.findall(text):
-        if 'requires' in head:
-            yield f'{path}: {name} has a requires'
-        if 'ensures' not in head:
-            yield f'{path}: {name} has no ensures'
+def names(parameter):
+    """A parameter's name as a contract writes it."""
+    return rf'(?:\b{parameter}\b|«{parameter}»)'
+
+
+def speaks_of_result(clause):
+    binder, said = re.fullmatch(r'λ (\S+)\. (.*)', clause).groups()
+    return re.search(rf'(?<![\w.-]){re.escape(binder)}(?![\w-])', said)
+
+
+def faults(function):
+    if function.requires:
+        yield 'has a requires'
+    if not function.ensures:
+        yield 'has no ensures'
+        return
+    if function.result and not any(map(speaks_of_result, function.ensures)):
+        yield 'has an ensures that does not speak of its result'
+    for name, kind in function.parameters:
+        if kind.startswith('&mut') and not re.search(rf'{names(name)} \.exit\b', ' '.join(function.ensures)):
+            yield f'has an ensures that does not speak of what `{name}` holds at the end'
 
 
 def main():
     libraries = sorted(lib.parent for lib in pathlib.Path('crates').glob('*/src/lib.rt'))
-    found = [fault for lib in libraries for path in sorted(lib.rglob('*.rt')) for fault in faults(path)]
-    print('\n'.join(found) or f'{len(libraries)} libraries: every public function answers every input')
+    count, found = 0, []
+    for library in libraries:
+        for path in sorted(library.rglob('*.rt')):
+            for function in functions(path.relative_to(library).as_posix(), path.read_text(encoding='utf-8')):
+                if function.public:
+                    count += 1
+                    found += [f'{path}: {function.name} {fault}' for fault in faults(function)]
+    print('\n'.join(found) or f'{len(libraries)} libraries: every one of {count} public functions answers every input')
     return 1 if found else 0
 
 
