@@ -5,15 +5,11 @@ use Rattle.control.specs.ASnd.{asndSection}
 use Rattle.control.proofs.asnd.ASndFrame.serialize.Statement.{statement}
 use Rattle.control.proofs.asnd.ASndFrame.serialize.Tie as tie
 
-pub serialize-spec : {M : Type 1} → statement M
+returns : tie.Need-returns
 unfolding asndSection
-serialize-spec =
-    tie.close
-    (tie.spec
-    (search needs)
-    (search needs)
-    (search needs)
-    (search needs)
-    (λ c.
+returns c =
     let w = c .before .before in
-    rw (w .before .before .before .to-bytes .ensures) at (w .write-section .ensures)))
+    rw (w .before .before .before .to-bytes .ensures) at (w .write-section .ensures)
+
+pub serialize-spec : {M : Type 1} → statement M
+serialize-spec = tie.close (tie.spec (search needs) (search needs) (search needs) (search needs) returns)

@@ -4,15 +4,10 @@ use borrow.Author.Needs.{needs}
 use Rattle.control.proofs.soa.SoAFrame.to_bytes.Statement.{statement}
 use Rattle.control.proofs.soa.SoAFrame.to_bytes.Tie as tie
 
-pub to-bytes-spec : {M : Type 1} → statement M
-to-bytes-spec =
-    tie.close
-    (tie.spec
-    (search needs)
-    (search needs)
-    (search needs)
-    (search needs)
-    (search needs)
-    (λ c.
+returns : tie.Need-returns
+returns c =
     let p = c .before in
-    rw (p .put .ensures, p .before .before .first-octets .ensures)))
+    rw (p .put .ensures, p .before .before .first-octets .ensures)
+
+pub to-bytes-spec : {M : Type 1} → statement M
+to-bytes-spec = tie.close (tie.spec (search needs) (search needs) (search needs) (search needs) (search needs) returns)

@@ -4,25 +4,8 @@ use borrow.Author.Needs.{needs}
 use Rattle.control.proofs.soc.SocFrame.to_bytes.Statement.{statement}
 use Rattle.control.proofs.soc.SocFrame.to_bytes.Tie as tie
 
-pub to-bytes-spec : {M : Type 1} → statement M
-to-bytes-spec =
-    tie.close
-    (tie.spec
-    (search needs)
-    (search needs)
-    (search needs)
-    (search needs)
-    (search needs)
-    (search needs)
-    (search needs)
-    (search needs)
-    (search needs)
-    (search needs)
-    (search needs)
-    (search needs)
-    (search needs)
-    (search needs)
-    (λ c.
+returns : tie.Need-returns
+returns c =
     let r = c .before in
     let t = r .before .before .before in
     let f = t .before .before .before .before .before in
@@ -35,4 +18,10 @@ to-bytes-spec =
       t .before .before .time-octets .ensures,
       f .before .before .flag-octets .ensures,
       n .before .before .node-octets .ensures,
-    )))
+    )
+
+pub to-bytes-spec : {M : Type 1} → statement M
+to-bytes-spec =
+    tie.close
+    (tie.spec (search needs) (search needs) (search needs) (search needs) (search needs) (search needs) (search needs)
+    (search needs) (search needs) (search needs) (search needs) (search needs) (search needs) (search needs) returns)
