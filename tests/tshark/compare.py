@@ -1,6 +1,6 @@
 #!/usr/bin/env python3
-"""compare.py CAPTURE LINES: tshark decodes the frames of CAPTURE, and what it shows is compared, field by field, with what our
-readers made of them: LINES, from frames.c. Prints one line of counts; or the first 20 differences, with the frames' octets, and
+"""compare.py CAPTURE LINES ANSWERS: what tshark shows of the frames of CAPTURE, as ANSWERS has it (answers.py), is compared, field
+by field, with what our readers made of them: LINES, from frames.c. Prints one line of counts; or the first 20 differences, with the frames' octets, and
 how many there are, with exit status 1.
 
 One difference is expected, and must be as docs/DIFFERENCES.md has it: EN and EC of a StatusResponse. tshark 4.0.17 was run.
@@ -18,13 +18,11 @@ the first entry of mode 0, and the rest is counted as behind the list."""
 import calendar
 import collections
 import itertools
-import os
 import re
-import subprocess
 import sys
-import tempfile
 import time
-import xml.etree.ElementTree as ElementTree
+
+import answers
 
 ASND_FRONT = 18
 MONTHS = 'Jan Feb Mar Apr May Jun Jul Aug Sep Oct Nov Dec'.split()
@@ -64,11 +62,11 @@ class Unreadable(Exception):
 
 
 def number(field):
-    return int(field.get('show'), 0)
+    return int(field.show, 0)
 
 
 def octets(field):
-    return bytes.fromhex(field.get('show').replace(':', ''))
+    return bytes.fromhex(field.show.replace(':', ''))
 
 
 def one(shown, name):
@@ -79,9 +77,9 @@ def one(shown, name):
 
 def times(field):
     """Seconds, and nanoseconds or None; tshark keeps these in 32 bits with a sign."""
-    match = TIME.fullmatch(field.get('show'))
+    match = TIME.fullmatch(field.show)
     if match is None:
-        raise Unreadable(f'a time is shown as {field.get("show")}')
+        raise Unreadable(f'a time is shown as {field.show}')
     month, day, year, clock, fraction = match.groups()
     date = f'{year}-{MONTHS.index(month) + 1}-{day} {clock}'
     seconds = calendar.timegm(time.strptime(date, '%Y-%m-%d %H:%M:%S'))
@@ -100,7 +98,7 @@ def say_times(field, prefix, ours, theirs):
 
 
 def state_name(field, ours, theirs):
-    name = re.fullmatch(r'NMTStatus: (\w+) \(0x[0-9a-f]+\)', field.get('showname')).group(1)
+    name = re.fullmatch(r'NMTStatus: (\w+) \(0x[0-9a-f]+\)', field.showname).group(1)
     if name == 'Unknown' and (ours['state'] == str(0x79) or (ours['state'] == str(0x4D) and ours['source'] == '240')):
         left_out['state names'] += 1
         ours.pop('state_name')
@@ -119,13 +117,13 @@ def payload_octets(shown):
 
     for name in PAYLOAD_NUMBERS:
         for field in shown[name]:
-            put(int(field.get('pos')), number(field).to_bytes(int(field.get('size')), 'little'))
+            put(int(field.pos), number(field).to_bytes(int(field.size), 'little'))
     for name in PAYLOAD_OCTETS:
         for field in shown[name]:
             some = octets(field)
-            if len(some) != int(field.get('size')):
+            if len(some) != int(field.size):
                 raise Unreadable(f'{name} is cut')
-            put(int(field.get('pos')), some)
+            put(int(field.pos), some)
     for i, way in enumerate(('receive', 'send')):
         for counter, connection in zip(shown[f'{SDO}{way}.sequence.number'], shown[f'{SDO}{way}.con']):
             put(ASND_FRONT + i, bytes([number(counter) << 2 | number(connection)]))
@@ -227,27 +225,6 @@ def differences(kind, ours, shown, frame, counts):
     return found
 
 
-def packets(capture):
-    """For each frame what tshark shows: name of a field, and its occurrences in order."""
-    with tempfile.TemporaryDirectory() as empty, tempfile.TemporaryFile() as errors:  # nobody's preferences
-        environment = dict(os.environ, LC_ALL='C', TZ='UTC', WIRESHARK_CONFIG_DIR=empty, HOME=empty)
-        command = ['tshark', '-n', '-r', capture, '-T', 'pdml']
-        with subprocess.Popen(command, stdout=subprocess.PIPE, stderr=errors, env=environment) as run:
-            try:
-                for _, element in ElementTree.iterparse(run.stdout):
-                    if element.tag == 'packet':
-                        shown = collections.defaultdict(list)
-                        for field in element.iter():
-                            shown[field.get('name')].append(field)
-                        yield shown
-                        element.clear()
-            except ElementTree.ParseError:
-                run.wait()
-        if run.returncode != 0:
-            errors.seek(0)
-            sys.exit(f'tshark failed: {errors.read().decode()}')
-
-
 def frames(capture):
     with open(capture, 'rb') as file:
         file.read(24)
@@ -256,9 +233,8 @@ def frames(capture):
 
 
 def main():
-    capture, lines = sys.argv[1:]
-    version = subprocess.run(['tshark', '--version'], capture_output=True, text=True, check=True).stdout.split('\n')[0]
-    version = re.search(r'\d+\.\d+\.\d+', version).group()
+    capture, lines, path = sys.argv[1:]
+    version, answered = answers.stored(capture, path)
     with open(lines, encoding='ascii') as file:
         said = [line.split() for line in file]
     octets_of = list(frames(capture))
@@ -268,7 +244,7 @@ def main():
     of_kind = collections.Counter()
     failures = 0
     decoded = 0
-    for words, frame, fields in itertools.zip_longest(said, octets_of, packets(capture)):
+    for words, frame, fields in itertools.zip_longest(said, octets_of, map(answers.shown, answered)):
         if words is None or fields is None:
             sys.exit(f'tshark decodes {"fewer" if fields is None else "more"} frames than the {len(said)} of the capture')
         decoded += 1

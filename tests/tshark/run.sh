@@ -1,12 +1,9 @@
 #!/bin/sh
-# run.sh: frames of all kinds, made by our C functions, decoded by Wireshark's tshark (Debian's package tshark), and compared
-# field by field with what our readers say. Skipped where tshark is not installed. The library must have been built for C.
+# run.sh [check|store]: frames of all kinds, made by our C functions, as Wireshark's tshark (Debian's package tshark) decodes them,
+# compared field by field with what our readers say. tshark's answers are kept in answers.gz: `check` asks tshark and demands the
+# same, `store` writes them anew. The library must have been built for C.
 set -eu
 cd "$(dirname "$0")/../.."
-if ! command -v tshark > /dev/null; then
-    echo "tests/tshark: skipped, tshark is not installed"
-    exit 0
-fi
 lib=target/staticlib/libpowerlink.a
 if [ ! -f "$lib" ]; then
     echo "tests/tshark: there is no $lib (rt staticlib powerlink)"
@@ -20,4 +17,8 @@ out=$(mktemp -d)
 trap 'rm -rf "$out"' EXIT
 cc -std=c99 -Wall -Wextra -Werror -pedantic -Iinclude tests/tshark/frames.c "$lib" -o "$out/frames"
 "$out/frames" "$out/frames.pcap" > "$out/lines"
-python3 tests/tshark/compare.py "$out/frames.pcap" "$out/lines"
+if [ $# -gt 0 ]; then
+    python3 tests/tshark/answers.py "$1" "$out/frames.pcap" tests/tshark/answers.gz
+else
+    python3 tests/tshark/compare.py "$out/frames.pcap" "$out/lines" tests/tshark/answers.gz
+fi
