@@ -5,7 +5,10 @@
 # folder than target/staticlib).
 set -eu
 cd "$(dirname "$0")/.."
-tests/compare/inputs.sh
+if ! lacks=$(tests/compare/inputs.sh); then
+    echo "there is no $lacks" >&2
+    exit 1
+fi
 lib=${POWERLINK_LIB_DIR:-target/staticlib}
 if [ ! -f "$lib/libpowerlink.a" ]; then
     echo "there is no $lib/libpowerlink.a: run \`rt staticlib powerlink\`" >&2

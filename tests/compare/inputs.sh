@@ -3,10 +3,12 @@
 # crates/powerlink-rs/src/..; by default it lies beside the repository.
 from=${POWERLINK_RS:-../shared/docs/src}
 if [ ! -f "$from/crates/powerlink-rs/src/frame/codec.rs" ]; then
-    echo "comparison with powerlink-rs: skipped, its sources are not in $from (POWERLINK_RS names another folder)"
+    echo "sources of powerlink-rs in $from, see POWERLINK_RS"
     exit 3
 fi
-if ! command -v rustc >/dev/null; then
-    echo "comparison with powerlink-rs: skipped, there is no rustc"
-    exit 3
-fi
+for program in rustc cc; do
+    if ! command -v "$program" >/dev/null; then
+        echo "$program"
+        exit 3
+    fi
+done
