@@ -1,8 +1,8 @@
 #!/bin/sh
-# Builds powerlink-rs unchanged and bench/speed.rs, and times our C functions beside it. ROUNDS says how many rounds (501),
-# ROWS picks rows by a part of their name. Needs rustc, the sources of powerlink-rs (POWERLINK_RS names another folder than
-# the one beside the repository) and the archive that `rt staticlib powerlink` makes (POWERLINK_LIB_DIR names another
-# folder than target/staticlib).
+# Builds powerlink-rs unchanged and bench/speed.rs, and times our C functions beside it. Writes all rows to docs/performance.txt,
+# and prints them by group. ROUNDS says how many rounds (501); ROWS picks rows by a part of their name, which are then only
+# printed. Needs rustc, the sources of powerlink-rs (POWERLINK_RS names another folder than the one beside the repository) and
+# the archive that `rt staticlib powerlink` makes (POWERLINK_LIB_DIR names another folder than target/staticlib).
 set -eu
 cd "$(dirname "$0")/.."
 if ! lacks=$(tests/compare/inputs.sh); then
@@ -26,4 +26,9 @@ build() {
 }
 build --crate-type rlib bench/plain.rs -o "$out/libplain.rlib"
 build --extern plain="$out/libplain.rlib" -L "native=$lib" -l static=powerlink bench/speed.rs -o "$out/speed"
-"$out/speed" "${ROUNDS:-501}"
+"$out/speed" "${ROUNDS:-501}" >"$out/rows"
+cat "$out/rows"
+if [ -z "${ROWS:-}" ]; then
+    cp "$out/rows" docs/performance.txt
+    bench/groups.sh docs/performance.txt
+fi
