@@ -2,10 +2,10 @@
 -- Assumes nothing.
 use Prim.Native.Nat.{ℕ, zero, suc, _^_, _<_}
 use mathlib.Core.Bool.{Bool, true, false, _&&_}
-use mathlib.Core.Path.{_≡_, refl}
+use mathlib.Core.Path.{_≡_, refl, sym, ap, _∙_}
 use mathlib.Core.List.{List, [], _∷_}
 use native.Mathlib.Omega.{arith}
-use lib.ListN.{take, replicate}
+use lib.ListN.{length, take, replicate}
 use lib.Dec.{ltb}
 use borrow.Author.Tests.{ltb-true}
 use Rattle.octets.proofs.NumberBack.{Octets}
@@ -25,15 +25,16 @@ use Rattle.error_entry.specs.declared.ErrorEntry.{ErrorEntry}
 use Rattle.status_response.specs.BitField.{fieldBytes}
 use Rattle.status_response.specs.Fields.{headBytes}
 use Rattle.status_response.specs.Steps.{statusBytes}
-use Rattle.reporter.specs.Rules.{Head, isRaisable, answerPayload, answerFrame, eaFor, heardIn}
+use Rattle.reporter.specs.Rules.{Head, freshHead, isRaisable, answerPayload, answerFrame, eaFor, heardIn}
 use Rattle.reporter.specs.declared.AnswerFields.{AnswerFields}
 use Rattle.reporter.specs.declared.acknowledge.Heard.the-variants as heard
+use Rattle.reporter.proofs.Meaning.{answer-size}
 use Rattle.collector.specs.Rules.{requestFrame}
 use Rattle.collector.specs.declared.RequestFields.{RequestFields}
-use Rattle.signaling.specs.Calls.{Numbers, AnswerSizes}
-use Rattle.signaling.specs.Example.{entry, five}
+use Rattle.signaling.specs.Calls.{NotFrom, Numbers, AnswerSizes}
+use Rattle.signaling.specs.Example.{entry, five, madeStatus}
 use Rattle.signaling.proofs.Facts.{both}
-use Rattle.signaling.proofs.Frames.{Says, answer-reads, request-reads}
+use Rattle.signaling.proofs.Frames.{Says, is-status, answer-reads, request-reads}
 
 -- ---- the entries, and what the calls are given
 
@@ -96,6 +97,26 @@ first-says =
 pub second-says : Says (answerFrame fields second) second
 unfolding isRaisable
 second-says = answer-reads fields second sizes ((refl, numbers _ _ (omega arith)), tt)
+
+-- the frame that no head sent says what a fresh head would
+made-answer : madeStatus fields ≡ answerFrame fields (freshHead 7)
+unfolding answerFrame answerPayload
+made-answer = refl
+
+pub made-says : Says (madeStatus fields) (freshHead 7)
+made-says = rw made-answer (answer-reads fields (freshHead 7) sizes tt)
+
+pub made-octets : Octets (madeStatus fields)
+unfolding fields frameBytes ethBytes asndSection padded statusBytes headBytes fieldBytes entryBytes typeNumber pollOctet
+made-octets = octets (madeStatus fields) refl
+
+-- it is shorter than the first answer
+pub made-other : madeStatus fields ≡ answerFrame fields first → ⊥
+made-other e =
+    omega (arith, answer-size fields (freshHead 7), answer-size fields first, ap length (sym made-answer ∙ e))
+
+pub made-source : NotFrom 7 (readFrame (madeStatus fields)) → ⊥
+made-source ne = (rw (made-answer, is-status fields (freshHead 7) sizes tt) at ne) refl
 
 pub hears-ea : (ea : Bool) → heardIn 7 (readFrame (requestFrame 7 asked ea)) ≡ heard.Ea ea
 unfolding asked eaFor

@@ -121,7 +121,7 @@ module _ (f : AnswerFields) (h : Head) (sizes : AnswerSizes f) (good : Good (h .
   payload =
       ap (λ (l : List ℕ). statusBytes l (h .batch) ++ behind) (same-head (statusFields f (h .en)) (f .«static_error_bit_field»))
 
-  is-status : readFrame (answerFrame f h) ≡ frame.Frame (ASnd (answerASnd f (h .id) .frame))
+  pub is-status : readFrame (answerFrame f h) ≡ frame.Frame (ASnd (answerASnd f (h .id) .frame))
   unfolding answerFrame frameBytes asndSection padded
   is-status =
       section-back (answerASnd f (h .id) .«eth_header») (asndSection (answerASnd f (h .id) .frame) (answerPayload f h))

@@ -1,7 +1,7 @@
 -- What `flags` told may be put into a frame of the box's host.
 -- Assumes nothing.
-use mathlib.Core.Bool.{Bool}
-use mathlib.Core.Path.{_≡_, ap, _∙_}
+use mathlib.Core.Bool.{Bool, false}
+use mathlib.Core.Path.{_≡_, refl, ap, _∙_}
 use mathlib.Core.Option.{Option, none, some}
 use Rattle.control.specs.declared.soa.SoAFlags.{SoAFlags}
 use Rattle.collector.specs.Layout.{accountOf}
@@ -20,6 +20,13 @@ flags-ea : (f : SoAFlags) (o : Option Account) → flagging.Flags f ≡ flagsAns
 flags-ea f none e = clash cc
 flags-ea f (some p) e = ap (told (p .ea)) e
 
+no-ea : (o : Option Account) → flagging.NotRegistered ≡ flagsAnswer o → false ≡ eaOf o
+no-ea none e = refl
+no-ea (some p) e = clash cc
+
 pub flags-tell : FlagsTell
 flags-tell =
-    record { tells = λ i s bs f c me ea hears. let e : ea ≡ f .ea = cc in e ∙ flags-ea f (accountOf s i) (c .answer) }
+    record {
+      tells = λ i s bs f c me ea hears. let e : ea ≡ f .ea = cc in e ∙ flags-ea f (accountOf s i) (c .answer);
+      unregistered = λ i s bs c me ea hears. let e : ea ≡ false = cc in e ∙ no-ea (accountOf s i) (c .answer);
+    }

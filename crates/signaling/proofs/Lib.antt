@@ -12,6 +12,7 @@ pub mod Frames
 pub mod Head
 pub mod Host
 pub mod Invariant
+pub mod Losses
 pub mod Making
 pub mod Progress
 pub mod Quiet

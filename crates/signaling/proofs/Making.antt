@@ -184,21 +184,32 @@ module _ {i : ℕ} {s b : List ℕ} {l : Log} {h : Head} {p : Account} (k : Know
           knows = record { headSize = k .headSize; boxSize = k .boxSize; means = k .means; rules = k .rules; place = k .place };
         }
 
-    pub booking : (q : ℕ) → Delivered i (sent q) bs (tally i l .answers) → Octets bs → bookAnswer (g .en) (g .batch) p ≡ box.Booked
-        → Next i s b l (boxRead (sent q) bs box.Booked) h (withEa (g .en) (withBook (p .book ++ g .batch) p))
-    booking q given octets ok =
-        let r = rw (read-as, ok) at (books b bs (k .boxSize) octets) in
-        record {
-          state = s;
-          box = layout.readBytes box.Booked bs b;
-          step = boxReads (sent q) bs box.Booked (layout.readBytes box.Booked bs b) given (r .0);
-          knows = record {
+    -- the box books it, wherever it comes from
+    pub books-it : Octets bs → bookAnswer (g .en) (g .batch) p ≡ box.Booked
+        → collector.Reads bs box.Booked b (layout.readBytes box.Booked bs b)
+        × Knows i s (layout.readBytes box.Booked bs b) l h (withEa (g .en) (withBook (p .book ++ g .batch) p))
+    books-it octets ok =
+        let r = rw (read-as, ok) at (books b bs (k .boxSize) octets) in (
+          r .0,
+          record {
             headSize = k .headSize;
             boxSize = r .1;
             means = k .means;
             rules = k .rules;
             place = r .0 .box .accounts i ∙ rw (says .status, from, eq-eqb i i refl, k .place, says .read, says .en, says .entries);
-          };
+          },
+        )
+
+    pub booking : (q : ℕ) → Delivered i (sent q) bs (tally i l .answers) → Octets bs → bookAnswer (g .en) (g .batch) p ≡ box.Booked
+        → Next i s b l (boxRead (sent q) bs box.Booked) h (withEa (g .en) (withBook (p .book ++ g .batch) p))
+    booking q given octets ok =
+        let r = books-it octets ok in
+        let n : Knows i s (layout.readBytes box.Booked bs b) l h (withEa (g .en) (withBook (p .book ++ g .batch) p)) = r .1 in
+        record {
+          state = s;
+          box = layout.readBytes box.Booked bs b;
+          step = boxReads (sent q) bs box.Booked (layout.readBytes box.Booked bs b) given (r .0);
+          knows = record { headSize = n .headSize; boxSize = n .boxSize; means = n .means; rules = n .rules; place = n .place };
         }
 
   pub asking : (f : RequestFields) → length (f .«source_mac» .0) ≡ 6

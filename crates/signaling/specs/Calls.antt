@@ -336,7 +336,10 @@ pub record Demand3 : Type 0 where
 
 -- ---- the frames of the box's host
 
--- a frame that carries what `flags` told is one that the host may send
 pub record FlagsTell : Type 0 where
+  -- a frame that carries what `flags` told is one that the host may send
   pub tells : (i : ℕ) (s bs : List ℕ) (f : SoAFlags) → collector.Flags (node i) (flagging.Flags f) s → heardIn i (readFrame bs) ≡ heard.Ea (f .ea)
+      → Tells i s bs
+  -- and where it refuses with 11, one that carries EA 0
+  pub unregistered : (i : ℕ) (s bs : List ℕ) → collector.Flags (node i) flagging.NotRegistered s → heardIn i (readFrame bs) ≡ heard.Ea false
       → Tells i s bs

@@ -1,26 +1,33 @@
 -- What Demand3 and Progress ask for can be met: a list of calls with a loss and a repeat that books two batches, and two exchanges. And
--- what a frame with any EA would do.
+-- what they leave out has to be left out, three lists that lose entries: of a frame of the box's host with any EA, of one that was built before
+-- a newer request, and of a StatusResponse under the head's ID that the head did not send.
 -- Assumes nothing.
 use Prim.Native.Nat.{ℕ}
 use mathlib.Core.Bool.{true, false}
 use mathlib.Core.Path.{_≡_}
 use mathlib.Core.List.{List, [], _∷_, _++_}
 use mathlib.Core.Option.{some}
-use lib.ListN.{length}
+use lib.ListN.{length, take}
 use Rattle.types.specs.declared.error_mode.ErrorEntryMode.{ErrorEntryMode}
 use Rattle.types.specs.declared.error_mode.ErrorEntryMode.the-variants.{ErrorActive, ErrorCleared, EventOccurred}
+use Rattle.frame.specs.Write.{frameBytes}
+use Rattle.frame.specs.declared.PowerlinkFrame.the-variants.{ASnd}
 use Rattle.codec.specs.Frame.{readFrame}
 use Rattle.error_entry.specs.declared.ErrorEntry.{ErrorEntry}
+use Rattle.status_response.specs.Fields.{headBytes}
+use Rattle.status_response.specs.Steps.{statusBytes}
 use Rattle.reporter.specs.Calls as reporter
 use Rattle.reporter.specs.Layout.{headOf}
-use Rattle.reporter.specs.Rules.{heardIn}
+use Rattle.reporter.specs.Rules.{statusFields, answerASnd, heardIn}
+use Rattle.reporter.specs.declared.AnswerFields.{AnswerFields}
 use Rattle.reporter.specs.declared.ReadAnswer.{ReadAnswer}
 use Rattle.reporter.specs.declared.ReadAnswer.the-variants as head
 use Rattle.reporter.specs.declared.acknowledge.Heard.the-variants as heard
+use Rattle.collector.specs.Calls as collector
 use Rattle.collector.specs.Layout.{accountOf}
 use Rattle.collector.specs.declared.ReadAnswer.{ReadAnswer as BoxReadAnswer}
 use Rattle.collector.specs.declared.ReadAnswer.the-variants as box
-use Rattle.signaling.specs.Calls.{Origin, sent, raised, answered, headRead, registered, boxRead, requested, taken, hosted, Log, accepted, answersSent, requestsSent, isBooked, ruled, World, Run, Drained}
+use Rattle.signaling.specs.Calls.{Origin, sent, Event, raised, answered, headRead, registered, boxRead, requested, taken, hosted, Log, tally, accepted, answersSent, requestsSent, isBooked, ruled, World, Delivered, Tells, Step, Run, Drained}
 use Rattle.signaling.specs.Exchanges.{pending, Exchanges, Room}
 
 abbrev pub entry : ErrorEntryMode → ℕ → ErrorEntry
@@ -97,3 +104,53 @@ pub record FreeEaLoses : Type 0 where
   pub after : List ℕ
   pub reads : reporter.Reads frame head.Closed (w .head) after
   pub left : headOf after ≡ record { id = 7; en = true; batch = []; waiting = entry ErrorCleared 0x8165 ∷ [] }
+
+-- calls that go on from a world
+pub data Onward (i : ℕ) (v : World) : World → Type 0 where
+  here : Onward i v v
+  further : {w u : World} {x : Event} → Onward i v w → Step i w x u → Onward i v u
+
+-- Why a frame of the box's host is to give EA as the box has it when the frame is sent, and not when it was built: at v it is built with the
+-- box's EA, 0. From there to w the first batch is booked, EA becomes 1, and a request closes the batch; the head opens the second, EN is 0,
+-- and that answer is lost. The old frame, sent at w, closes the second batch. The fifth entry is then neither booked nor open nor waiting.
+pub record BuiltAheadLoses : Type 0 where
+  pub v : World
+  pub before : Run 7 v
+  pub frame : List ℕ
+  pub gives : heardIn 7 (readFrame frame) ≡ heard.Ea false
+  pub built : Tells 7 (v .box) frame
+  pub w : World
+  pub onward : Onward 7 v w
+  pub run : Run 7 w
+  pub entries : accepted 7 (w .log) ≡ five
+  pub place : accountOf (w .box) 7 ≡ some (record { ea = true; book = take 4 five })
+  pub late : Tells 7 (w .box) frame → ⊥
+  pub after : List ℕ
+  pub reads : reporter.Reads frame head.Closed (w .head) after
+  pub left : headOf after ≡ record { id = 7; en = false; batch = []; waiting = [] }
+
+-- a StatusResponse of node 7 with EN 0 and no entries, as the writers of frames and of StatusResponses make it: no head is asked
+abbrev pub madeStatus : AnswerFields → List ℕ
+madeStatus f =
+    frameBytes (answerASnd f 7 .«eth_header») (ASnd (answerASnd f 7 .frame))
+    (statusBytes (headBytes (statusFields f false) (f .«static_error_bit_field»)) [])
+
+-- Why a StatusResponse under the head's ID comes from its Answer alone: at v the first batch is booked and closed, and EA is 1. The box reads
+-- such a frame that was made by itself: nothing is booked, and EA becomes 0. The head opens the second batch, EN is 0; its answer is known,
+-- and the next request, with EA 0, closes the batch. The fifth entry is then neither booked nor open nor waiting.
+pub record MadeStatusLoses : Type 0 where
+  pub v : World
+  pub run : Run 7 v
+  pub before : accountOf (v .box) 7 ≡ some (record { ea = true; book = take 4 five })
+  pub fields : AnswerFields
+  -- no step of a list: the head has not sent it, and its source is no other
+  pub strange : (o : Origin) → Delivered 7 o (madeStatus fields) (tally 7 (v .log) .answers) → ⊥
+  pub after : List ℕ
+  pub reads : collector.Reads (madeStatus fields) box.Booked (v .box) after
+  -- the calls behind it are steps of a list
+  pub w : World
+  pub onward : Onward 7 (record { head = v .head; box = after; log = v .log }) w
+  pub entries : accepted 7 (w .log) ≡ five
+  pub read : readings (w .log) ≡ readings (v .log) ++ (byBox (sent 2) box.Known ∷ byHead (sent 1) head.Closed ∷ [])
+  pub place : accountOf (w .box) 7 ≡ some (record { ea = false; book = take 4 five })
+  pub left : headOf (w .head) ≡ record { id = 7; en = false; batch = []; waiting = [] }

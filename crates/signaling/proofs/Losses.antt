@@ -1,0 +1,129 @@
+-- The lists of calls that lose entries, each by a step that Demand3 leaves out.
+-- Assumes nothing.
+use Prim.Native.Nat.{ℕ, zero, suc}
+use mathlib.Core.Bool.{true, false}
+use mathlib.Core.Path.{_≡_, refl, ap, _∙_}
+use mathlib.Core.List.{List, [], _∷_}
+use mathlib.Core.Option.{some}
+use native.Mathlib.Omega.{arith}
+use lib.ListN.{take, getElem?}
+use Rattle.codec.specs.Frame.{readFrame}
+use Rattle.reporter.specs.Calls as reporter
+use Rattle.reporter.specs.Layout.{headOf, readBytes}
+use Rattle.reporter.specs.Rules.{Head, freshHead, answerFrame, heardIn, eaAnswer, heardAnswer, afterRead}
+use Rattle.reporter.specs.declared.ReadAnswer.the-variants.{Closed}
+use Rattle.collector.specs.Rules.{Account, bookAnswer, requestFrame}
+use Rattle.collector.specs.declared.ReadAnswer.the-variants as box
+use Rattle.signaling.specs.Calls.{Origin, sent, foreign, headRead, boxRead, Log, World, tally, Delivered}
+use Rattle.signaling.specs.Example.{five, here, madeStatus, FreeEaLoses, BuiltAheadLoses, MadeStatusLoses}
+use Rattle.signaling.proofs.Callable.{hears}
+use Rattle.signaling.proofs.Example.{waits, between, place, answerOf, requestOf, first-closed, Reached, reachedWorld, from, runs, next, read-twice, close-first, answer-second, original, reached-answered, reached-first}
+use Rattle.signaling.proofs.ExampleFrames.{fields, asked, first, second, answer-octets, second-says, made-says, made-octets, made-other, made-source, hears-ea}
+use Rattle.signaling.proofs.Facts.{clash}
+use Rattle.signaling.proofs.Making.{sent-whole, closing, knowing, books-it, asking}
+
+-- the head reads a frame that closes its batch, wherever the frame comes from
+closed-by : {v : World} {l : Log} {h : Head} {p : Account} (r : Reached v l h p) (bs : List ℕ) → heardAnswer (heardIn (h .id) (readFrame bs)) h ≡ Closed
+    → reporter.Reads bs Closed (r .state) (readBytes Closed (r .state)) × (headOf (readBytes Closed (r .state)) ≡ afterRead Closed h)
+closed-by {h} r bs ok =
+    let e : heardAnswer (heardIn (headOf (r .state) .id) (readFrame bs)) (headOf (r .state)) ≡ Closed = rw (r .knows .means) ok in
+    let c = rw e at (hears (r .state) bs (r .knows .headSize)) in
+    (c .0, c .0 .head ∙ ap (afterRead Closed) (r .knows .means))
+
+-- ---- a frame with any EA
+
+pub free-ea-loses : FreeEaLoses
+unfolding asked eaAnswer
+free-ea-loses =
+    let r = reached-answered in
+    let c = closed-by r (requestFrame 7 asked true) (rw (hears-ea true)) in
+    record {
+      w = reachedWorld r;
+      run = runs original (r .onward);
+      entries = refl;
+      place = r .knows .place;
+      frame = requestFrame 7 asked true;
+      gives = hears-ea true;
+      after = readBytes Closed (r .state);
+      reads = c .0;
+      left = c .1;
+    }
+
+-- ---- a frame that was built before a newer request
+
+pub built-ahead-loses : BuiltAheadLoses
+unfolding asked eaAnswer
+built-ahead-loses =
+    let b = reached-answered in
+    let r = answer-second (close-first (read-twice (from b))) in
+    let c = closed-by r (requestFrame 7 asked false) (rw (hears-ea false)) in
+    record {
+      v = reachedWorld b;
+      before = runs original (b .onward);
+      frame = requestFrame 7 asked false;
+      gives = hears-ea false;
+      built = λ ea e. rw (b .knows .place) cc (hears-ea false);
+      w = reachedWorld r;
+      onward = r .onward;
+      run = runs (runs original (b .onward)) (r .onward);
+      entries = refl;
+      place = r .knows .place;
+      late = λ told. clash (cc (rw (r .knows .place) at (told false (hears-ea false))));
+      after = readBytes Closed (r .state);
+      reads = c .0;
+      left = c .1;
+    }
+
+-- ---- a StatusResponse that the head did not send
+
+twice-other : (a bs : List ℕ) (p : ℕ) → (bs ≡ a → ⊥) → getElem? (a ∷ a ∷ []) p ≡ some bs → ⊥
+twice-other a bs zero ne e = ne cc
+twice-other a bs (suc zero) ne e = ne cc
+twice-other a bs (suc (suc p)) ne e = clash cc
+
+not-delivered : (o : Origin) → Delivered 7 o (madeStatus fields) (tally 7 first-closed .answers) → ⊥
+not-delivered (sent p) d = twice-other _ (madeStatus fields) p (λ e. made-other (e ∙ sent-whole (answerFrame fields first))) (d .1)
+not-delivered foreign ne = made-source ne
+
+-- its answer is known, and the next request closes the batch
+abbrev second-lost : Log
+second-lost =
+    headRead (sent 1) (requestFrame 7 asked false) Closed ∷ requestOf false ∷ boxRead (sent 2) (answerFrame fields second) box.Known
+    ∷ answerOf second
+    ∷ first-closed
+
+lose-second : {v : World} → Reached v first-closed between (place false (take 4 five)) → Reached v second-lost (waits []) (place false (take 4 five))
+unfolding asked bookAnswer eaAnswer
+lose-second r =
+    next
+    (next
+    (next (answer-second r)
+    (λ s b k.
+    knowing k (answerFrame fields second) second second-says refl 2
+    (omega arith, ap some (sent-whole (answerFrame fields second))) (answer-octets .1) refl))
+    (λ s b k. asking k asked refl))
+    (λ s b k.
+    closing k 1 (requestFrame 7 asked false)
+    (omega arith, ap some (sent-whole (requestFrame 7 asked false))) refl (rw (hears-ea false)))
+
+pub made-status-loses : MadeStatusLoses
+unfolding bookAnswer
+made-status-loses =
+    let v = reached-first in
+    let m = books-it (v .knows) (madeStatus fields) (freshHead 7) made-says refl made-octets refl in
+    let r = lose-second (record { state = v .state; box = _; onward = here; knows = m .1 }) in
+    record {
+      v = reachedWorld v;
+      run = runs original (v .onward);
+      before = v .knows .place;
+      fields = fields;
+      strange = not-delivered;
+      after = _;
+      reads = m .0;
+      w = reachedWorld r;
+      onward = r .onward;
+      entries = refl;
+      read = refl;
+      place = r .knows .place;
+      left = r .knows .means;
+    }
