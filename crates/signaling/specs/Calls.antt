@@ -1,6 +1,8 @@
 -- Demand 3: no error lost, none twice. What 01 says of a list of calls as a whole, from a fresh box, a fresh head and a line with
 -- nothing sent. Each call is any that its contract allows, so this holds of the code. 01's box is the collector, its head the reporter.
--- Beside the calls stand the frames that the box's host sends by itself; 01's own lists are those without any.
+-- Beside the calls stand the frames that the box's host sends by itself; 01's own lists are those without any. A frame of the host that gives
+-- the head an EA gives the box's when it is sent (`Tells`), as `collector::flags` tells it (`FlagsTell`); Example.antt has lists that lose
+-- entries by a frame that does not.
 -- Assumes nothing.
 use Prim.Native.Nat.{ℕ, suc, _^_, _≤_, _<_}
 use mathlib.Core.Bool.{Bool, true, false, _||_}
