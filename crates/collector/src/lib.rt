@@ -63,7 +63,13 @@ const RECORD_LEN: usize = ENTRY_LEN;
 // BOOK_LEN, of the type of a start and a count.
 const PLACES: u8 = BOOK_LEN as u8;
 
-// 01's box.
+// 01's box. That it loses and repeats no entry is said of a state that goes on from its own last octets, with heads that
+// began when it did. So it is saved after each call that has changed it and before any later frame leaves:
+// - saved before a reading whose request went out: the head has closed that batch, so it is lost; the next one has the EN
+//   that the old EA equals, is known, and lost too;
+// - begun anew while a head's second batch is open: EN is 0, EA is 0, the batch is known and lost;
+// - begun anew while a head's first batch is open, handed out by the old box: booked again, and listed twice.
+// What Take hands out goes into a journal whose length is saved with the state; after a restart the journal is cut to it.
 pub type Collector = [u8; COLLECTOR_LEN];
 
 pub enum RegisterAnswer {

@@ -28,7 +28,8 @@ impl ASndFrame {
     // The address of an ASnd to all nodes; `new` takes any.
     pub const MULTICAST: [u8; 6] = C_DLL_MULTICAST_ASND;
 
-    // An ASnd with all addresses and IDs given.
+    // An ASnd with all addresses and IDs given. A StatusResponse of a node that has a reporter comes from `reporter::answer`
+    // alone: any other EN makes its next batch known.
     pub fn new(
         source_mac: MacAddress,
         dest_mac: MacAddress,

@@ -46,7 +46,8 @@ impl SoAFrame {
     // The address that an SoA is sent to.
     pub const MULTICAST: [u8; 6] = C_DLL_MULTICAST_SOA;
 
-    // An SoA from the managing node to all nodes.
+    // An SoA from the managing node to all nodes. Whatever it requests, its flags are `collector::flags` of the target at
+    // the moment of sending: any other EA may close a batch that is not booked.
     pub fn new(
         source_mac: MacAddress,
         nmt_state: NmtState,

@@ -19,7 +19,8 @@ use types::message_type::MessageType;
 pub struct PReqFlags {
     // Multiplexed slot.
     pub ms: bool,
-    // Exception acknowledge.
+    // Exception acknowledge. From the managing node it is `collector::flags` of the moment of sending: any other may close
+    // a batch that is not booked.
     pub ea: bool,
     // Ready: the payload is valid.
     pub rd: bool,

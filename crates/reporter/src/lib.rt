@@ -62,7 +62,13 @@ const QUEUE_LEN: u8 = 16;
 // Places for both.
 const PLACES: u8 = BATCH_LEN + QUEUE_LEN;
 
-// 01's head.
+// 01's head. That none of its entries is lost or repeated is said of a state that goes on from its own last octets, with a
+// box that began when it did. So it is saved after each call that has changed it and before any later frame leaves, after
+// `answer` before that answer leaves:
+// - saved before an answer that was booked: what is raised since joins the batch, under the EN that is booked; the batch
+//   is known and closed, and what has joined is lost;
+// - begun anew after an odd number of booked batches: EA is 1 and so is the first EN; that batch is known and lost.
+// No other StatusResponse goes out under its ID, since each tells the box EN.
 pub type Reporter = [u8; REPORTER_LEN];
 
 pub enum NewAnswer {
