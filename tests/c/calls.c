@@ -1,70 +1,21 @@
-/* One head against one box, over a line that loses an answer and repeats a request: every answer of the library is
- * checked, and the story told. The exit status is 1 if anything is not as EPSG DS 301, 6.5, has it. */
-#include "powerlink.h"
-#include "want.h"
-
-enum { HEAD = 7, MN = POWERLINK_MN_NODE, ALL = POWERLINK_BROADCAST_NODE };
-
-static const uint8_t head_mac[POWERLINK_MAC_LEN] = {0x02, 0, 0, 0, 0, HEAD};
-static const uint8_t box_mac[POWERLINK_MAC_LEN] = {0x02, 0, 0, 0, 0, MN};
-static const uint8_t field[POWERLINK_FIELD_LEN] = {1, 2, 3, 4, 5, 6, 7, 8};
-
-static uint8_t head[POWERLINK_REPORTER_LEN];
-static uint8_t box[POWERLINK_COLLECTOR_LEN];
+/* Each call of head and box, over a line that loses an answer and repeats a request: what the frames hold, what each call
+ * answers, and that refused ones change nothing. The exit status is 1 if anything is not as EPSG DS 301, 6.5, has it. */
+#include "pair.h"
 
 /* What the line carries: the last answer and the last request. */
-static uint8_t answer[POWERLINK_ANSWER_MAX];
-static size_t answer_len;
-static uint8_t request[POWERLINK_REQUEST_LEN];
-static size_t request_len;
+static struct frame answered, requested;
 
 static uint8_t octet = 0xEE;
 
-/* Raises the entry with this code; its other fields follow from it. */
-static uint8_t raise(uint16_t code)
+/* The payload of the last answer, from octet 18 on, as the box reads it: it has EN, and entries from `first` on. */
+static void status_has(unsigned entries, uint16_t first, unsigned en)
 {
-    return powerlink_reporter_raise(head, true, false, POWERLINK_ERROR_ACTIVE, 2, code, code, code + 1u, code + 2u);
-}
-
-/* Takes the head's oldest entry out of the box, which must be the one with this code. */
-static void take(uint16_t code)
-{
-    uint64_t v[POWERLINK_ENTRY_VALUES];
-    want("Take", powerlink_collector_take(box, HEAD, v), POWERLINK_DONE);
-    want("status entry", v[POWERLINK_ENTRY_STATUS_ENTRY], 1);
-    want("send to queue", v[POWERLINK_ENTRY_SEND_TO_QUEUE], 0);
-    want("mode", v[POWERLINK_ENTRY_MODE], POWERLINK_ERROR_ACTIVE);
-    want("profile", v[POWERLINK_ENTRY_PROFILE], 2);
-    want("code", v[POWERLINK_ENTRY_CODE], code);
-    want("seconds", v[POWERLINK_ENTRY_SECONDS], code);
-    want("nanoseconds", v[POWERLINK_ENTRY_NANOSECONDS], code + 1u);
-    want("information", v[POWERLINK_ENTRY_INFORMATION], code + 2u);
-}
-
-/* The head answers with entries from `first` on and EN. */
-static void head_answers(unsigned entries, uint16_t first, unsigned en)
-{
-    uint64_t frame[POWERLINK_FRAME_VALUES], status[POWERLINK_STATUS_VALUES], entry[POWERLINK_ENTRY_VALUES];
+    const uint8_t *payload = answered.octets + 18;
+    size_t payload_len = answered.len - 18, offset = 14, next;
+    uint64_t status[POWERLINK_STATUS_VALUES], entry[POWERLINK_ENTRY_VALUES];
     uint8_t read_field[POWERLINK_FIELD_LEN];
-    const uint8_t *payload;
-    size_t payload_len, offset = 14, next;
     unsigned i;
 
-    want("Answer",
-        powerlink_reporter_answer(head, head_mac, box_mac, false, 7, 9, POWERLINK_OPERATIONAL, field, answer,
-            sizeof answer, &answer_len, &octet),
-        POWERLINK_DONE);
-    want("the answer's length", answer_len, entries == 0 ? 60 : 52 + 20 * entries);
-    want("reading the answer", powerlink_deserialize_frame(answer, answer_len, frame, &octet), POWERLINK_DONE);
-    want("message type", frame[POWERLINK_MESSAGE_TYPE], POWERLINK_ASND);
-    want("destination", frame[POWERLINK_DESTINATION], ALL);
-    want("source", frame[POWERLINK_SOURCE], HEAD);
-    want("service", frame[POWERLINK_ASND_SERVICE], POWERLINK_STATUS_RESPONSE);
-    want("the payload's start", frame[POWERLINK_PAYLOAD_START], 18);
-
-    /* From there to the frame's end, as the box reads it: an answer without entries ends in zeros. */
-    payload = answer + 18;
-    payload_len = answer_len - 18;
     want("reading the payload", powerlink_deserialize_status(payload, payload_len, status, read_field, &octet), POWERLINK_DONE);
     want("EN", status[POWERLINK_STATUS_EN], en);
     want("EC", status[POWERLINK_STATUS_EC], 0);
@@ -80,26 +31,43 @@ static void head_answers(unsigned entries, uint16_t first, unsigned en)
     }
     want("the last step", powerlink_entry_step(payload, payload_len, offset, entry, &next), POWERLINK_DONE);
     want("the end", next, 0);
-    printf("head answers: EN %u, %u entries, %u octets\n", en, entries, (unsigned)answer_len);
 }
 
-static void box_reads(uint8_t outcome)
+/* The head answers with entries from `first` on and EN, which is the EN that its host is told. */
+static void head_answers(unsigned entries, uint16_t first, unsigned en)
 {
-    uint8_t is = 0xEE;
-    want("the box's reading", powerlink_collector_read(box, answer, answer_len, &is, &octet), POWERLINK_DONE);
-    want("its outcome", is, outcome);
+    uint64_t frame[POWERLINK_FRAME_VALUES];
+    bool told;
+
+    answered = answer();
+    want("the answer's length", answered.len, entries == 0 ? 60 : 52 + 20 * entries);
+    want("reading the answer", powerlink_deserialize_frame(answered.octets, answered.len, frame, &octet), POWERLINK_DONE);
+    want("message type", frame[POWERLINK_MESSAGE_TYPE], POWERLINK_ASND);
+    want("destination", frame[POWERLINK_DESTINATION], ALL);
+    want("source", frame[POWERLINK_SOURCE], HEAD);
+    want("service", frame[POWERLINK_ASND_SERVICE], POWERLINK_STATUS_RESPONSE);
+    want("the payload's start", frame[POWERLINK_PAYLOAD_START], 18);
+    status_has(entries, first, en);
+    want("en", powerlink_reporter_en(head, &told), POWERLINK_DONE);
+    want("the EN told", told, en);
+    printf("head answers: EN %u, %u entries, %u octets\n", en, entries, (unsigned)answered.len);
+}
+
+static void box_hears(uint8_t outcome)
+{
+    box_reads(answered, outcome);
     printf("box reads: %s\n", outcome == POWERLINK_BOOKED ? "booked" : "known");
 }
 
+/* The box's request tells EA, which is the EA that its host is told. */
 static void box_requests(unsigned ea)
 {
     uint64_t frame[POWERLINK_FRAME_VALUES];
-    want("request",
-        powerlink_collector_request(box, HEAD, box_mac, POWERLINK_OPERATIONAL, 0x20, request, sizeof request, &request_len,
-            &octet),
-        POWERLINK_DONE);
-    want("the request's length", request_len, POWERLINK_REQUEST_LEN);
-    want("reading the request", powerlink_deserialize_frame(request, request_len, frame, &octet), POWERLINK_DONE);
+    bool told_ea, told_er = true;
+
+    requested = request();
+    want("the request's length", requested.len, POWERLINK_REQUEST_LEN);
+    want("reading the request", powerlink_deserialize_frame(requested.octets, requested.len, frame, &octet), POWERLINK_DONE);
     want("message type", frame[POWERLINK_MESSAGE_TYPE], POWERLINK_SOA);
     want("source", frame[POWERLINK_SOURCE], MN);
     want("EA", frame[POWERLINK_SOA_EA], ea);
@@ -107,42 +75,63 @@ static void box_requests(unsigned ea)
     want("requested service", frame[POWERLINK_SOA_REQUESTED_SERVICE], POWERLINK_STATUS_REQUEST);
     want("target", frame[POWERLINK_SOA_TARGET], HEAD);
     want("EPL version", frame[POWERLINK_SOA_EPL_VERSION], 0x20);
+    want("flags", powerlink_collector_flags(box, HEAD, &told_ea, &told_er), POWERLINK_DONE);
+    want("the EA told", told_ea, ea);
+    want("the ER told", told_er, 0);
     printf("box requests: EA %u\n", ea);
 }
 
-static void head_reads(uint8_t outcome)
+static void head_hears(uint8_t outcome)
 {
-    uint8_t is = 0xEE;
-    want("the head's reading", powerlink_reporter_read(head, request, request_len, &is, &octet), POWERLINK_DONE);
-    want("its outcome", is, outcome);
+    head_reads(requested, outcome);
     printf("head reads: %s\n", outcome == POWERLINK_CLOSED ? "closed" : "kept");
 }
 
-/* Calls that are refused leave what they were lent as it was. */
-static void refusals(void)
+static uint8_t raise_as(uint8_t mode, uint16_t profile)
 {
-    uint8_t head_before[POWERLINK_REPORTER_LEN], box_before[POWERLINK_COLLECTOR_LEN];
-    uint8_t small[POWERLINK_REQUEST_LEN - 1], small_before[sizeof small];
-    uint64_t entry[POWERLINK_ENTRY_VALUES] = {1, 2, 3, 4, 5, 6, 7, 8}, entry_before[POWERLINK_ENTRY_VALUES];
-    size_t written = 0xEE;
+    return powerlink_reporter_raise(head, true, false, mode, profile, 1, 1, 1, 1);
+}
+
+/* Refused by what is asked of head and box. */
+static void refused_by_the_exchange(void)
+{
+    uint64_t entry[POWERLINK_ENTRY_VALUES] = {1, 2, 3, 4, 5, 6, 7, 8}, before[POWERLINK_ENTRY_VALUES];
     uint8_t outcome = 0xEE;
+    bool ea = true, er = true;
 
-    memset(small, 0x55, sizeof small);
-    memcpy(small_before, small, sizeof small);
-    memcpy(entry_before, entry, sizeof entry);
-    memcpy(head_before, head, sizeof head);
-    memcpy(box_before, box, sizeof box);
-
+    memcpy(before, entry, sizeof entry);
     want("a new head 0", powerlink_reporter_new(head, 0), POWERLINK_ID_OUT_OF_RANGE);
     want("a new head 240", powerlink_reporter_new(head, MN), POWERLINK_ID_OUT_OF_RANGE);
-    want("raising mode 0", powerlink_reporter_raise(head, true, false, 0, 2, 1, 1, 1, 1), POWERLINK_ENTRY_INVALID);
-    want("raising mode 4", powerlink_reporter_raise(head, true, false, 4, 2, 1, 1, 1, 1), POWERLINK_ENTRY_INVALID);
-    want("raising profile 4096", powerlink_reporter_raise(head, true, false, 1, 4096, 1, 1, 1, 1), POWERLINK_ENTRY_INVALID);
+    want("raising mode 0", raise_as(0, 2), POWERLINK_ENTRY_INVALID);
+    want("raising mode 4", raise_as(4, 2), POWERLINK_ENTRY_INVALID);
+    want("raising profile 4096", raise_as(1, 4096), POWERLINK_ENTRY_INVALID);
     want("registering 0", powerlink_collector_register(box, 0), POWERLINK_ID_OUT_OF_RANGE);
     want("registering twice", powerlink_collector_register(box, HEAD), POWERLINK_ID_REGISTERED);
     want("taking of node 8", powerlink_collector_take(box, 8, entry), POWERLINK_NOT_REGISTERED);
+    want_octets("the entry", (const uint8_t *)entry, (const uint8_t *)before, sizeof entry);
+    want("flags of node 8", powerlink_collector_flags(box, 8, &ea, &er), POWERLINK_NOT_REGISTERED);
+    want("flags of node 0", powerlink_collector_flags(box, 0, &ea, &er), POWERLINK_NOT_REGISTERED);
+    want("EA and ER", ea && er, true);
 
-    /* 11, then 1, then 5 */
+    /* The box takes no request for an answer, and the head no answer for a request. */
+    want("the box reading a request",
+        powerlink_collector_read(box, requested.octets, requested.len, &outcome, &octet), POWERLINK_NOT_STATUS_RESPONSE);
+    want("reading a cut frame", powerlink_reporter_read(head, requested.octets, 13, &outcome, &octet), POWERLINK_TOO_SHORT);
+    want("the outcome", outcome, 0xEE);
+    want("the head reading an answer",
+        powerlink_reporter_read(head, answered.octets, answered.len, &outcome, &octet), POWERLINK_DONE);
+    want("the outcome", outcome, POWERLINK_IGNORED);
+    want("the octet", octet, 0xEE);
+}
+
+/* Refused for the target or for a code: 11, then 1, then 5, 6 and 7. */
+static void refused_by_writers(void)
+{
+    uint8_t small[POWERLINK_REQUEST_LEN - 1], before[sizeof small];
+    size_t written = 0xEE;
+
+    memset(small, 0x55, sizeof small);
+    memcpy(before, small, sizeof small);
     want("requesting of node 8", powerlink_collector_request(box, 8, box_mac, 1, 0x20, small, sizeof small, &written, &octet),
         POWERLINK_NOT_REGISTERED);
     want("a short request", powerlink_collector_request(box, HEAD, box_mac, 1, 0x20, small, sizeof small, &written, &octet),
@@ -164,73 +153,74 @@ static void refusals(void)
         POWERLINK_UNKNOWN_REQUEST);
     want("the octet", octet, 9);
     octet = 0xEE;
-
-    /* The box takes no request for an answer, and the head no answer for a request. */
-    want("the box reading a request", powerlink_collector_read(box, request, request_len, &outcome, &octet),
-        POWERLINK_NOT_STATUS_RESPONSE);
-    want("reading a cut frame", powerlink_reporter_read(head, request, 13, &outcome, &octet), POWERLINK_TOO_SHORT);
-    want("the outcome", outcome, 0xEE);
-    want("the head reading an answer", powerlink_reporter_read(head, answer, answer_len, &outcome, &octet), POWERLINK_DONE);
-    want("the outcome", outcome, POWERLINK_IGNORED);
-    want("the octet", octet, 0xEE);
-
     want("the length", written, 0xEE);
-    want_octets("the target", small, small_before, sizeof small);
-    want_octets("the entry", (const uint8_t *)entry, (const uint8_t *)entry_before, sizeof entry);
+    want_octets("the target", small, before, sizeof small);
+}
+
+static void refusals(void)
+{
+    uint8_t head_before[POWERLINK_REPORTER_LEN], box_before[POWERLINK_COLLECTOR_LEN];
+
+    memcpy(head_before, head, sizeof head);
+    memcpy(box_before, box, sizeof box);
+    refused_by_the_exchange();
+    refused_by_writers();
     want_octets("the head", head, head_before, sizeof head);
     want_octets("the box", box, box_before, sizeof box);
     printf("refused calls change nothing\n");
 }
 
-int main(void)
+/* Entries 1 to 5, and 6 while the first batch is open. */
+static void a_bad_line(void)
 {
-    uint8_t repeated[POWERLINK_ANSWER_MAX];
-    uint64_t entry[POWERLINK_ENTRY_VALUES];
-    uint16_t code;
-
-    want("a new head", powerlink_reporter_new(head, HEAD), POWERLINK_DONE);
-    want("a new box", powerlink_collector_new(box), POWERLINK_DONE);
-    want("registering", powerlink_collector_register(box, HEAD), POWERLINK_DONE);
-    for (code = 1; code <= 5; code++)
-        want("Raise", raise(code), POWERLINK_DONE);
-    printf("head %d raises 5 entries\n", HEAD);
+    struct frame repeated;
 
     box_requests(0);
-    head_reads(POWERLINK_KEPT);
+    head_hears(POWERLINK_KEPT);
     head_answers(4, 1, 1);
     printf("the line loses the answer\n");
-    memcpy(repeated, answer, answer_len);
+    repeated = answered;
 
     box_requests(0);
-    head_reads(POWERLINK_KEPT);
-    want("Raise", raise(6), POWERLINK_DONE);
+    head_hears(POWERLINK_KEPT);
+    raise_entry(6);
     printf("head %d raises a 6th entry\n", HEAD);
     head_answers(4, 1, 1);
-    want_octets("the repeated answer", answer, repeated, answer_len);
-    box_reads(POWERLINK_BOOKED);
+    want_octets("the repeated answer", answered.octets, repeated.octets, repeated.len);
+    box_hears(POWERLINK_BOOKED);
     printf("the line repeats the answer\n");
-    box_reads(POWERLINK_KNOWN);
+    box_hears(POWERLINK_KNOWN);
     refusals();
 
     box_requests(1);
-    head_reads(POWERLINK_CLOSED);
+    head_hears(POWERLINK_CLOSED);
     printf("the line repeats the request\n");
-    head_reads(POWERLINK_KEPT);
+    head_hears(POWERLINK_KEPT);
     head_answers(2, 5, 0);
-    box_reads(POWERLINK_BOOKED);
+    box_hears(POWERLINK_BOOKED);
     box_requests(0);
-    head_reads(POWERLINK_CLOSED);
+    head_hears(POWERLINK_CLOSED);
     head_answers(0, 0, 0);
-    box_reads(POWERLINK_KNOWN);
+    box_hears(POWERLINK_KNOWN);
+}
 
+int main(void)
+{
+    uint16_t code;
+
+    new_pair();
+    for (code = 1; code <= 5; code++)
+        raise_entry(code);
+    printf("head %d raises 5 entries\n", HEAD);
+    a_bad_line();
     for (code = 1; code <= 6; code++)
         take(code);
-    want("a Take too many", powerlink_collector_take(box, HEAD, entry), POWERLINK_NOTHING_BOOKED);
+    nothing_booked();
     printf("6 entries are taken, in order, and no more\n");
 
     for (code = 1; code <= 16; code++)
-        want("Raise", raise(code), POWERLINK_DONE);
-    want("a 17th waiting entry", raise(17), POWERLINK_QUEUE_FULL);
+        raise_entry(code);
+    want("a 17th waiting entry", raise_as(POWERLINK_ERROR_ACTIVE, 2), POWERLINK_QUEUE_FULL);
     printf("a 17th waiting entry is refused\n");
     return 0;
 }

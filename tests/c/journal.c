@@ -1,5 +1,5 @@
-/* A journal on standard output: what it begins with, then records. Records that are refused leave what they were lent. The
- * exit status is 1 if a call surprises. */
+/* A journal on standard output: what it begins with, then records. Records that are refused leave what they were lent. How
+ * much of a torn journal is whole. The exit status is 1 if a call surprises. */
 #include "powerlink.h"
 #include "want.h"
 
@@ -39,6 +39,33 @@ static void write_record(uint8_t id, uint8_t mode, uint16_t profile, uint16_t co
     want("writing", fwrite(target, 1, POWERLINK_RECORD_LEN, stdout), POWERLINK_RECORD_LEN);
 }
 
+/* Holds whole_len to its cause, and to what it gives where there is none. */
+static void whole(uint16_t version, size_t len, uint8_t cause, size_t should)
+{
+    size_t is = 0xEE;
+    want("whole_len", powerlink_journal_whole_len(version, len, &is), cause);
+    want("the whole length", is, cause == POWERLINK_DONE ? should : 0xEE);
+}
+
+/* 17, then 18; else what begins the journal and the records that are not cut. */
+static void whole_lengths(void)
+{
+    static const uint16_t others[] = {0, 2, 0x0100, UINT16_MAX};
+    size_t len, records = (SIZE_MAX - POWERLINK_JOURNAL_START_LEN) / POWERLINK_RECORD_LEN, i;
+
+    for (len = 0; len < POWERLINK_JOURNAL_START_LEN; len++) {
+        whole(1, len, POWERLINK_NOT_A_JOURNAL, 0);
+        whole(2, len, POWERLINK_NOT_A_JOURNAL, 0);
+    }
+    for (i = 0; i < sizeof others / sizeof *others; i++)
+        whole(others[i], POWERLINK_JOURNAL_START_LEN, POWERLINK_UNKNOWN_VERSION, 0);
+    for (i = 0; i < 3 * POWERLINK_RECORD_LEN; i++) {
+        len = POWERLINK_JOURNAL_START_LEN + i;
+        whole(1, len, POWERLINK_DONE, len - i % POWERLINK_RECORD_LEN);
+    }
+    whole(1, SIZE_MAX, POWERLINK_DONE, POWERLINK_JOURNAL_START_LEN + records * POWERLINK_RECORD_LEN);
+}
+
 int main(void)
 {
     want("writing", fwrite(start, 1, sizeof start, stdout), sizeof start);
@@ -56,5 +83,6 @@ int main(void)
     refused("20 octets and mode 4", 7, 4, POWERLINK_RECORD_LEN - 1, POWERLINK_TOO_SHORT);
     refused("20 octets and mode 0", 7, POWERLINK_TERMINATOR, POWERLINK_RECORD_LEN - 1, POWERLINK_TOO_SHORT);
     refused("20 octets and node 0", 0, POWERLINK_ERROR_ACTIVE, POWERLINK_RECORD_LEN - 1, POWERLINK_TOO_SHORT);
+    whole_lengths();
     return 0;
 }

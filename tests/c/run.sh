@@ -41,19 +41,51 @@ if command -v nm > /dev/null && nm -u "$lib" | grep ' U ' | grep -v -e ' memset$
     exit 1
 fi
 
-for program in one_head any_header journal; do
+# A header of another version than the archive's does not link.
+mkdir "$out/other"
+sed 's/_new_v1$/_new_v0/' include/powerlink.h > "$out/other/powerlink.h"
+for end in collector reporter; do
+    printf '%s\n' '#include "powerlink.h"' "int main(void) { return powerlink_${end}_new == 0; }" > "$out/pair.c"
+    cc -std=c99 -Iinclude "$out/pair.c" "$lib" -o "$out/pair"
+    if cc -std=c99 "-I$out/other" "$out/pair.c" "$lib" -o "$out/pair" 2> "$out/undefined"; then
+        echo "tests/c: powerlink_${end}_new of another version links"
+        exit 1
+    fi
+    grep -q "powerlink_${end}_new_v0" "$out/undefined"
+done
+echo 'a header of another version does not link'
+
+for program in calls host_frames restarts host_loop any_header journal; do
     cc -std=c99 $warned "tests/c/$program.c" "$lib" -o "$out/$program"
 done
-"$out/one_head"
+"$out/calls"
+"$out/host_frames"
+"$out/restarts"
+mkdir "$out/host"
+"$out/host_loop" "$out/host"
 "$out/any_header"
-
-# The journal, as the program `journal` lists it.
 "$out/journal" > "$out/plb"
-if [ -x target/bin/journal ]; then
-    target/bin/journal < "$out/plb" > "$out/listed"
-    printf '%s\n' 'node code mode profile sec nsec info' '7 1234 1 2 5 6 0000000000000000' \
-        '1 ABCD 2 4095 4294967295 6 0123456789ABCDEF' '239 0000 3 0 0 6 FFFFFFFFFFFFFFFF' | diff - "$out/listed"
-    echo 'a journal of 3 records is listed'
-else
-    echo 'tests/c: the journal was written and not listed, there is no target/bin/journal (rt check journal)'
+
+# Journals, as the program `journal` lists them.
+if [ ! -x target/bin/journal ]; then
+    echo 'tests/c: journals were written and not listed, there is no target/bin/journal (rt check journal)'
+    exit 0
 fi
+lists() {
+    printf '%s\n' 'node code mode profile sec nsec info' "$@" > "$out/expected"
+    target/bin/journal < "$out/in" | diff "$out/expected" -
+}
+first='7 1234 1 2 5 6 0000000000000000'
+second='1 ABCD 2 4095 4294967295 6 0123456789ABCDEF'
+third='239 0000 3 0 0 6 FFFFFFFFFFFFFFFF'
+
+cp "$out/plb" "$out/in"
+lists "$first" "$second" "$third"
+echo 'a journal of 3 records is listed'
+# Nine octets of the first record, then all three.
+{ head -c 14 "$out/plb"; tail -c +6 "$out/plb"; } > "$out/in"
+lists '7 1234 1 2 5 881852935 0000060000000512' 'refused 19'
+echo 'a torn record with records behind it is listed as a fault that nobody raised'
+cat "$out/plb" "$out/plb" > "$out/in"
+lists "$first" "$second" "$third" 'refused 19'
+echo 'two journals joined end in 19'
