@@ -337,7 +337,8 @@ uint8_t powerlink_serialize_soc(
     uint8_t *POWERLINK_RESTRICT target, size_t target_len, size_t *POWERLINK_RESTRICT written);
 
 /* Writes the section of a PReq: 10 octets and the payload, but at least 46. The payload size is written as given, equal
- * to the payload's length or not.
+ * to the payload's length or not. From the managing node, `ea` is that of powerlink_collector_flags at the moment of
+ * sending: any other loses entries.
  * Tests: 1. Refused: nothing is written. */
 uint8_t powerlink_serialize_preq(
     uint8_t destination, uint8_t source, bool ms, bool ea, bool rd,
@@ -355,7 +356,8 @@ uint8_t powerlink_serialize_pres(
     uint8_t *POWERLINK_RESTRICT target, size_t target_len, size_t *POWERLINK_RESTRICT written,
     uint8_t *POWERLINK_RESTRICT octet);
 
-/* Writes the section of an SoA: 46 octets.
+/* Writes the section of an SoA: 46 octets. From the managing node, `ea` and `er` are those of powerlink_collector_flags for
+ * the target, at the moment of sending: any other loses entries.
  * Tests: 1, 5, 7. Refused: nothing is written, but `octet` with 5 and 7. */
 uint8_t powerlink_serialize_soa(
     uint8_t destination, uint8_t source, uint8_t state, bool ea, bool er,
@@ -403,6 +405,7 @@ uint8_t powerlink_serialize_error_field(
 
 /* Writes the payload of a StatusResponse: 14 octets, the entries, and the 20 zeros that end the list. `entries` are the
  * octets of the entries, 20 each, as powerlink_serialize_entry writes them; a rest of under 20 octets is left aside.
+ * Not for a node that has a reporter: an EN that its Answer did not write makes its next batch known, and lost.
  * Tests: 1, 5. Refused: nothing is written, but `octet` with 5. */
 uint8_t powerlink_serialize_status(
     bool en, bool ec, uint8_t pr, uint8_t rs, uint8_t state,
@@ -423,7 +426,8 @@ uint8_t powerlink_new_soc(
     uint32_t seconds, uint32_t nanoseconds, uint64_t relative_time,
     uint8_t *POWERLINK_RESTRICT target, size_t target_len, size_t *POWERLINK_RESTRICT written);
 
-/* Writes a PReq, 24 octets and the payload, but at least 60: from node 240 to `target_node`.
+/* Writes a PReq, 24 octets and the payload, but at least 60: from node 240 to `target_node`. `ea` is that of
+ * powerlink_collector_flags at the moment of sending, or 0 where the node is not registered: any other loses entries.
  * Tests: 1. Refused: nothing is written. */
 uint8_t powerlink_new_preq(
     const uint8_t source_mac[POWERLINK_ARRAY(POWERLINK_MAC_LEN)],
@@ -433,6 +437,7 @@ uint8_t powerlink_new_preq(
     uint8_t *POWERLINK_RESTRICT target, size_t target_len, size_t *POWERLINK_RESTRICT written);
 
 /* Writes a PRes, 24 octets and the payload, but at least 60: from `source` to node 255 and POWERLINK_MULTICAST_PRES.
+ * `en` is that of powerlink_reporter_en.
  * Tests: 1, 5. Refused: nothing is written, but `octet` with 5. */
 uint8_t powerlink_new_pres(
     const uint8_t source_mac[POWERLINK_ARRAY(POWERLINK_MAC_LEN)], uint8_t source, uint8_t state,
@@ -442,6 +447,8 @@ uint8_t powerlink_new_pres(
     uint8_t *POWERLINK_RESTRICT octet);
 
 /* Writes an SoA, 60 octets: from node 240 to node 255 and POWERLINK_MULTICAST_SOA; `target_node` is who may send.
+ * `ea` and `er` are those of powerlink_collector_flags for it at the moment of sending, or 0 where it is not registered,
+ * whatever service is requested: any other loses entries.
  * Tests: 1, 5, 7. Refused: nothing is written, but `octet` with 5 and 7. */
 uint8_t powerlink_new_soa(
     const uint8_t source_mac[POWERLINK_ARRAY(POWERLINK_MAC_LEN)], uint8_t state, bool ea, bool er,
@@ -449,7 +456,8 @@ uint8_t powerlink_new_soa(
     uint8_t *POWERLINK_RESTRICT target, size_t target_len, size_t *POWERLINK_RESTRICT written,
     uint8_t *POWERLINK_RESTRICT octet);
 
-/* Writes an ASnd, 18 octets and the payload, but at least 60: from `source` to `target_node`.
+/* Writes an ASnd, 18 octets and the payload, but at least 60: from `source` to `target_node`. Not for a StatusResponse of a
+ * node that has a reporter: that one is powerlink_reporter_answer's.
  * Tests: 1, 6. Refused: nothing is written, but `octet` with 6. */
 uint8_t powerlink_new_asnd(
     const uint8_t source_mac[POWERLINK_ARRAY(POWERLINK_MAC_LEN)],
@@ -459,13 +467,59 @@ uint8_t powerlink_new_asnd(
     uint8_t *POWERLINK_RESTRICT target, size_t target_len, size_t *POWERLINK_RESTRICT written,
     uint8_t *POWERLINK_RESTRICT octet);
 
-/* ---- A controlled node that reports errors
+/* ---- The error exchange: what it asks of a host
  *
- * That no entry is lost and none booked twice is proved of reporters and a collector that start fresh together and go
- * on from their own last states, over a line on which a repeat arrives before any later frame of the same sender. A
- * batch is told from its repeat by one bit, EN, alone: a reporter that is made anew while the collector goes on may
- * have its first batch taken for a known one, and lost, with 0 for an answer at both ends; so may one that goes on from
- * a copy. Over a restart, keep the octets of the state, or start both ends anew. */
+ * Proved is that no entry is lost and none booked twice, of reporters and a collector that start fresh together and
+ * each go on from their own last state, over a line that loses, delays and repeats frames, on which a repeat arrives
+ * before any later frame of the same sender. A batch is told from its repeat by one bit alone: EN of the reporter
+ * flips with each batch, EA of the collector is the EN of the last batch that it has booked. A wrong EA closes a batch
+ * that is not booked, a wrong EN makes one known that never was, and an old state has both; every call then still
+ * answers with 0. So:
+ *
+ * Frames of the managing node. Every PReq to a node and every SoA with it as target tells it EA, whatever the frame is
+ * for. They all carry what powerlink_collector_flags gives at the moment of sending, and leave in the order in which
+ * they asked: a frame built ahead, as in a transmit buffer filled a cycle early, loses entries. Until the node is
+ * registered, EA and ER are 0, which loses nothing.
+ *
+ * Frames of a controlled node. Its StatusResponses come from powerlink_reporter_answer alone, and none from
+ * powerlink_serialize_status and powerlink_new_asnd. EN of its PRes is what powerlink_reporter_en gives.
+ *
+ * Threads. All calls are reentrant, and separate states may be used from separate threads at the same time. One state
+ * needs a lock: only calls that take it as const may run on it together. The lock is held until the frame that was
+ * asked for is in its place in the order of sending. A cyclic task that may not wait for it sends all frames to the
+ * nodes itself, and takes EA from a copy as each one leaves; the task that reads answers renews the copy after every
+ * reading, once the state is saved and before the next answer is read.
+ *
+ * Beginning anew. Both ends begin together. One that begins alone loses faults, or lists them twice:
+ *  - a new reporter after one batch, or any odd number, was booked: EA is 1. Its first batch has EN 1 and is known,
+ *    and the next request closes it: lost. After an even number it is booked.
+ *  - a new collector while the reporter's second batch is open, whose EN is 0: EA is 0, the batch is known and closed:
+ *    lost.
+ *  - a new collector while the first batch is open that the old one has booked and handed out: booked again, listed
+ *    twice.
+ *
+ * Saving. A state is saved after every call that has changed it and before any later frame leaves; a reporter's before
+ * the answer itself leaves. A power cut leaves the old state or the new one, whole: a file is written anew and
+ * renamed. A cycle that reads, then saves, then sends does this. A fault is accepted once the state after its Raise is
+ * saved. Otherwise:
+ *  - a collector saved before a reading whose request went out: the reporter has closed that batch, so it is lost; the
+ *    next one has the EN that the old EA equals, is known, and lost too.
+ *  - a reporter saved before an answer that was booked: what is raised since joins the batch under the EN that is
+ *    booked; it is known and closed, and what has joined is lost.
+ * A saved state is of one POWERLINK_VERSION alone.
+ *
+ * Take and the journal. The state saved after the journal lists an entry twice if the power goes between them; the
+ * state saved before it loses one. So the length of the journal is saved with the state, in one file: Take, append,
+ * flush the journal, save both. After a restart the journal is cut to the saved length, and what is cut off is in the
+ * book still. Where others read the journal as it grows, it is cut to powerlink_journal_whole_len instead, and Take is
+ * only called on a saved state: each record behind the saved length is then what the next Take for its ID hands out,
+ * and is taken, compared and not appended again. (To compare the last record without a length is not enough: of two
+ * equal entries one would be lost.)
+ *
+ * tests/c/host_loop.c is a host that does all this; host_frames.c and restarts.c beside it show what each mistake
+ * costs. */
+
+/* ---- A controlled node that reports errors */
 
 /* Makes a fresh state for node `id`.
  * Tests: 13. Refused: nothing is written. */
@@ -479,7 +533,8 @@ uint8_t powerlink_reporter_raise(
     uint32_t seconds, uint32_t nanoseconds, uint64_t information);
 
 /* Writes a StatusResponse, a whole frame from this node to all (255), with the open batch. Where none is open and
- * entries wait, the first four, or all if fewer, become it. 60 octets without entries, else 52 and 20 for each.
+ * entries wait, the first four, or all if fewer, become it. 60 octets without entries, else 52 and 20 for each. The
+ * state is saved before the answer leaves.
  * Tests: 1, 5. Refused: nothing is written and no batch opened, but `octet` with 5. */
 uint8_t powerlink_reporter_answer(
     uint8_t state[POWERLINK_ARRAY(POWERLINK_REPORTER_LEN)],
@@ -509,7 +564,7 @@ uint8_t powerlink_collector_register(uint8_t state[POWERLINK_ARRAY(POWERLINK_COL
 
 /* Reads a frame: the batch of a registered node's StatusResponse goes into its book of 64 entries, whole, unless EN
  * says that it was booked before. The frame's destination is not tested; a new EN without entries is booked too.
- * `outcome`: POWERLINK_KNOWN or _BOOKED.
+ * `outcome`: POWERLINK_KNOWN or _BOOKED; where booked, the state is saved before the next frame leaves.
  * Tests: those of powerlink_deserialize_frame, 10, 11, 1 and 5 of the StatusResponse, then 12, where the batch is not
  * known.
  * Refused: nothing is written, but `octet` with 4 to 7. */
