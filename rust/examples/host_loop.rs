@@ -1,141 +1,369 @@
-//! One head and one box, over a line that loses frames and repeats them: what was sent, what became
-//! of it, and the list that the box has made in the end.
+//! A host's loop, of a managing node (the box) and of a controlled node (a head), on a line that
+//! loses frames and repeats them, with power cuts at any write and any sending. In the end the
+//! journal has each fault that was accepted, once.
+//!
+//! Each end does the same in every cycle: it reads what has come, saves what has changed, and only
+//! then sends. The box also takes what is booked and appends it to the journal before it saves, and
+//! saves the journal's length with its state.
 use powerlink::*;
+use std::collections::VecDeque;
+use std::fs::{self, File, OpenOptions};
+use std::io::Write;
+use std::path::PathBuf;
 
 const HEAD: NodeId = NodeId(7);
+const HEAD_MAC: MacAddress = MacAddress([2, 0, 0, 0, 0, 7]);
+const BOX_MAC: MacAddress = MacAddress([2, 0, 0, 0, 0, 240]);
+const CYCLES: u64 = 80;
 
-/// What becomes of a frame on the line.
-#[derive(Clone, Copy)]
-enum Fate {
-    Arrives,
-    ArrivesTwice,
-    IsLost,
-}
+/// A frame is refused, a file fails, or the power goes.
+type Outcome<T> = Result<T, Box<dyn std::error::Error>>;
 
-use Fate::{Arrives, ArrivesTwice, IsLost};
+#[derive(Debug)]
+struct PowerCut;
 
-impl Fate {
-    /// How often the other side reads the frame.
-    fn times(self) -> usize {
-        match self {
-            IsLost => 0,
-            Arrives => 1,
-            ArrivesTwice => 2,
-        }
+impl std::fmt::Display for PowerCut {
+    fn fmt(&self, f: &mut std::fmt::Formatter<'_>) -> std::fmt::Result {
+        write!(f, "the power has gone")
     }
 }
 
-struct Line {
-    head: Reporter,
-    the_box: Collector,
+impl std::error::Error for PowerCut {}
+
+/// Chance, power, a line of two directions, and files.
+struct World {
+    number: u64,
+    /// The power goes when the fuse has burnt down; 0 is no fuse.
+    fuse: u64,
+    good_line: bool,
+    to_box: VecDeque<Vec<u8>>,
+    to_head: VecDeque<Vec<u8>>,
+    folder: PathBuf,
 }
 
-impl Line {
-    fn raise(&mut self, error_code: u16) -> Result<(), Error> {
-        let entry = ErrorEntry {
-            entry_type: EntryType {
-                is_status_entry: false,
-                send_to_queue: true,
-                mode: ErrorEntryMode::ErrorActive,
-                profile: 2,
-            },
-            error_code,
-            timestamp: NetTime::default(),
-            additional_information: 0,
-        };
-        self.head.raise(&entry)?;
-        println!("head: raises {error_code:04X}");
+impl World {
+    fn below(&mut self, bound: u64) -> u64 {
+        self.number = self
+            .number
+            .wrapping_mul(6364136223846793005)
+            .wrapping_add(1442695040888963407);
+        (self.number >> 33) % bound
+    }
+
+    fn burn(&mut self) -> Outcome<()> {
+        let goes = self.fuse == 1;
+        self.fuse = self.fuse.saturating_sub(1);
+        if goes {
+            return Err(PowerCut.into());
+        }
         Ok(())
     }
 
-    /// The box asks, and tells the head what it has booked.
-    fn request(&mut self, fate: Fate) -> Result<(), Error> {
+    /// How often a frame arrives that is sent now: not at all, once or twice.
+    fn times(&mut self) -> Outcome<usize> {
+        self.burn()?;
+        Ok(if self.good_line {
+            1
+        } else {
+            self.below(3) as usize
+        })
+    }
+
+    fn send_to_head(&mut self, frame: &[u8]) -> Outcome<()> {
+        let copies = vec![frame.to_vec(); self.times()?];
+        self.to_head.extend(copies);
+        Ok(())
+    }
+
+    fn send_to_box(&mut self, frame: &[u8]) -> Outcome<()> {
+        let copies = vec![frame.to_vec(); self.times()?];
+        self.to_box.extend(copies);
+        Ok(())
+    }
+
+    /// Writes a file anew and renames it: a power cut leaves the old one or the new one, whole. What
+    /// an end saves is its state and a number that must not get ahead of it, nor fall behind.
+    fn save(&mut self, name: &str, state: &[u8], number: u64) -> Outcome<()> {
+        self.burn()?;
+        let new = self.folder.join("new");
+        let mut file = File::create(&new)?;
+        file.write_all(state)?;
+        file.write_all(&number.to_le_bytes())?;
+        file.sync_all()?;
+        fs::rename(new, self.folder.join(name))?;
+        File::open(&self.folder)?.sync_all()?;
+        Ok(())
+    }
+
+    fn load<const LEN: usize>(&self, name: &str) -> Option<([u8; LEN], u64)> {
+        let octets = fs::read(self.folder.join(name)).ok()?;
+        let (state, number) = octets.split_at_checked(LEN)?;
+        Some((
+            state.try_into().ok()?,
+            u64::from_le_bytes(number.try_into().ok()?),
+        ))
+    }
+}
+
+/// The managing node.
+struct BoxHost {
+    the_box: Collector,
+    journal: File,
+    journal_len: u64,
+    changed: bool,
+}
+
+impl BoxHost {
+    /// For the first time, or after a power cut: records behind the saved length were taken from a
+    /// state that is not saved. They are cut off, since they will be taken again.
+    fn start(world: &mut World) -> Outcome<Self> {
+        let path = world.folder.join("journal");
+        let journal = OpenOptions::new().append(true).create(true).open(path)?;
+        let Some((octets, journal_len)) = world.load("box") else {
+            return BoxHost::anew(world, journal);
+        };
+        journal.set_len(journal_len)?;
+        let the_box = Collector::from_bytes(octets);
+        Ok(BoxHost {
+            the_box,
+            journal,
+            journal_len,
+            changed: false,
+        })
+    }
+
+    /// A new box goes on with the journal that is there, without a record that a power cut has torn.
+    fn anew(world: &mut World, mut journal: File) -> Outcome<Self> {
+        let mut journal_len = journal.metadata()?.len();
+        match journal::whole_len(1, journal_len as usize) {
+            Ok(whole) => journal_len = whole as u64,
+            Err(_) => {
+                journal.set_len(0)?;
+                journal.write_all(&journal::START)?;
+                journal_len = journal::START.len() as u64;
+            }
+        }
+        journal.set_len(journal_len)?;
+        let mut the_box = Collector::new();
+        the_box.register(HEAD)?;
+        world.save("box", the_box.as_bytes(), journal_len)?;
+        Ok(BoxHost {
+            the_box,
+            journal,
+            journal_len,
+            changed: false,
+        })
+    }
+
+    fn cycle(&mut self, world: &mut World, cycle: u64) -> Outcome<()> {
+        while let Some(frame) = world.to_box.pop_front() {
+            match self.the_box.read(&frame) {
+                Ok(outcome) => self.changed |= outcome == CollectorRead::Booked,
+                // A PRes; and what the book has no place for, the head sends again.
+                Err(Error::NotStatusResponse | Error::BookFull) => {}
+                Err(other) => return Err(other.into()),
+            }
+        }
+        self.list(world)?;
+        self.save(world)?;
+        self.send(world, cycle)
+    }
+
+    fn list(&mut self, world: &mut World) -> Outcome<()> {
+        let mut record = [0; journal::RECORD_LEN];
+        while let Ok(entry) = self.the_box.take(HEAD) {
+            journal::record(HEAD, &entry, &mut record)?;
+            world.burn()?;
+            self.journal.write_all(&record)?;
+            self.journal_len += record.len() as u64;
+            self.changed = true;
+        }
+        Ok(())
+    }
+
+    /// The journal is flushed before the state that says how long it is.
+    fn save(&mut self, world: &mut World) -> Outcome<()> {
+        if self.changed {
+            self.journal.sync_all()?;
+            world.save("box", self.the_box.as_bytes(), self.journal_len)?;
+            self.changed = false;
+        }
+        Ok(())
+    }
+
+    /// EA is asked for when the frame is sent. Every frame to a head carries it, whatever else it is
+    /// for.
+    fn send(&self, world: &mut World, cycle: u64) -> Outcome<()> {
+        let mut frame = [0; 60];
+        let (now, since) = (NetTime::default(), RelativeTime(cycle));
+        let soc = SocFrame::new(BOX_MAC, SocFlags::default(), now, since);
+        let n = soc.write_frame(&mut frame)?;
+        world.send_to_head(&frame[..n])?;
+
+        let ea = self.the_box.flags(HEAD)?.ea;
+        let flags = PReqFlags {
+            ea,
+            ..PReqFlags::default()
+        };
+        let preq = PReqFrame::new(BOX_MAC, HEAD_MAC, HEAD, flags, PDOVersion(0), &[0xAA]);
+        let n = preq.write_frame(&mut frame)?;
+        world.send_to_head(&frame[..n])?;
+
         let fields = RequestFields {
-            source_mac: MacAddress([2, 0, 0, 0, 0, 240]),
+            source_mac: BOX_MAC,
             nmt_state: NmtState::NmtOperational,
             epl_version: EPLVersion(0x20),
         };
-        let mut frame = [0; 60];
         let n = self.the_box.request(HEAD, &fields, &mut frame)?;
-        let soa = deserialize_frame(&frame[..n])?.frame.into_soa();
-        let ea = soa.is_ok_and(|soa| soa.flags.ea) as u8;
-        println!("box:  asks, EA {ea}");
-        if fate.times() == 0 {
-            println!("          (lost)");
+        world.send_to_head(&frame[..n])
+    }
+}
+
+/// The controlled node; `raised` counts the faults that it has accepted.
+struct HeadHost {
+    head: Reporter,
+    raised: u64,
+}
+
+impl HeadHost {
+    fn start(world: &mut World) -> Outcome<Self> {
+        if let Some((octets, raised)) = world.load("head") {
+            let head = Reporter::from_bytes(octets);
+            return Ok(HeadHost { head, raised });
         }
-        for _ in 0..fate.times() {
-            let heard = match self.head.read(&frame[..n])? {
-                ReporterRead::Closed => "closes its batch",
-                ReporterRead::Kept => "keeps what it has",
-                ReporterRead::Ignored => "ignores it",
-            };
-            println!("head:     reads it and {heard}");
+        let (head, raised) = (Reporter::new(HEAD)?, 0);
+        world.save("head", head.as_bytes(), raised)?;
+        Ok(HeadHost { head, raised })
+    }
+
+    fn cycle(&mut self, world: &mut World, cycle: u64) -> Outcome<()> {
+        if cycle < CYCLES {
+            self.raise(world)?;
+        }
+        while let Some(frame) = world.to_head.pop_front() {
+            self.read(world, &frame)?;
         }
         Ok(())
     }
 
-    /// The head answers with its batch.
-    fn answer(&mut self, fate: Fate) -> Result<(), Error> {
+    fn save(&self, world: &mut World) -> Outcome<()> {
+        world.save("head", self.head.as_bytes(), self.raised)
+    }
+
+    /// A fault is accepted once it is saved. Where too many wait, it is not raised yet.
+    fn raise(&mut self, world: &mut World) -> Outcome<()> {
+        let fault = ErrorEntry {
+            entry_type: EntryType::from_u16(0x5002),
+            error_code: self.raised as u16,
+            timestamp: NetTime::default(),
+            additional_information: 0,
+        };
+        match self.head.raise(&fault) {
+            Err(Error::QueueFull) => return Ok(()),
+            raised => raised?,
+        }
+        self.raised += 1;
+        self.save(world)
+    }
+
+    fn read(&mut self, world: &mut World, frame: &[u8]) -> Outcome<()> {
+        if self.head.read(frame)? == ReporterRead::Closed {
+            self.save(world)?;
+        }
+        match deserialize_frame(frame)?.frame {
+            PowerlinkFrame::PReq(preq) if preq.destination == HEAD => self.poll(world),
+            PowerlinkFrame::SoA(soa)
+                if soa.target_node_id == HEAD
+                    && soa.req_service_id == RequestedServiceId::StatusRequest =>
+            {
+                self.answer(world)
+            }
+            _ => Ok(()),
+        }
+    }
+
+    fn poll(&self, world: &mut World) -> Outcome<()> {
+        let en = self.head.en();
+        let flags = PResFlags {
+            en,
+            ..PResFlags::default()
+        };
+        let state = NmtState::NmtOperational;
+        let pres = PResFrame::new(HEAD_MAC, HEAD, state, flags, PDOVersion(0), &[0xBB]);
+        let mut frame = [0; 60];
+        let n = pres.write_frame(&mut frame)?;
+        world.send_to_box(&frame[..n])
+    }
+
+    /// `answer` may open a batch: that is saved before the box can book it.
+    fn answer(&mut self, world: &mut World) -> Outcome<()> {
         let fields = AnswerFields {
-            source_mac: MacAddress([2, 0, 0, 0, 0, HEAD.0]),
+            source_mac: HEAD_MAC,
             dest_mac: MacAddress(ASndFrame::MULTICAST),
             ec_flag: false,
-            pr: PRFlag::PrioGenericRequest,
-            rs: RSFlag::new(0),
+            pr: PRFlag::default(),
+            rs: RSFlag::default(),
             nmt_state: NmtState::NmtOperational,
             static_error_bit_field: StaticErrorBitField::default(),
         };
         let mut frame = [0; 132];
         let n = self.head.answer(&fields, &mut frame)?;
-        let status = StatusResponse::deserialize(&frame[18..n])?;
-        let codes: Vec<String> = status
-            .entries
-            .map(|e| format!("{:04X}", e.error_code))
-            .collect();
-        let en = status.fields.en_flag as u8;
-        println!("head: answers, EN {en}, entries [{}]", codes.join(" "));
-        if fate.times() == 0 {
-            println!("          (lost)");
-        }
-        for _ in 0..fate.times() {
-            let read = match self.the_box.read(&frame[..n])? {
-                CollectorRead::Booked => "books it",
-                CollectorRead::Known => "knows it already",
-            };
-            println!("box:      reads it and {read}");
-        }
-        Ok(())
+        self.save(world)?;
+        world.send_to_box(&frame[..n])
     }
 }
 
-fn main() -> Result<(), Error> {
-    let mut line = Line {
-        head: Reporter::new(HEAD)?,
-        the_box: Collector::new(),
-    };
-    line.the_box.register(HEAD)?;
-    for code in [0x0A01, 0x0A02, 0x0A03, 0x0A04, 0x0A05] {
-        line.raise(code)?;
+/// Whether a cycle was ended by a power cut; any other end is passed on.
+fn was_cut(outcome: Outcome<()>) -> Outcome<bool> {
+    match outcome {
+        Ok(()) => Ok(false),
+        Err(cause) if cause.is::<PowerCut>() => Ok(true),
+        Err(cause) => Err(cause),
     }
+}
 
-    line.request(Arrives)?;
-    line.answer(IsLost)?;
-    line.request(Arrives)?;
-    line.answer(ArrivesTwice)?;
-    line.request(IsLost)?;
-    line.answer(Arrives)?;
-    line.raise(0x0A06)?;
-    line.request(ArrivesTwice)?;
-    line.answer(Arrives)?;
-    line.request(Arrives)?;
-    line.answer(Arrives)?;
-
-    println!("the list:");
-    loop {
-        match line.the_box.take(HEAD) {
-            Ok(entry) => println!("    node {HEAD}: {:04X}", entry.error_code),
-            Err(Error::NothingBooked) => return Ok(()),
-            Err(other) => return Err(other),
+/// Runs both ends; gives the number of power cuts and of accepted faults.
+fn run(world: &mut World) -> Outcome<(u64, u64)> {
+    let mut the_box = BoxHost::start(world)?;
+    let mut head = HeadHost::start(world)?;
+    let mut cuts = 0;
+    // When the line has become a good one, what is left needs at most as many exchanges as there
+    // are entries.
+    for cycle in 0..=CYCLES + 20 {
+        world.good_line = cycle >= CYCLES;
+        world.fuse = if world.good_line { 0 } else { world.below(20) };
+        if was_cut(the_box.cycle(world, cycle))? {
+            the_box = BoxHost::start(world)?;
+            cuts += 1;
+        }
+        world.fuse = if world.good_line { 0 } else { world.below(20) };
+        if was_cut(head.cycle(world, cycle))? {
+            head = HeadHost::start(world)?;
+            cuts += 1;
         }
     }
+    Ok((cuts, head.raised))
+}
+
+fn main() -> Outcome<()> {
+    let folder = std::env::temp_dir().join(format!("host_loop.{}", std::process::id()));
+    fs::create_dir(&folder)?;
+    let mut world = World {
+        number: 1,
+        fuse: 0,
+        good_line: false,
+        to_box: VecDeque::new(),
+        to_head: VecDeque::new(),
+        folder: folder.clone(),
+    };
+    let (cuts, raised) = run(&mut world)?;
+    let journal = fs::read(folder.join("journal"))?;
+    fs::remove_dir_all(folder)?;
+    let mut listed = Vec::new();
+    for record in journal[journal::START.len()..].chunks(journal::RECORD_LEN) {
+        listed.push(ErrorEntry::deserialize(&record[1..])?.error_code as u64);
+    }
+    assert_eq!(listed, (0..raised).collect::<Vec<_>>());
+    println!("{cuts} power cuts: {raised} faults were accepted, and each is listed once");
+    Ok(())
 }

@@ -1,7 +1,7 @@
 //! The managing node's side of error signaling (EPSG DS 301, 6.5): the box.
 use crate::codes::NmtState;
 use crate::ffi;
-use crate::frame::{ErrorEntry, MacAddress};
+use crate::frame::{ErrorEntry, MacAddress, SoAFlags};
 use crate::numbers::broken;
 use crate::types::{EPLVersion, NodeId};
 use crate::Error;
@@ -13,6 +13,17 @@ pub const COLLECTOR_LEN: usize = 5184;
 
 /// The managing node's side of error signaling, the box. For each of up to four registered heads it
 /// keeps what it has acknowledged, and a book of up to 64 error entries.
+///
+/// [What the theorem asks of a host](crate#what-the-theorem-asks-of-a-host) has three parts here:
+///
+/// - every frame of the host to a head carries [`flags`](Collector::flags), asked for as it leaves;
+/// - the state is saved, with the journal's length, after each call that has changed it and before
+///   the next frame leaves. A box that goes on from a state before a [`read`](Collector::read)
+///   whose request went out has lost that batch, which the head has closed, and takes the next one
+///   for known;
+/// - box and heads begin anew together. A new box takes a head's second batch, whose EN is 0, for
+///   known, and the batch is lost; a first one that the old box has handed out and not
+///   acknowledged, it books again, and it is listed twice.
 #[derive(PartialEq, Eq)]
 pub struct Collector(Box<[u8; COLLECTOR_LEN]>);
 
@@ -58,13 +69,23 @@ impl Collector {
     /// unless it is there already. Refused are what [`deserialize_frame`](crate::deserialize_frame)
     /// refuses (1 to 7), a frame that is no StatusResponse (10), one from a node that is not
     /// registered (11), a payload under 14 octets (1) or with an unknown state (5), and a new batch
-    /// with more entries than the book has free places (12), which the head sends again.
+    /// with more entries than the book has free places (12), which the head sends again. Where it
+    /// was booked, the state is saved before the next frame leaves.
     pub fn read(&mut self, buffer: &[u8]) -> Result<CollectorRead, Error> {
         Ok(match ffi::collector_read(&mut self.0, buffer)? {
             0 => CollectorRead::Known,
             1 => CollectorRead::Booked,
             other => broken("outcome", other.into()),
         })
+    }
+
+    /// The flags that every frame of the managing node to a head carries: EA in a PReq to it, EA
+    /// and ER in an SoA with it as target, whatever service is requested. They count at the moment
+    /// of sending: a frame that is built, and sent only after a later [`read`](Collector::read),
+    /// may close a batch that is not booked, which is then lost. Refused is a head that is not
+    /// registered (11): until it is, EA 0 and ER 0 lose nothing.
+    pub fn flags(&self, id: NodeId) -> Result<SoAFlags, Error> {
+        ffi::collector_flags(&self.0, id)
     }
 
     /// Writes the SoA, a whole frame of 60 octets, that asks a head for its StatusResponse and
@@ -85,7 +106,7 @@ impl Collector {
         Ok(ErrorEntry::of(&ffi::collector_take(&mut self.0, id)?))
     }
 
-    /// The octets of the state, to be kept.
+    /// The octets of the state, to be saved: they are of one [`VERSION`](crate::VERSION) alone.
     pub fn as_bytes(&self) -> &[u8; COLLECTOR_LEN] {
         &self.0
     }

@@ -40,12 +40,16 @@ pub enum Error {
     Full,
     /// 16: no entry is booked.
     NothingBooked,
+    /// 17: a journal is under 5 octets, and so has not its mark and its version.
+    NotAJournal,
+    /// 18: a journal's version is none that is known.
+    UnknownVersion,
     /// 19: the record has the mode of the terminator, or an ID that is not one of 1 to 239.
     RecordInvalid,
 }
 
 impl Error {
-    /// The number of the cause: 1 to 16, or 19. (17 and 18 are those of a journal that is listed.)
+    /// The number of the cause: 1 to 19.
     pub fn number(self) -> u8 {
         match self {
             Error::BufferTooShort => 1,
@@ -64,6 +68,8 @@ impl Error {
             Error::IdRegistered => 14,
             Error::Full => 15,
             Error::NothingBooked => 16,
+            Error::NotAJournal => 17,
+            Error::UnknownVersion => 18,
             Error::RecordInvalid => 19,
         }
     }
@@ -99,6 +105,8 @@ impl Error {
             14 => Error::IdRegistered,
             15 => Error::Full,
             16 => Error::NothingBooked,
+            17 => Error::NotAJournal,
+            18 => Error::UnknownVersion,
             19 => Error::RecordInvalid,
             _ => panic!("libpowerlink.a answers with {cause}, which is no cause"),
         })
@@ -133,6 +141,8 @@ impl fmt::Display for Error {
             Error::IdRegistered => write!(f, "node is registered already"),
             Error::Full => write!(f, "four nodes are registered"),
             Error::NothingBooked => write!(f, "no entry is booked"),
+            Error::NotAJournal => write!(f, "journal is shorter than its mark and version"),
+            Error::UnknownVersion => write!(f, "journal is of an unknown version"),
             Error::RecordInvalid => {
                 write!(
                     f,

@@ -6,12 +6,15 @@
 //! say. A pointer comes with the length of the slice that it is made of, or is a reference to a
 //! place of the declared size; borrows see to it that nothing else reaches what is written during a
 //! call. No function keeps a pointer, and none unwinds.
+//!
+//! The two `*_new` are linked by a name with the interface's number, [`VERSION`](crate::VERSION), so that an
+//! archive of another one does not link.
 use crate::codes::MessageType;
 use crate::collector::{RequestFields, COLLECTOR_LEN};
 use crate::error::Error;
 use crate::frame::{
-    ASndFrame, ErrorEntry, EthernetHeader, MacAddress, NewFrame, PReqFrame, PResFrame, SoAFrame,
-    SocFrame, StaticErrorBitField, StatusFields,
+    ASndFrame, ErrorEntry, EthernetHeader, MacAddress, NewFrame, PReqFrame, PResFrame, SoAFlags,
+    SoAFrame, SocFrame, StaticErrorBitField, StatusFields,
 };
 use crate::reporter::{AnswerFields, REPORTER_LEN};
 use crate::types::NodeId;
@@ -250,6 +253,7 @@ extern "C" {
         octet: &mut u8,
     ) -> u8;
 
+    #[link_name = "powerlink_reporter_new_v1"]
     fn powerlink_reporter_new(state: &mut [u8; REPORTER_LEN], id: u8) -> u8;
     fn powerlink_reporter_raise(
         state: &mut [u8; REPORTER_LEN],
@@ -283,7 +287,9 @@ extern "C" {
         outcome: &mut u8,
         octet: &mut u8,
     ) -> u8;
+    fn powerlink_reporter_en(state: &[u8; REPORTER_LEN], en: &mut bool) -> u8;
 
+    #[link_name = "powerlink_collector_new_v1"]
     fn powerlink_collector_new(state: &mut [u8; COLLECTOR_LEN]) -> u8;
     fn powerlink_collector_register(state: &mut [u8; COLLECTOR_LEN], id: u8) -> u8;
     fn powerlink_collector_read(
@@ -292,6 +298,12 @@ extern "C" {
         buffer_len: usize,
         outcome: &mut u8,
         octet: &mut u8,
+    ) -> u8;
+    fn powerlink_collector_flags(
+        state: &[u8; COLLECTOR_LEN],
+        id: u8,
+        ea: &mut bool,
+        er: &mut bool,
     ) -> u8;
     fn powerlink_collector_request(
         state: &[u8; COLLECTOR_LEN],
@@ -324,6 +336,7 @@ extern "C" {
         target_len: usize,
         written: &mut usize,
     ) -> u8;
+    fn powerlink_journal_whole_len(version: u16, len: usize, whole: &mut usize) -> u8;
 }
 
 /// Makes a call that writes and gives an octet where it refuses.
@@ -755,6 +768,15 @@ pub fn reporter_read(state: &mut [u8; REPORTER_LEN], buffer: &[u8]) -> Result<u8
     })
 }
 
+pub fn reporter_en(state: &[u8; REPORTER_LEN]) -> bool {
+    let mut en = false;
+    // It refuses nothing: the answer is always 0.
+    unsafe {
+        powerlink_reporter_en(state, &mut en);
+    }
+    en
+}
+
 pub fn collector_new(state: &mut [u8; COLLECTOR_LEN]) {
     // It refuses nothing: the answer is always 0.
     unsafe {
@@ -771,6 +793,12 @@ pub fn collector_register(state: &mut [u8; COLLECTOR_LEN], id: NodeId) -> Result
 pub fn collector_read(state: &mut [u8; COLLECTOR_LEN], buffer: &[u8]) -> Result<u8, Error> {
     reading(0, |outcome, octet| unsafe {
         powerlink_collector_read(state, buffer.as_ptr(), buffer.len(), outcome, octet)
+    })
+}
+
+pub fn collector_flags(state: &[u8; COLLECTOR_LEN], id: NodeId) -> Result<SoAFlags, Error> {
+    reading(SoAFlags::default(), |flags, _| unsafe {
+        powerlink_collector_flags(state, id.0, &mut flags.ea, &mut flags.er)
     })
 }
 
@@ -819,5 +847,11 @@ pub fn journal_record(id: NodeId, entry: &ErrorEntry, target: &mut [u8]) -> Resu
             target.len(),
             written,
         )
+    })
+}
+
+pub fn journal_whole_len(version: u16, len: usize) -> Result<usize, Error> {
+    reading(0, |whole, _| unsafe {
+        powerlink_journal_whole_len(version, len, whole)
     })
 }

@@ -1,6 +1,11 @@
 //! The journal that booked entries are kept in: [`START`], then a [`record`] for each entry. The
 //! program `journal` of this repository lists it as text.
 //!
+//! Over a power cut, the journal goes with the state of the box that its entries were taken from:
+//! its length is saved with the state, and after a restart it is cut to that length. Nothing is
+//! appended behind a torn record, since it and what follows would be listed as faults that nobody
+//! raised: [`whole_len`] is the length without it.
+//!
 //! ```
 //! use powerlink::*;
 //!
@@ -65,4 +70,20 @@ pub const RECORD_LEN: usize = 21;
 /// terminator's mode, or an ID that is not one of 1 to 239 (19).
 pub fn record(id: NodeId, entry: &ErrorEntry, target: &mut [u8]) -> Result<usize, Error> {
     ffi::journal_record(id, entry, target)
+}
+
+/// How much of a journal of `len` octets is whole: [`START`] and its records, without one that was
+/// cut short. Before anything is appended after a restart, the journal is cut to this length, or to
+/// a shorter one that was saved. Refused are under 5 octets (17), then a version other than 1 (18),
+/// which is the number in the journal's octets 3 and 4, low octet first.
+///
+/// ```
+/// use powerlink::{journal, Error};
+///
+/// assert_eq!(journal::whole_len(1, 5 + 21 + 9), Ok(5 + 21));
+/// assert_eq!(journal::whole_len(1, 4), Err(Error::NotAJournal));
+/// assert_eq!(journal::whole_len(2, 5), Err(Error::UnknownVersion));
+/// ```
+pub fn whole_len(version: u16, len: usize) -> Result<usize, Error> {
+    ffi::journal_whole_len(version, len)
 }

@@ -69,7 +69,46 @@
 //! # }
 //! ```
 //!
-//! What the box hands out goes into a [`journal`].
+//! What the box hands out goes into a [`journal`]. `examples/host_loop.rs` is a host that also sends
+//! its cyclic frames and outlasts power cuts.
+//!
+//! # What the theorem asks of a host
+//!
+//! No entry is lost and none listed twice, where head and box start fresh together and each goes on
+//! from its own last state, on a line where a repeat arrives before any later frame of the same
+//! sender. A batch is told from its repeat by one bit alone: EN of the head flips with each batch,
+//! and EA of the box is the EN of the last one that it has booked. What does not keep to this is
+//! lost or listed twice with no call refused. So:
+//!
+//! **Frames of the managing node.** Every PReq to a head and every SoA with it as target tells it
+//! EA, whatever the frame is for. It is [`Collector::flags`], of the moment of sending, and frames
+//! leave in the order in which they asked for it: none is built ahead. Before the head is
+//! registered, EA and ER are 0, which loses nothing.
+//!
+//! **Frames of a head.** Its StatusResponses come from [`Reporter::answer`] alone; its PRes has the
+//! EN of [`Reporter::en`].
+//!
+//! **Threads.** Both states are `Send` and `Sync`, and no call has a state of its own: separate
+//! states go on at the same time, and for one state `&mut` is the lock, or asks for one. Where it is
+//! shared, the lock is held until the frame is in its place in the order of sending. A cyclic task
+//! that may not wait for the lock sends all frames to the heads itself, and takes EA from a copy as
+//! each one leaves; the task that reads answers renews the copy after every [`Collector::read`], once
+//! the state is saved and before the next answer is read.
+//!
+//! **Restarts.** A state ([`Reporter::as_bytes`], [`Collector::as_bytes`]) is saved after each call
+//! that has changed it and before any later frame leaves, a head's before the answer itself leaves;
+//! whole, by a file written anew and renamed. A cycle that reads, saves and then sends does so. A
+//! fault is accepted once the state after its [`Reporter::raise`] is saved. What else happens is told
+//! at [`Reporter`] and [`Collector`]. Saved octets are of one [`VERSION`] alone.
+//!
+//! **The journal.** If the state is saved after the journal is written, a power cut between them
+//! lists an entry twice; if before, it loses one. So the journal's length is saved with the state, in
+//! one file: [`Collector::take`], append, flush the journal, save both. After a restart the journal
+//! is cut to the saved length, and what is cut off is still in the book. Where others read the
+//! journal as it grows, it is cut to [`journal::whole_len`] instead, and `take` is only called on a
+//! saved box: each record behind the saved length is then what the next `take` for its ID hands out,
+//! and is taken, compared and not appended again. To compare the last record without a length is
+//! not enough: of two equal entries, one would be lost.
 //!
 //! # Refusals
 //!
@@ -85,12 +124,10 @@
 //! `crates/*/specs/` say, and that in the exchange no error is lost and none listed twice. **This
 //! wrapper is not proved**, only tested: the declarations of the functions in `src/ffi.rs`, the
 //! conversions between their numbers and the types here, the tables of codes, `new`, and what is
-//! plain Rust. Neither is the compiler that made the archive. What the theorem of the exchange asks
-//! of its surroundings (head and box start fresh together and keep their states, and a repeat
-//! arrives before any later frame of the same sender) is up to the caller.
+//! plain Rust. Neither is the compiler that made the archive, nor what the host does.
 //!
-//! No call panics, unless the archive does not keep what its source promises, as one of another
-//! version may, or there is no memory to allocate: a [`Collector`] is boxed, and
+//! An archive of another [`VERSION`] does not link. No call panics, unless the archive does not keep
+//! what its source promises, or there is no memory to allocate: a [`Collector`] is boxed, and
 //! [`StatusFields::serialize`] gathers its entries.
 //!
 //! # For readers of powerlink-rs
@@ -126,6 +163,11 @@ pub mod journal;
 mod numbers;
 mod reporter;
 mod types;
+
+/// The number of the library's interface. It rises with each change of a function's parameters or of
+/// a state's length; an archive of another one does not link, and states that were saved with
+/// another one are not gone on from.
+pub const VERSION: u32 = 1;
 
 pub use codes::{
     ErrorEntryMode, MessageType, NmtState, PRFlag, RSFlag, RequestedServiceId, ServiceId,

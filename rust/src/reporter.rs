@@ -14,9 +14,15 @@ pub const REPORTER_LEN: usize = 408;
 /// in StatusResponses, batch by batch, and closes a batch once the managing node has acknowledged
 /// it.
 ///
-/// Head and box start fresh together. A head that is made anew while the box still knows the old
-/// one may have its first batch taken for known, and so may one of two that go on from a copy of
-/// the same octets: over a restart, keep [`as_bytes`](Reporter::as_bytes).
+/// [What the theorem asks of a host](crate#what-the-theorem-asks-of-a-host) has three parts here:
+///
+/// - the head's StatusResponses come from [`answer`](Reporter::answer) alone, and the EN of its PRes
+///   is [`en`](Reporter::en);
+/// - the state is saved after each call that has changed it and before the next frame leaves: after
+///   `answer`, before that answer leaves. A head that goes on from a state before an answer that was
+///   booked adds to the batch what is raised since; the box knows its EN, and what was added is lost;
+/// - head and box begin anew together. After an odd number of booked batches, the first batch of a
+///   new head has the EN that the box knows, and is lost.
 #[derive(PartialEq, Eq)]
 pub struct Reporter([u8; REPORTER_LEN]);
 
@@ -66,7 +72,8 @@ impl Reporter {
 
     /// Writes a StatusResponse, a whole frame, with the open batch: 60 octets without entries, else
     /// 52 and 20 for each of up to four. Where none is open and entries wait, the first four become
-    /// the open batch, and EN flips. A shorter target is refused (1), and then no batch opens.
+    /// the open batch, and EN flips. A shorter target is refused (1), and then no batch opens. The
+    /// state is saved before the answer leaves.
     pub fn answer(&mut self, fields: &AnswerFields, target: &mut [u8]) -> Result<usize, Error> {
         ffi::reporter_answer(&mut self.0, fields, target)
     }
@@ -82,7 +89,12 @@ impl Reporter {
         })
     }
 
-    /// The octets of the state, to be kept.
+    /// EN, exception new, which flips with each batch: that of this node's next PRes.
+    pub fn en(&self) -> bool {
+        ffi::reporter_en(&self.0)
+    }
+
+    /// The octets of the state, to be saved: they are of one [`VERSION`](crate::VERSION) alone.
     pub fn as_bytes(&self) -> &[u8; REPORTER_LEN] {
         &self.0
     }

@@ -2,7 +2,7 @@
 //! functions, with the same parameters in the same order, and states of the same length.
 use std::collections::BTreeMap;
 use std::fs;
-use std::path::PathBuf;
+use std::path::{Path, PathBuf};
 
 /// A function's parameters and its result, by its name.
 type Functions = BTreeMap<String, Vec<String>>;
@@ -36,6 +36,7 @@ fn declared(name: &str, kind: &str) -> String {
         "&[u8]" => format!("{name}: *const u8, {name}_len: usize"),
         "&mut [u8]" => format!("{name}: *mut u8, {name}_len: usize"),
         "&mut Reporter" => format!("{name}: &mut [u8; REPORTER_LEN]"),
+        "&Reporter" => format!("{name}: &[u8; REPORTER_LEN]"),
         "&mut Collector" => format!("{name}: &mut [u8; COLLECTOR_LEN]"),
         "&Collector" => format!("{name}: &[u8; COLLECTOR_LEN]"),
         _ => format!("{name}: {kind}"),
@@ -52,23 +53,55 @@ fn crates() -> Option<PathBuf> {
     None
 }
 
+/// What stands in the files of a crate's `src`, its `lib.rt` first.
+fn source(folder: &Path) -> String {
+    let mut files: Vec<PathBuf> = fs::read_dir(folder.join("src"))
+        .unwrap()
+        .map(|file| file.unwrap().path())
+        .filter(|path| path.extension().is_some_and(|extension| extension == "rt"))
+        .collect();
+    files.sort_by_key(|path| !path.ends_with("lib.rt"));
+    files
+        .iter()
+        .map(|path| fs::read_to_string(path).unwrap())
+        .collect()
+}
+
+/// Declarations under the names that they are linked by. Such a name is the function's own and the
+/// interface's number.
+fn as_linked(declarations: &str) -> String {
+    let mut pieces = declarations.split("#[link_name = \"");
+    let mut linked = pieces.next().unwrap_or_default().to_string();
+    for piece in pieces {
+        let (name, rest) = piece.split_once("\"]").expect("a name ends");
+        let own = format!(
+            "fn {}(",
+            name.trim_end_matches(&format!("_v{}", powerlink::VERSION))
+        );
+        let (_, rest) = rest
+            .split_once(&own)
+            .unwrap_or_else(|| panic!("{name} is not the name of the function behind it"));
+        linked += &format!("fn {name}({rest}");
+    }
+    linked
+}
+
 #[test]
 fn declarations_are_those_of_the_source() {
     let Some(crates) = crates() else {
         return;
     };
-    let mut source = String::new();
-    for file in fs::read_dir(crates.join("powerlink/src")).unwrap() {
-        let path = file.unwrap().path();
-        if path.extension().is_some_and(|extension| extension == "rt") {
-            source += &fs::read_to_string(path).unwrap();
-        }
-    }
-    let theirs = functions(&source, "pub extern \"C\" fn ", declared);
+    let theirs = functions(
+        &source(&crates.join("powerlink")),
+        "pub extern \"C\" fn ",
+        declared,
+    );
     let ours = include_str!("../src/ffi.rs");
     let ours = ours.split_once("extern \"C\" {").expect("declarations").1;
     let ours = ours.split_once("\n}\n").expect("their end").0;
-    let ours = functions(ours, "fn ", |name, kind| format!("{name}: {kind}"));
+    let ours = functions(&as_linked(ours), "fn ", |name, kind| {
+        format!("{name}: {kind}")
+    });
 
     assert!(
         ours.len() > 30,
@@ -88,12 +121,12 @@ fn declarations_are_those_of_the_source() {
 
 /// The value of a constant that is a sum of products of numbers and constants.
 fn constant(text: &str, name: &str) -> usize {
-    let start = format!("const {name}: usize = ");
-    let value = text
-        .split_once(&start)
-        .unwrap_or_else(|| panic!("no {name}"))
-        .1;
-    let value = value.split_once(';').expect("a constant ends").0;
+    let (_, rest) = text
+        .split_once(&format!("const {name}: "))
+        .unwrap_or_else(|| panic!("no {name}"));
+    let (_, rest) = rest.split_once(" = ").expect("a constant has a value");
+    let (value, _) = rest.split_once(';').expect("a constant ends");
+    let value = value.replace(['(', ')'], "").replace(" as usize", "");
     value
         .split('+')
         .map(|product| {
@@ -113,7 +146,7 @@ fn states_and_records_are_as_long_as_in_the_source() {
     let Some(crates) = crates() else {
         return;
     };
-    let read = |name| fs::read_to_string(crates.join(name).join("src/lib.rt")).unwrap();
+    let read = |name| source(&crates.join(name));
     let records = read("records");
     let reporter = constant(&(read("reporter") + &records), "REPORTER_LEN");
     assert_eq!(powerlink::REPORTER_LEN, reporter);
@@ -121,4 +154,18 @@ fn states_and_records_are_as_long_as_in_the_source() {
     assert_eq!(powerlink::COLLECTOR_LEN, collector);
     let record = constant(&read("journal_records"), "RECORD_LEN");
     assert_eq!(powerlink::journal::RECORD_LEN, record);
+}
+
+/// Header and crate are of one version: what is saved by a program in C, one in Rust goes on from.
+#[test]
+fn the_version_is_that_of_the_header() {
+    let Some(crates) = crates() else {
+        return;
+    };
+    let header = fs::read_to_string(crates.join("../include/powerlink.h")).unwrap();
+    let version = format!("\n#define POWERLINK_VERSION {}\n", powerlink::VERSION);
+    assert!(
+        header.contains(&version),
+        "the header is of another version"
+    );
 }

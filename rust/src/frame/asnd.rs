@@ -20,7 +20,8 @@ impl ASndFrame {
     /// The address of an ASnd to all nodes; `new` takes any.
     pub const MULTICAST: [u8; 6] = C_DLL_MULTICAST_ASND;
 
-    /// An ASnd with all addresses and IDs given.
+    /// An ASnd with all addresses and IDs given. The StatusResponse of a head is not made here, but
+    /// by [`Reporter::answer`](crate::Reporter::answer) alone.
     pub fn new(
         source_mac: MacAddress,
         dest_mac: MacAddress,

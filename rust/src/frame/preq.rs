@@ -9,7 +9,9 @@ use crate::Error;
 pub struct PReqFlags {
     /// Multiplexed slot.
     pub ms: bool,
-    /// Exception acknowledge.
+    /// Exception acknowledge. From the managing node it is that of
+    /// [`Collector::flags`](crate::Collector::flags) at the moment of sending: any other may close a
+    /// batch that is not booked, and its entries are lost.
     pub ea: bool,
     /// Ready: the payload is valid.
     pub rd: bool,
@@ -32,7 +34,8 @@ pub struct PReqFrame {
 
 impl PReqFrame {
     /// A PReq from the managing node to one controlled node. Its size is the payload's length
-    /// modulo 65,536.
+    /// modulo 65,536. The EA in its flags is that of [`Collector::flags`](crate::Collector::flags)
+    /// when it is sent.
     pub fn new(
         source_mac: MacAddress,
         dest_mac: MacAddress,

@@ -10,7 +10,7 @@ use crate::Error;
 pub struct PResFlags {
     /// Multiplexed slot.
     pub ms: bool,
-    /// Exception new.
+    /// Exception new: that of [`Reporter::en`](crate::Reporter::en).
     pub en: bool,
     /// Ready: the payload is valid.
     pub rd: bool,

@@ -10,9 +10,11 @@ use crate::Error;
 /// The flags of an SoA (EPSG DS 301, Table 22).
 #[derive(Debug, Clone, Copy, PartialEq, Eq, Hash, Default)]
 pub struct SoAFlags {
-    /// Exception acknowledge.
+    /// Exception acknowledge. From the managing node it is that of
+    /// [`Collector::flags`](crate::Collector::flags) for the target, at the moment of sending: any
+    /// other may close a batch that is not booked, and its entries are lost.
     pub ea: bool,
-    /// Exception reset.
+    /// Exception reset, of the same `flags`.
     pub er: bool,
 }
 
@@ -39,7 +41,8 @@ impl SoAFrame {
     /// The address that an SoA is sent to.
     pub const MULTICAST: [u8; 6] = C_DLL_MULTICAST_SOA;
 
-    /// An SoA from the managing node to all nodes.
+    /// An SoA from the managing node to all nodes. Whatever service it requests, its flags are
+    /// [`Collector::flags`](crate::Collector::flags) of the target when it is sent.
     pub fn new(
         source_mac: MacAddress,
         nmt_state: NmtState,

@@ -65,6 +65,10 @@ impl StatusFields {
     /// Writes the payload of a StatusResponse with these entries and the terminator: 34 octets and
     /// 20 for each entry, or a refusal of a shorter target (1). Who reads an entry with the
     /// terminator's mode stops there.
+    ///
+    /// Not for a node that has a [`Reporter`](crate::Reporter): an EN that its
+    /// [`answer`](crate::Reporter::answer) did not write makes its next batch known to the box, and
+    /// its entries are lost.
     pub fn serialize(&self, entries: &[ErrorEntry], target: &mut [u8]) -> Result<usize, Error> {
         let mut octets = vec![0; ErrorEntry::LEN * entries.len()];
         for (entry, place) in entries.iter().zip(octets.chunks_exact_mut(ErrorEntry::LEN)) {

@@ -1,5 +1,8 @@
 //! The exchange between heads and box.
-use crate::{answer, answer_fields, entry, framed, request, request_fields, Numbers};
+use crate::{
+    answer, answer_fields, entry, framed, ident_request, preq, request, request_fields, Direction,
+    Numbers,
+};
 use powerlink::*;
 
 const HEAD: NodeId = NodeId(7);
@@ -212,26 +215,7 @@ fn heads_are_kept_apart() {
     }
 }
 
-/// One direction of a line: frames arrive in the order of sending; any may be skipped, late or
-/// repeated.
-#[derive(Default)]
-struct Direction {
-    sent: Vec<Vec<u8>>,
-    next: usize,
-}
-
-impl Direction {
-    /// A frame that arrives now, if one does.
-    fn arrives(&mut self, numbers: &mut Numbers) -> Option<&[u8]> {
-        self.next += numbers.below(3) as usize;
-        if self.sent.len() < self.next + 1 {
-            self.next = self.sent.len().saturating_sub(1);
-        }
-        self.sent.get(self.next).map(Vec::as_slice)
-    }
-}
-
-/// Whatever the line does: what the box has handed out is the front of what was raised, and all of
+/// Whatever the line does, and whichever frames the host sends with the box's flags: what the box has handed out is the front of what was raised, and all of
 /// it in the end.
 #[test]
 fn nothing_lost_and_nothing_twice() {
@@ -244,7 +228,7 @@ fn nothing_lost_and_nothing_twice() {
         let mut raised = Vec::new();
         let mut taken = Vec::new();
         for code in 0..2_000 {
-            match numbers.below(6) {
+            match numbers.below(10) {
                 0 => match head.raise(&entry(code)) {
                     Ok(()) => raised.push(code),
                     Err(cause) => assert_eq!(cause, Error::QueueFull),
@@ -259,10 +243,16 @@ fn nothing_lost_and_nothing_twice() {
                         }
                     }
                 }
-                4 => {
+                4..=6 => {
                     if let Some(frame) = requests.arrives(&mut numbers) {
                         assert!(head.read(frame).is_ok());
                     }
+                }
+                // The host's own frames, with the flags of the moment of sending.
+                7 => requests.sent.push(preq(7, the_box.flags(HEAD).unwrap().ea)),
+                8 => {
+                    let flags = the_box.flags(HEAD).unwrap();
+                    requests.sent.push(ident_request(7, flags));
                 }
                 _ => match the_box.take(HEAD) {
                     Ok(handed) => taken.push(handed.error_code),

@@ -1,4 +1,5 @@
-//! Records of the journal, and the order of their tests: 1, then 19.
+//! Records of the journal, and the order of their tests: 1, then 19. How much of a journal is whole:
+//! 17, then 18.
 use crate::entry;
 use powerlink::*;
 
@@ -53,4 +54,21 @@ fn refused_records_change_nothing() {
 #[test]
 fn a_journal_starts_with_mark_and_version() {
     assert_eq!(journal::START, [0x50, 0x4C, 0x42, 0x01, 0x00]);
+}
+
+#[test]
+fn what_is_whole() {
+    for len in 0..200 {
+        for version in [0, 1, 2, 0x0100, 0xFFFF] {
+            let expected = match (len, version) {
+                (0..=4, _) => Err(Error::NotAJournal),
+                (_, 1) => Ok(len - (len - 5) % 21),
+                _ => Err(Error::UnknownVersion),
+            };
+            let whole = journal::whole_len(version, len);
+            assert_eq!(whole, expected, "version {version}, {len} octets");
+        }
+    }
+    let most = journal::whole_len(1, usize::MAX).unwrap();
+    assert_eq!(most, usize::MAX - (usize::MAX - 5) % 21);
 }

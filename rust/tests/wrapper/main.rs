@@ -5,6 +5,7 @@ mod conversions;
 mod errors;
 mod exchange;
 mod frames;
+mod hosts;
 mod journals;
 mod states;
 mod status;
@@ -69,12 +70,64 @@ pub fn request(the_box: &Collector, id: u8) -> Vec<u8> {
     frame
 }
 
+/// A PReq of the host to a head, with this EA.
+pub fn preq(id: u8, ea: bool) -> Vec<u8> {
+    let flags = PReqFlags {
+        ea,
+        ..PReqFlags::default()
+    };
+    let (from, to) = (
+        MacAddress([2, 0, 0, 0, 0, 240]),
+        MacAddress([2, 0, 0, 0, 0, id]),
+    );
+    let mut frame = vec![0xEE; 60];
+    PReqFrame::new(from, to, NodeId(id), flags, PDOVersion(0), &[])
+        .write_frame(&mut frame)
+        .unwrap();
+    frame
+}
+
+/// An SoA of the host that asks a head who it is, with these flags.
+pub fn ident_request(id: u8, flags: SoAFlags) -> Vec<u8> {
+    let mut frame = vec![0xEE; 60];
+    SoAFrame::new(
+        MacAddress([2, 0, 0, 0, 0, 240]),
+        NmtState::NmtOperational,
+        flags,
+        RequestedServiceId::IdentRequest,
+        NodeId(id),
+        EPLVersion(0x20),
+    )
+    .write_frame(&mut frame)
+    .unwrap();
+    frame
+}
+
 /// A section with a POWERLINK Ethernet header in front.
 pub fn framed(section: &[u8]) -> Vec<u8> {
     let mut frame = vec![0; 12];
     frame.extend([0x88, 0xAB]);
     frame.extend(section);
     frame
+}
+
+/// One direction of a line: frames arrive in the order of sending; any may be skipped, late or
+/// repeated.
+#[derive(Default)]
+pub struct Direction {
+    pub sent: Vec<Vec<u8>>,
+    next: usize,
+}
+
+impl Direction {
+    /// A frame that arrives now, if one does.
+    pub fn arrives(&mut self, numbers: &mut Numbers) -> Option<&[u8]> {
+        self.next += numbers.below(3) as usize;
+        if self.sent.len() < self.next + 1 {
+            self.next = self.sent.len().saturating_sub(1);
+        }
+        self.sent.get(self.next).map(Vec::as_slice)
+    }
 }
 
 /// Numbers that look random, the same in every run.

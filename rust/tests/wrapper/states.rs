@@ -45,6 +45,14 @@ fn fresh_states_are_equal() {
     );
 }
 
+/// Threads: a state goes to another one, and may be read from several.
+#[test]
+fn states_are_send_and_sync() {
+    fn both<T: Send + Sync>() {}
+    both::<Reporter>();
+    both::<Collector>();
+}
+
 /// Every pattern is a state: each call ends in one of its answers.
 #[test]
 fn any_octets_are_a_state() {
@@ -64,6 +72,8 @@ fn any_octets_are_a_state() {
         let n = head.answer(&answer_fields(7), &mut frame).unwrap();
         assert!([60, 72, 92, 112, 132].contains(&n), "{n}");
         let frame = &frame[..n];
+        let status = StatusResponse::deserialize(&frame[18..]).unwrap();
+        assert_eq!(head.en(), status.fields.en_flag);
         let heard = head.read(&request(&the_box, 7));
         assert!(heard.is_ok(), "{heard:?}");
 
@@ -76,12 +86,15 @@ fn any_octets_are_a_state() {
             let requested = any_box.request(NodeId(id), &request_fields(), &mut target);
             if taken == Err(Error::NotRegistered) {
                 assert_eq!(requested, Err(Error::NotRegistered));
+                assert_eq!(any_box.flags(NodeId(id)), Err(Error::NotRegistered));
             } else {
                 assert!(
                     matches!(taken, Ok(_) | Err(Error::NothingBooked)),
                     "{taken:?}"
                 );
                 assert_eq!(requested, Ok(60));
+                let soa = deserialize_frame(&target).unwrap().frame.into_soa();
+                assert_eq!(any_box.flags(NodeId(id)), Ok(soa.unwrap().flags));
             }
         }
         let read = any_box.read(frame);
