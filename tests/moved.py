@@ -22,6 +22,7 @@ from sources import bare, declarations, functions
 KINDS = ['definitions', 'public contracts', 'other contracts', 'proofs']
 STATES = ['added', 'changed', 'removed', 'moved', 'stayed']
 CITED = re.compile(r'ghost use Rattle·(\w+?)(?:·specs)?\.specs\.(\w[\w.]*)\.\{([^}]*)\}')
+GATE = re.compile(r'^in all (\d+) s, (\d+) s of processor time$', re.M)
 WORD = re.compile(r'[^\s(){},.;⌜⌝«»]+')
 
 
@@ -159,17 +160,19 @@ def report(old, new, whole):
 
 
 def seconds(log):
-    """The seconds of each crate in a gate's log: of its proof and of its edits."""
+    """The seconds of each crate in a gate's log, of its proof and of its edits; and of the gate, with those of the processors."""
     command = [pathlib.Path(__file__).parent / 'seconds.sh', log]
-    lines = subprocess.run(command, capture_output=True, text=True, check=True).stdout.splitlines()
-    return {words[1]: (int(words[2]), int(words[3])) for words in map(str.split, lines) if words[0] == 'seconds'}
+    lines = subprocess.run(command, capture_output=True, text=True, check=True).stdout
+    found = re.findall(r'^seconds (\w+) (\d+) (\d+)$', lines, re.M)
+    found += [('gate', *pair) for pair in GATE.findall(pathlib.Path(log).read_text(encoding='utf-8', errors='replace'))]
+    return {name: pair for name, *pair in found}
 
 
 def times(before, after):
-    yield 'seconds, before and after: proof; edits'
-    for crate in sorted(before.keys() | after.keys(), key=lambda name: (name == 'all', name)):
-        pairs = zip(before.get(crate, ('-', '-')), after.get(crate, ('-', '-')))
-        yield f'  {crate}: ' + '; '.join(f'{was} -> {now}' for was, now in pairs)
+    yield 'seconds, before and after: proof; edits (of the gate: time; processor time)'
+    for name in sorted(before.keys() | after.keys(), key=lambda name: (name in ('all', 'gate'), name)):
+        pairs = zip(before.get(name, '--'), after.get(name, '--'))
+        yield f'  {name}: ' + '; '.join(f'{was} -> {now}' for was, now in pairs)
 
 
 def main():

@@ -70,8 +70,8 @@ CHANGES = {
     'a/proofs/Laws.antt': [('high', 'upper')],
 }
 LOGS = [
-    'rt: a proved (12 s)\nrt: must-fail a/wrong: refused, as it must be (first at proofs/Laws.antt:1:1; 3 s)\n',
-    "rt: a proved (5 s)\nrt: a ran as nobody, and wrote what its file 'stdout' has (1 s)\nrt: must-fail a/wrong: refused, as it must be (2 s)\n",
+    'rt: a proved (12 s)\nrt: must-fail a/wrong: refused, as it must be (first at proofs/Laws.antt:1:1; 3 s)\nin all 20 s, 30 s of processor time\n',
+    "rt: a proved (5 s)\nrt: a ran as nobody, and wrote what its file 'stdout' has (1 s)\nrt: must-fail a/wrong: refused, as it must be (2 s)\nin all 9 s, 12 s of processor time\n",
 ]
 EXPECTED = """\
 a
@@ -91,9 +91,10 @@ all definitions: 0 added, 2 changed, 0 removed, 1 moved, 2 stayed
 all public contracts: 0 added, 1 changed, 0 removed, 0 moved, 1 stayed
 all other contracts: 0 added, 1 changed, 0 removed, 0 moved, 0 stayed
 all proofs: 1 added, 1 changed, 1 removed, 0 moved, 1 stayed
-seconds, before and after: proof; edits
+seconds, before and after: proof; edits (of the gate: time; processor time)
   a: 12 -> 6; 3 -> 2
   all: 12 -> 6; 3 -> 2
+  gate: 20 -> 9; 30 -> 12
 """
 
 
