@@ -15,8 +15,8 @@ def names(parameter):
 
 
 def speaks_of_result(clause):
-    binder, said = re.fullmatch(r'λ (\S+)\. (.*)', clause).groups()
-    return re.search(rf'(?<![\w.-]){re.escape(binder)}(?![\w-])', said)
+    result, _, said = clause.removeprefix('λ ').partition('. ')
+    return result != '_' and re.search(rf'(?<![\w.-]){re.escape(result)}(?![\w-])', said)
 
 
 def faults(function):
