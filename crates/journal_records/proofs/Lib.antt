@@ -8,3 +8,4 @@ pub mod Steps
 pub mod PartLaws
 pub mod InParts
 pub mod ReadBack
+pub mod Whole

@@ -71,7 +71,7 @@ module _ {node : NodeId} {e : ErrorEntry} {r : JournalAnswer} {n : ℕ} {target 
       by-tests true false h a = let z : _≡_ {A = ℕ} 0 1 = cc in let y : ⊥ = omega arith in absurd y
       by-tests false v h a = let z : _≡_ {A = ℕ} 0 1 = cc in let y : ⊥ = omega arith in absurd y
 
-  at-front : take n after ≡ recordBytes (node .0) e
+  pub at-front : take n after ≡ recordBytes (node .0) e
   at-front = rw (W .holds, w) (take-at (recordBytes (node .0) e) (drop n target) n (record-length (node .0) e ∙ sym (tested .1)))
 
 records-lines : {xs : List Recorded} {octets : List ℕ} → Journaled xs octets → lines version1 octets ≡ fieldsLines xs

@@ -4,3 +4,4 @@ pub mod Parts
 pub mod ReadBack
 pub mod Record
 pub mod Text
+pub mod Whole

@@ -1,6 +1,7 @@
 // The journal that booked error entries are kept in (01, "Journal"): writing its records, and listing them as text.
 ghost use mathlib.Core.Path.{_≡_};
 ghost use Rattle.journal_records.specs.Record.{WritesRecord, validRecord};
+ghost use Rattle.journal_records.specs.Whole.{TellsWhole};
 
 pub mod listing;
 mod text;
@@ -10,6 +11,9 @@ use types::C_ADR_MAX_CN_NODE_ID;
 use types::NodeId;
 use types::error_mode::ErrorEntryMode;
 
+// The octets of mark and version.
+pub const JOURNAL_START_LEN: usize = 5;
+
 // The octets of a record: the node ID, and the entry's 20.
 pub const RECORD_LEN: usize = 21;
 
@@ -18,6 +22,13 @@ pub enum JournalAnswer {
     BufferTooShort,
     // The entry's mode is that of a terminator, or the ID is not that of a controlled node.
     RecordInvalid,
+}
+
+pub enum WholeLenAnswer {
+    Whole(usize),
+    // Mark and version are not there.
+    TooShort,
+    UnknownVersion,
 }
 
 // Writes one record, if it fits and is one that listing takes.
@@ -53,4 +64,20 @@ fn valid(node: NodeId, entry: ErrorEntry) -> bool
         ErrorEntryMode::ErrorCleared => true,
         ErrorEntryMode::EventOccurred => true,
     }
+}
+
+// How many octets of a journal are its mark, its version and whole records. A writer that was stopped, by a power cut say, may
+// leave a record torn at the end: before anything is appended, the journal is cut to this length. Else the records behind the
+// torn one are read from a wrong place, and faults are listed that nobody raised.
+pub fn whole_len(version: u16, len: usize) -> WholeLenAnswer
+    ensures { λ r. ⌜ TellsWhole version len r ⌝ }
+{
+    if len < JOURNAL_START_LEN {
+        return WholeLenAnswer::TooShort;
+    }
+    if version != 1 {
+        return WholeLenAnswer::UnknownVersion;
+    }
+    let records = (len - JOURNAL_START_LEN) / RECORD_LEN;
+    WholeLenAnswer::Whole(JOURNAL_START_LEN + RECORD_LEN * records)
 }

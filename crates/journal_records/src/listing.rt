@@ -5,6 +5,7 @@ ghost use Prim.Native.Nat.{_≤_};
 ghost use lib.ListN.{length};
 ghost use Rattle.journal_records.specs.Parts.{Lists, Prints, refusal, headerStep, cutStep, recordStep, stepOf};
 ghost use Rattle.journal_records.specs.Listing.{marked};
+use crate::JOURNAL_START_LEN;
 use crate::RECORD_LEN;
 use crate::text::put_line;
 use crate::text::put_number;
@@ -14,9 +15,6 @@ use octets::little_endian::get_u16_le;
 use octets::slices::put;
 use octets::slices::tail;
 use types::NodeId;
-
-// The octets of mark and version.
-pub const HEADER_LEN: usize = 5;
 
 // The octets of the header's line.
 const HEADER_LINE_LEN: usize = 37;
@@ -88,7 +86,7 @@ fn step(phase: Phase, bytes: &[u8], last: bool, out: &mut [u8]) -> Part
 fn header(bytes: &[u8], last: bool, out: &mut [u8]) -> Part
     ensures { λ r. ⌜ Prints (headerStep (now (bytes .entry)) last) r (now (out .entry)) (now (out .exit)) ⌝ }
 {
-    if bytes.len() < HEADER_LEN {
+    if bytes.len() < JOURNAL_START_LEN {
         if last {
             return refuse(17, out);
         }
@@ -109,7 +107,7 @@ fn header(bytes: &[u8], last: bool, out: &mut [u8]) -> Part
     put(out, 0, b"node code mode profile sec nsec info\n");
     Part {
         phase: Phase::Records,
-        consumed: HEADER_LEN,
+        consumed: JOURNAL_START_LEN,
         written: HEADER_LINE_LEN,
     }
 }
