@@ -98,7 +98,7 @@ fn our_request(state: &CollectorState, id: u8, f: &RequestFields, target: &mut [
 impl ReporterPair {
     fn new(id: u8, waiting: usize, random: &mut Random) -> ReporterPair {
         let mut reporter = ReporterPair { ours: [0; REPORTER_LEN], theirs: Reporter::new(NodeId(id)).expect("an ID") };
-        assert_eq!(unsafe { powerlink_reporter_new(&mut reporter.ours, id) }, 0);
+        assert_eq!(unsafe { powerlink_reporter_new_v1(&mut reporter.ours, id) }, 0);
         for _ in 0..waiting {
             let entry = random.entry();
             assert_eq!((our_raise(&mut reporter.ours, &entry), reporter.theirs.raise(entry)), (0, Ok(())));
@@ -128,7 +128,7 @@ impl ReporterPair {
 impl CollectorPair {
     fn new(ids: &[u8]) -> CollectorPair {
         let mut both = CollectorPair { ours: [0xFC; COLLECTOR_LEN], theirs: Collector::new() };
-        unsafe { powerlink_collector_new(&mut both.ours) };
+        unsafe { powerlink_collector_new_v1(&mut both.ours) };
         for id in ids {
             let ours = unsafe { powerlink_collector_register(&mut both.ours, *id) };
             assert_eq!((ours, both.theirs.register(NodeId(*id))), (0, Ok(())));

@@ -38,13 +38,13 @@ unsafe extern "C" {
     pub fn powerlink_new_asnd(source_mac: &Mac, dest_mac: &Mac, target_node: u8, source: u8, service: u8, payload: *const u8,
         payload_len: usize, target: *mut u8, target_len: usize, written: &mut usize, octet: &mut u8) -> u8;
 
-    pub fn powerlink_reporter_new(state: &mut ReporterState, id: u8) -> u8;
+    pub fn powerlink_reporter_new_v1(state: &mut ReporterState, id: u8) -> u8;
     pub fn powerlink_reporter_raise(state: &mut ReporterState, status_entry: bool, send_to_queue: bool, mode: u8, profile: u16, code: u16,
         seconds: u32, nanoseconds: u32, information: u64) -> u8;
     pub fn powerlink_reporter_answer(state: &mut ReporterState, source_mac: &Mac, dest_mac: &Mac, ec: bool, pr: u8, rs: u8, nmt_state: u8,
         field: &[u8; 8], target: *mut u8, target_len: usize, written: &mut usize, octet: &mut u8) -> u8;
     pub fn powerlink_reporter_read(state: &mut ReporterState, buffer: *const u8, buffer_len: usize, outcome: &mut u8, octet: &mut u8) -> u8;
-    pub fn powerlink_collector_new(state: &mut CollectorState) -> u8;
+    pub fn powerlink_collector_new_v1(state: &mut CollectorState) -> u8;
     pub fn powerlink_collector_register(state: &mut CollectorState, id: u8) -> u8;
     pub fn powerlink_collector_read(state: &mut CollectorState, buffer: *const u8, buffer_len: usize, outcome: &mut u8, octet: &mut u8) -> u8;
     pub fn powerlink_collector_request(state: &CollectorState, id: u8, source_mac: &Mac, nmt_state: u8, epl_version: u8,

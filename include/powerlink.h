@@ -36,6 +36,15 @@ extern "C" {
 #define POWERLINK_ARRAY(n) restrict static n
 #endif
 
+/* ---- The version of this interface
+ *
+ * Each change of a function's parameters or of a state's length raises it. The functions that make a state carry it in
+ * the name that is linked: a program with the header of one version does not link with the archive of another, which
+ * would write past its arrays. A state that was saved is of one version only. */
+#define POWERLINK_VERSION 1
+#define powerlink_reporter_new powerlink_reporter_new_v1
+#define powerlink_collector_new powerlink_collector_new_v1
+
 /* ---- Lengths in octets */
 
 /* The states of a reporter and of a collector. */
@@ -99,8 +108,9 @@ enum {
     POWERLINK_ID_REGISTERED = 14,
     POWERLINK_FOUR_REGISTERED = 15,
     POWERLINK_NOTHING_BOOKED = 16,
+    POWERLINK_NOT_A_JOURNAL = 17,          /* a journal has under 5 octets; the program `journal`: or not its mark */
+    POWERLINK_UNKNOWN_VERSION = 18,        /* a journal's version is not 1 */
     POWERLINK_RECORD_INVALID = 19          /* a record has mode 0 or above 3, or an ID that is not 1 to 239 */
-    /* 17 and 18 are the program `journal`'s: a journal without its mark, and of another version */
 };
 
 /* ---- Codes */
@@ -552,6 +562,11 @@ uint8_t powerlink_reporter_read(
     const uint8_t *POWERLINK_RESTRICT buffer, size_t buffer_len,
     uint8_t *POWERLINK_RESTRICT outcome, uint8_t *POWERLINK_RESTRICT octet);
 
+/* Tells EN, which a PRes of this node carries too.
+ * Refuses nothing: the answer is always 0. */
+uint8_t powerlink_reporter_en(
+    const uint8_t state[POWERLINK_ARRAY(POWERLINK_REPORTER_LEN)], bool *POWERLINK_RESTRICT en);
+
 /* ---- A managing node that collects errors */
 
 /* Makes a fresh state, which is all zeros: no node is registered, and what is registered later stays so.
@@ -572,6 +587,14 @@ uint8_t powerlink_collector_read(
     uint8_t state[POWERLINK_ARRAY(POWERLINK_COLLECTOR_LEN)],
     const uint8_t *POWERLINK_RESTRICT buffer, size_t buffer_len,
     uint8_t *POWERLINK_RESTRICT outcome, uint8_t *POWERLINK_RESTRICT octet);
+
+/* Tells what every frame of the managing node to node `id` has to carry: EA in a PReq to it, EA and ER in an SoA with it
+ * as target. Any other EA may close a batch that is not booked, which is then lost. Until the node is registered (11),
+ * its host sends EA 0 and ER 0, which loses nothing.
+ * Tests: 11. Refused: nothing is written. */
+uint8_t powerlink_collector_flags(
+    const uint8_t state[POWERLINK_ARRAY(POWERLINK_COLLECTOR_LEN)], uint8_t id,
+    bool *POWERLINK_RESTRICT ea, bool *POWERLINK_RESTRICT er);
 
 /* Writes the SoA, 60 octets, that asks node `id` for its StatusResponse and acknowledges what is booked. `nmt_state` is
  * that of the managing node.
@@ -597,6 +620,12 @@ uint8_t powerlink_journal_record(
     uint8_t id, bool status_entry, bool send_to_queue, uint8_t mode, uint16_t profile, uint16_t code,
     uint32_t seconds, uint32_t nanoseconds, uint64_t information,
     uint8_t *POWERLINK_RESTRICT target, size_t target_len, size_t *POWERLINK_RESTRICT written);
+
+/* Tells how many of the `len` octets of a journal are its start and whole records; `version` is that of its start. What a
+ * power cut left of a record may stand behind them: cut the file to `whole` octets before anything is appended. Records
+ * behind a torn one are read from a wrong place, and list faults that nobody raised.
+ * Tests: 17, 18. Refused: nothing is written. */
+uint8_t powerlink_journal_whole_len(uint16_t version, size_t len, size_t *POWERLINK_RESTRICT whole);
 
 #ifdef __cplusplus
 }

@@ -5,12 +5,13 @@
 - Every declaration has a comment of its own. Its causes and their order are those of the contract: of a writer, as its
   definition in specs/Given.antt tests them; of any other call, as ORDERS has them. `octet` goes with those of 4 to 7.
   What else the comments say is not looked at.
+- The functions that make a state, and no others, have the interface's version, POWERLINK_VERSION, at the end of the name that
+  is linked, and a `#define` of their name without it.
 - Every constant has the value of its source, a `const` or a definition in specs/, and none is without a source; every
   code, cause, outcome and place of a value has its constant.
 It prints a line for each fault.
 """
 import functools
-import math
 import pathlib
 import re
 import sys
@@ -33,7 +34,7 @@ def code_of(crate):
 
 
 def constant(crate, name):
-    """The value of a constant: numbers, or sums and products of numbers and constants, or an array of them."""
+    """The value of a constant: sums and products of numbers and constants, with casts, or an array of them."""
     code = code_of(crate)
     found = re.search(rf'\bconst {name}: [^=]*= ([^;]+);', code)
     if not found:
@@ -45,10 +46,8 @@ def constant(crate, name):
 
 
 def value_of(crate, text):
-    def factor(word):
-        return int(word, 0) if word[0].isdigit() else constant(crate, word)
-
-    return sum(math.prod(factor(word.strip()) for word in product.split('*')) for product in text.split('+'))
+    numbers = re.sub(r'\b[A-Z]\w*', lambda name: str(constant(crate, name[0])), re.sub(r' as \w+', '', text))
+    return eval(numbers, {'__builtins__': {}})
 
 
 def equations(text, function):
@@ -73,9 +72,9 @@ def snake(name):
 CONSTANTS = {
     'REPORTER_LEN': ('reporter', 'REPORTER_LEN'),
     'COLLECTOR_LEN': ('collector', 'COLLECTOR_LEN'),
-    'ENTRY_LEN': ('records', 'RECORD_LEN'),
+    'ENTRY_LEN': ('records', 'ENTRY_LEN'),
     'RECORD_LEN': ('journal_records', 'RECORD_LEN'),
-    'JOURNAL_START_LEN': ('journal_records', 'HEADER_LEN'),
+    'JOURNAL_START_LEN': ('journal_records', 'JOURNAL_START_LEN'),
     'ETHER_TYPE': ('types', 'C_DLL_ETHERTYPE_EPL'),
     'MULTICAST_SOC': ('types', 'C_DLL_MULTICAST_SOC'),
     'MULTICAST_PRES': ('types', 'C_DLL_MULTICAST_PRES'),
@@ -103,9 +102,11 @@ CAUSES = [
     ('reporter/specs/Rules.antt', 'raiseCause'),
     ('collector/specs/Rules.antt', 'registerCause'),
     ('collector/specs/Rules.antt', 'readCause'),
+    ('collector/specs/Rules.antt', 'flagsCause'),
     ('collector/specs/Rules.antt', 'requestCause'),
     ('collector/specs/Rules.antt', 'takeCause'),
     ('journal_records/specs/Record.antt', 'journalCause'),
+    ('journal_records/specs/Whole.antt', 'wholeLenCause'),
 ]
 CAUSE_NAMES = {
     'BufferTooShort': 'TOO_SHORT',
@@ -116,6 +117,7 @@ CAUSE_NAMES = {
     'InvalidServiceId': 'UNKNOWN_SERVICE',
     'InvalidRequestedServiceId': 'UNKNOWN_REQUEST',
     'Full': 'FOUR_REGISTERED',
+    'TooShort': 'NOT_A_JOURNAL',
 }
 
 # Lists of values: the definition, and what its constants begin with. What all kinds of frames share has no kind.
@@ -148,8 +150,11 @@ FIELD_NAMES = {
 def causes():
     yield 'DONE', 0
     for path, function in CAUSES:
-        for variant, value in equations(text_of(path), function):
-            if (found := re.match(r'row (\d+) ', value)) and int(found[1]):
+        text = text_of(path)
+        for variant, value in equations(text, function):
+            # A row, or the name of one.
+            found = re.match(r'row (\d+) ', value) or re.search(rf'^{re.escape(value)} = row (\d+) ', text, re.M)
+            if found and int(found[1]):
                 yield CAUSE_NAMES.get(variant, snake(variant)), int(found[1])
 
 
@@ -177,7 +182,7 @@ def lengths():
     yield 'REQUEST_LEN', int(request[1])
     rules = text_of('reporter/specs/Rules.antt')
     front, entry = re.search(r'^answerLength \(suc n\) = (\d+) \+ (\d+) \* suc n$', rules, re.M).groups()
-    batch = re.search(r'take (\d+) \(h \.waiting\)', rules)
+    batch = re.search(r'^batchLength = (\d+)$', rules, re.M)
     yield 'ANSWER_MAX', int(front) + int(entry) * int(batch[1])
     start = items(text_of('journal_records/specs/ReadBack.antt'), 'journalStart')
     yield 'JOURNAL_START', [int(octet) for octet in start]
@@ -201,9 +206,12 @@ EXPORTED = re.compile(
 # The causes of a contract, in the order of their tests (01: "Causes"); those of `deserialize_frame` are said in words.
 ORDERS = {
     'WritesTo': [1], 'EthRead': [1], 'PlRead': [1, 4], 'StatusRead': [1, 5], 'FieldRead': [1], 'EntryRead': [1], 'StepRead': [],
-    'ReporterMakes': [13], 'ReporterRaises': [8, 9], 'ReporterAnswers': [1, 5], 'CollectorMakes': [],
-    'CollectorRegisters': [13, 14, 15], 'CollectorRequests': [11, 1, 5], 'CollectorTakes': [11, 16], 'JournalRecords': [1, 19],
+    'ReporterMakes': [13], 'ReporterRaises': [8, 9], 'ReporterAnswers': [1, 5], 'ReporterEn': [], 'CollectorMakes': [],
+    'CollectorRegisters': [13, 14, 15], 'CollectorFlags': [11], 'CollectorRequests': [11, 1, 5], 'CollectorTakes': [11, 16],
+    'JournalRecords': [1, 19], 'JournalWhole': [17, 18],
 }
+# The contracts of the functions that make a state.
+MAKERS = {'ReporterMakes', 'CollectorMakes'}
 NAMED = {'typed': 4, 'stated': 5, 'served': 6, 'requested': 7}
 
 
@@ -237,7 +245,8 @@ def as_c(name, kind, arrays):
 
 
 def exported():
-    """Each exported function of the sources with its parameters in C and its result, and what is wrong with its head."""
+    """Each exported function of the sources: its parameters in C and its result, whether its name is kept, its causes, and
+    whether it makes a state."""
     arrays = {}
     for crate in ('reporter', 'collector'):
         for name, length in re.findall(r'^pub type (\w+) = \[u8; (\w+)\];', code_of(crate), re.M):
@@ -246,7 +255,15 @@ def exported():
         found = []
         for parameter in filter(None, (' '.join(part.split()) for part in parameters.split(','))):
             found += as_c(*parameter.split(': ', 1), arrays)
-        yield name, (SCALARS[result], found), bool(mangled), order(contract, given)
+        yield name, (SCALARS[result], found), bool(mangled), order(contract, given), contract in MAKERS
+
+
+def versions():
+    """The interface's version, as each function that makes a state has it in its name."""
+    for name, *_, makes in exported():
+        found = re.search(r'_v(\d+)$', name)
+        if makes or found:
+            yield 'VERSION', int(found[1]) if found and makes else None
 
 
 # ---- the header
@@ -269,10 +286,13 @@ class Header:
             self.constants[name] = numbers if value[0] == '{' else numbers[0]
         # Whatever is named in another form than those read here, or named anew.
         self.faults += [f'{line.strip()}: not looked at' for line in re.findall(r'^#\s*undef.*$', bare, re.M)]
+        # The names that are linked, of functions that go by another.
+        self.linked = dict(re.findall(r'^#define (powerlink_\w+) (powerlink_\w+)$', bare, re.M))
         seen = {f'POWERLINK_{name}' for name in self.constants} | {'POWERLINK_H', 'POWERLINK_RESTRICT', 'POWERLINK_ARRAY'}
+        seen |= set(self.linked)
         self.used = set(re.findall(r'POWERLINK_ARRAY\(POWERLINK_(\w+)\)', bare))
         declared = re.findall(r'^(\w+) (powerlink_\w+)\(([^;]*)\);', bare, re.M)
-        self.functions = {name: (result, self.parameters(inside)) for result, name, inside in declared}
+        self.functions = {self.linked.get(name, name): (result, self.parameters(inside)) for result, name, inside in declared}
         words = re.findall(r'\bpowerlink_\w+|\bPOWERLINK_\w+', bare, re.I)
         self.faults += [f'{word} is in a form that is not read' for word in words if word not in seen and word not in self.functions]
 
@@ -284,18 +304,22 @@ class Header:
         return [' '.join(part.split()) for part in inside.split(',')]
 
     def comment(self, name):
-        """The comment that ends right before a declaration."""
+        """The comment that ends right before the declaration of a function, by the name that is linked."""
+        name = {linked: name for name, linked in self.linked.items()}.get(name, name)
         found = re.search(rf'/\*((?:(?!\*/).)*)\*/\s*\w+ {name}\(', self.text, re.S)
         return found[1] if found else ''
 
 
 def function_faults(header):
     there = {}
-    for name, signature, mangled, causes in exported():
+    for name, signature, mangled, causes, makes in exported():
         there[name] = signature
         tests, with_octet = told(header.comment(name))
         if causes is not None and (tests != causes or with_octet != [cause for cause in causes if 4 <= cause <= 7]):
             yield f'the comment of {name} has the causes {tests}, `octet` with {with_octet}; its contract has {causes}'
+        other = [word for word, linked in header.linked.items() if linked == name]
+        if other != ([re.sub(r'_v\d+$', '', name)] if makes else []):
+            yield f'{name} is called by {other or "this name"}'
         if not mangled:
             yield f'{name} is exported without #[no_mangle]'
         if name not in header.functions:
@@ -315,7 +339,7 @@ def function_faults(header):
 
 def constant_faults(header):
     wanted = {}
-    for name, value in [*causes(), *lengths(), *places(), *outcomes()]:
+    for name, value in [*causes(), *versions(), *lengths(), *places(), *outcomes()]:
         if wanted.setdefault(name, value) != value:
             yield f'POWERLINK_{name} would be {wanted[name]} and {value}'
         if name not in header.constants:

@@ -13,16 +13,17 @@ use Rattle.types.specs.declared.states.NmtStateAnswer.the-variants as state
 use Rattle.section.specs.Write.{writeAnswer, writeCause}
 use Rattle.section.specs.declared.WriteAnswer.{WriteAnswer}
 use Rattle.section.specs.declared.WriteAnswer.the-variants as write
-use Rattle.collector.specs.Calls.{Registers, Reads, Requests, Takes}
+use Rattle.collector.specs.Calls.{Registers, Reads, Flags, Requests, Takes}
 use Rattle.collector.specs.Layout.{boxOf, accountOf, registerBytes, readBytes, takeBytes}
-use Rattle.collector.specs.Rules.{Account, Same, isRegistered, registerCause, afterRegister, readCause, afterRead, requestFrame, asRequest, requestAnswer, requestCause, afterRequest, takeCause, afterTake}
+use Rattle.collector.specs.Rules.{Account, Same, isRegistered, registerCause, afterRegister, readCause, afterRead, flagsCause, requestFrame, asRequest, requestAnswer, requestCause, afterRequest, takeCause, afterTake}
+use Rattle.collector.specs.declared.FlagsAnswer.{FlagsAnswer}
 use Rattle.collector.specs.declared.ReadAnswer.{ReadAnswer}
 use Rattle.collector.specs.declared.RegisterAnswer.{RegisterAnswer}
 use Rattle.collector.specs.declared.RequestAnswer.{RequestAnswer}
 use Rattle.collector.specs.declared.RequestFields.{RequestFields}
 use Rattle.collector.specs.declared.TakeAnswer.{TakeAnswer}
 use Rattle.numbers.specs.Answers.{lengthAfter, octetAfter, unnamedAnswer}
-use Rattle.powerlink.specs.Collecting.{CollectorRegisters, bookOutcome, CollectorReads, requestWriting, requestTold, requestTarget, requestLength, requestOctet, CollectorRequests, takenAfter, CollectorTakes}
+use Rattle.powerlink.specs.Collecting.{CollectorRegisters, bookOutcome, CollectorReads, eaAfter, erAfter, CollectorFlags, requestWriting, requestTold, requestTarget, requestLength, requestOctet, CollectorRequests, takenAfter, CollectorTakes}
 use Rattle.powerlink.specs.Given.{node}
 use Rattle.powerlink.specs.Writing.{unnamed, codedAnswer, WritesCoded}
 use Rattle.powerlink.proofs.Writers.{kept-octet, refuses-coded}
@@ -56,6 +57,15 @@ module _ (s s′ : List ℕ) where
         box = subst (λ (x : TakeAnswer). Same (boxOf s′) (afterTake x i (boxOf s))) (w .answer) (w .box);
         bytes = w .bytes ∙ ap (λ (x : TakeAnswer). takeBytes x i s) (w .answer);
       }
+
+pub flags-told : (s : List ℕ) (i r : ℕ) (a a′ e e′ : Bool) (f : FlagsAnswer) → Flags (node i) f s → r ≡ flagsCause f .number → a′ ≡ eaAfter f a
+    → e′ ≡ erAfter f e → CollectorFlags i r s a a′ e e′
+flags-told s i r a a′ e e′ f w er ea ee =
+    record {
+      cause = er ∙ ap (λ (x : FlagsAnswer). flagsCause x .number) (w .answer);
+      ea = ea ∙ ap (λ (x : FlagsAnswer). eaAfter x a) (w .answer);
+      er = ee ∙ ap (λ (x : FlagsAnswer). erAfter x e) (w .answer);
+    }
 
 -- ---- a request: a writer's answer tells the same as a request's
 

@@ -1,4 +1,4 @@
--- What a caller who writes a record of the journal is told, from what the writer promises.
+-- What a caller is told of the journal, from what the lower calls promise.
 -- Assumes nothing.
 use Prim.Native.Nat.{ℕ, _≤_, _<_}
 use mathlib.Core.Path.{_≡_, ap, _∙_}
@@ -11,8 +11,10 @@ use Rattle.types.specs.declared.error_mode.ErrorEntryModeAnswer.the-variants as
 use Rattle.error_entry.specs.declared.ErrorEntry.{ErrorEntry}
 use Rattle.journal_records.specs.Record.{recordBytes, journalCause, journalHolds, WritesRecord}
 use Rattle.journal_records.specs.declared.JournalAnswer.{JournalAnswer}
+use Rattle.journal_records.specs.Whole.{wholeLenCause, TellsWhole}
+use Rattle.journal_records.specs.declared.WholeLenAnswer.{WholeLenAnswer}
 use Rattle.powerlink.specs.Given.{node}
-use Rattle.powerlink.specs.Journal.{recordLength, RecordsBy}
+use Rattle.powerlink.specs.Journal.{recordLength, RecordsBy, wholeAfter, JournalWhole}
 
 module _ (i : ℕ) (e : ErrorEntryMode → ErrorEntry) (m : ErrorEntryModeAnswer) (t : List ℕ) (n : ℕ) where
   -- a mode that is none
@@ -30,3 +32,11 @@ module _ (i : ℕ) (e : ErrorEntryMode → ErrorEntry) (m : ErrorEntryModeAnswer
         target = w .holds ∙ ap (λ (x : JournalAnswer). journalHolds x (recordBytes i (e k)) t) (w .answer) ∙ rw q;
         written = en ∙ ap (λ (x : JournalAnswer). recordLength x n) (w .answer) ∙ rw q;
       }
+
+pub whole-told : (version len r n n′ : ℕ) (a : WholeLenAnswer) → TellsWhole version len a → r ≡ wholeLenCause a .number → n′ ≡ wholeAfter a n
+    → JournalWhole version len r n n′
+whole-told version len r n n′ a w er en =
+    record {
+      cause = er ∙ ap (λ (x : WholeLenAnswer). wholeLenCause x .number) (w .answer);
+      whole = en ∙ ap (λ (x : WholeLenAnswer). wholeAfter x n) (w .answer);
+    }

@@ -2,6 +2,7 @@
 -- out-parameters.
 -- Assumes nothing.
 use Prim.Native.Nat.{ℕ}
+use mathlib.Core.Bool.{Bool}
 use mathlib.Core.Path.{_≡_}
 use mathlib.Core.List.{List}
 use mathlib.Core.Option.{Option, none, some}
@@ -10,7 +11,9 @@ use Rattle.types.specs.States.{stateOf}
 use Rattle.types.specs.declared.states.NmtState.{NmtState}
 use Rattle.collector.specs.Calls.{Fresh}
 use Rattle.collector.specs.Layout.{boxOf, accountOf, registerBytes, readBytes, takeBytes}
-use Rattle.collector.specs.Rules.{Account, Same, registerAnswer, registerCause, afterRegister, readAnswer, readCause, afterRead, requestFrame, asRequest, requestCause, takeAnswer, takeCause, afterTake}
+use Rattle.collector.specs.Rules.{Account, Same, registerAnswer, registerCause, afterRegister, readAnswer, readCause, afterRead, flagsAnswer, flagsCause, requestFrame, asRequest, requestCause, takeAnswer, takeCause, afterTake}
+use Rattle.collector.specs.declared.FlagsAnswer.{FlagsAnswer}
+use Rattle.collector.specs.declared.FlagsAnswer.the-variants as flagging
 use Rattle.collector.specs.declared.ReadAnswer.{ReadAnswer}
 use Rattle.collector.specs.declared.ReadAnswer.the-variants.{Booked, Known, Refused, NotStatusResponse, NotRegistered, BookFull}
 use Rattle.collector.specs.declared.RequestAnswer.{RequestAnswer}
@@ -47,6 +50,19 @@ pub record CollectorReads (f : List ℕ) (r : ℕ) (s s′ : List ℕ) (k k′ o
   pub octet : o′ ≡ getD (readCause (readAnswer f (boxOf s)) .returned) 0 o
   pub box : Same (boxOf s′) (afterRead (readAnswer f (boxOf s)) f (boxOf s))
   pub bytes : s′ ≡ readBytes (readAnswer f (boxOf s)) f s
+
+abbrev pub eaAfter : FlagsAnswer → Bool → Bool
+eaAfter (flagging.Flags f) before = f .ea
+eaAfter flagging.NotRegistered before = before
+
+abbrev pub erAfter : FlagsAnswer → Bool → Bool
+erAfter (flagging.Flags f) before = f .er
+erAfter flagging.NotRegistered before = before
+
+pub record CollectorFlags (i r : ℕ) (s : List ℕ) (a a′ e e′ : Bool) : Type 0 where
+  pub cause : r ≡ flagsCause (flagsAnswer (accountOf s i)) .number
+  pub ea : a′ ≡ eaAfter (flagsAnswer (accountOf s i)) a
+  pub er : e′ ≡ erAfter (flagsAnswer (accountOf s i)) e
 
 -- the caller's fields of a request, but for the state
 abbrev pub requestFields : List ℕ → ℕ → NmtState → RequestFields

@@ -1,4 +1,4 @@
--- What writing a record of the journal leaves to a caller in C: 01's number, the target, and the length.
+-- What the calls of the journal leave to a caller in C: 01's number, the target of a record, and the lengths.
 -- Assumes nothing.
 use Prim.Native.Nat.{ℕ}
 use mathlib.Core.Bool.{Bool}
@@ -16,6 +16,9 @@ use Rattle.error_entry.specs.declared.ErrorEntry.{ErrorEntry}
 use Rattle.journal_records.specs.Record.{recordBytes, journalAnswer, journalCause, journalHolds}
 use Rattle.journal_records.specs.declared.JournalAnswer.{JournalAnswer}
 use Rattle.journal_records.specs.declared.JournalAnswer.the-variants.{Written, BufferTooShort, RecordInvalid}
+use Rattle.journal_records.specs.Whole.{wholeLen, wholeLenCause}
+use Rattle.journal_records.specs.declared.WholeLenAnswer.{WholeLenAnswer}
+use Rattle.journal_records.specs.declared.WholeLenAnswer.the-variants.{Whole, TooShort, UnknownVersion}
 use Rattle.powerlink.specs.Given.{entryWith}
 
 -- 1, then 19: a mode that is none is refused as mode 0 is
@@ -41,3 +44,12 @@ pub record RecordsBy (node : ℕ) (e : ErrorEntryMode → ErrorEntry) (m : Error
 abbrev pub JournalRecords : ℕ → Bool → Bool → ℕ → ℕ → ℕ → NetTime → ℕ → ℕ → List ℕ → List ℕ → ℕ → ℕ → Type 0
 JournalRecords node status queue mode profile code stamp information r t t′ n n′ =
     RecordsBy node (λ m. entryWith status queue m profile code stamp information) (modeOf mode) r t t′ n n′
+
+abbrev pub wholeAfter : WholeLenAnswer → ℕ → ℕ
+wholeAfter (Whole n) before = n
+wholeAfter TooShort before = before
+wholeAfter UnknownVersion before = before
+
+pub record JournalWhole (version len r n n′ : ℕ) : Type 0 where
+  pub cause : r ≡ wholeLenCause (wholeLen version len) .number
+  pub whole : n′ ≡ wholeAfter (wholeLen version len) n

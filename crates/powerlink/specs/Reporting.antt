@@ -79,6 +79,11 @@ pub record ReporterAnswers (f : NmtState → AnswerFields) (code r : ℕ) (s s�
   pub head : headOf s′ ≡ afterAnswer (codedAnswer (answerWriting f code (headOf s)) t) (headOf s)
   pub bytes : s′ ≡ answerBytes (codedAnswer (answerWriting f code (headOf s)) t) s
 
+-- the state is lent to be read: it stays
+pub record ReporterEn (r : ℕ) (s : List ℕ) (e′ : Bool) : Type 0 where
+  pub cause : r ≡ 0
+  pub en : e′ ≡ headOf s .en
+
 abbrev pub readOutcome : ReadAnswer → ℕ → ℕ
 readOutcome Ignored before = 0
 readOutcome Kept before = 1

@@ -1,11 +1,13 @@
 // The calls of a collector: the managing node's side of error signaling.
-ghost use Rattle.powerlink.specs.Collecting.{CollectorMakes, CollectorRegisters, CollectorReads, CollectorRequests, CollectorTakes, requestFields};
+ghost use Rattle.powerlink.specs.Collecting.{CollectorMakes, CollectorRegisters, CollectorReads, CollectorFlags, CollectorRequests, CollectorTakes, requestFields};
 use collector::Collector;
+use collector::FlagsAnswer;
 use collector::ReadAnswer;
 use collector::RegisterAnswer;
 use collector::RequestAnswer;
 use collector::RequestFields;
 use collector::TakeAnswer;
+use collector::flags;
 use collector::is_registered;
 use collector::new;
 use collector::read;
@@ -22,9 +24,9 @@ use types::hal::PowerlinkError;
 use types::states::NmtState;
 use types::states::NmtStateAnswer;
 
-// Makes a fresh state: no node is registered.
+// Makes a fresh state: no node is registered. The name carries the interface's version, as include/powerlink.h tells.
 #[no_mangle]
-pub extern "C" fn powerlink_collector_new(state: &mut Collector) -> u8
+pub extern "C" fn powerlink_collector_new_v1(state: &mut Collector) -> u8
     ensures { λ r. ⌜ CollectorMakes r (now (state .exit)) ⌝ }
 {
     new(state);
@@ -65,6 +67,27 @@ pub extern "C" fn powerlink_collector_read(
         }
         ReadAnswer::Booked => {
             *outcome = 1;
+            0
+        }
+    }
+}
+
+// What every frame of the managing node to a registered node has to carry: EA in a PReq to it, EA and ER in an SoA with it as
+// target.
+#[no_mangle]
+pub extern "C" fn powerlink_collector_flags(
+    state: &Collector,
+    id: u8,
+    ea: &mut bool,
+    er: &mut bool,
+) -> u8
+    ensures { λ r. ⌜ CollectorFlags id r (now (state .entry)) (now (ea .entry)) (now (ea .exit)) (now (er .entry)) (now (er .exit)) ⌝ }
+{
+    match flags(state, NodeId(id)) {
+        FlagsAnswer::NotRegistered => 11,
+        FlagsAnswer::Flags(f) => {
+            *ea = f.ea;
+            *er = f.er;
             0
         }
     }

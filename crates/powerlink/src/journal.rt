@@ -1,10 +1,12 @@
 // The journal of booked entries (01, "Journal").
 ghost use Rattle.powerlink.specs.Given.{time};
-ghost use Rattle.powerlink.specs.Journal.{JournalRecords};
+ghost use Rattle.powerlink.specs.Journal.{JournalRecords, JournalWhole};
 use error_entry::EntryType;
 use error_entry::ErrorEntry;
 use journal_records::JournalAnswer;
 use journal_records::RECORD_LEN;
+use journal_records::WholeLenAnswer;
+use journal_records::whole_len;
 use journal_records::write;
 use types::NodeId;
 use types::common::NetTime;
@@ -59,5 +61,20 @@ pub extern "C" fn powerlink_journal_record(
                 JournalAnswer::RecordInvalid => 19,
             }
         }
+    }
+}
+
+// How many octets of a journal are its mark, its version and whole records: what it is cut to before anything is appended.
+#[no_mangle]
+pub extern "C" fn powerlink_journal_whole_len(version: u16, len: usize, whole: &mut usize) -> u8
+    ensures { λ r. ⌜ JournalWhole version len r (now (whole .entry)) (now (whole .exit)) ⌝ }
+{
+    match whole_len(version, len) {
+        WholeLenAnswer::Whole(n) => {
+            *whole = n;
+            0
+        }
+        WholeLenAnswer::TooShort => 17,
+        WholeLenAnswer::UnknownVersion => 18,
     }
 }

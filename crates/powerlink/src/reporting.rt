@@ -1,6 +1,6 @@
 // The calls of a reporter: a controlled node's side of error signaling.
 ghost use Rattle.powerlink.specs.Given.{time};
-ghost use Rattle.powerlink.specs.Reporting.{ReporterMakes, ReporterRaises, ReporterAnswers, ReporterReads, answerFields};
+ghost use Rattle.powerlink.specs.Reporting.{ReporterMakes, ReporterRaises, ReporterAnswers, ReporterEn, ReporterReads, answerFields};
 use error_entry::EntryType;
 use error_entry::ErrorEntry;
 use numbers::answers::refusal;
@@ -28,9 +28,9 @@ use types::poll_flags::RSFlag;
 use types::states::NmtState;
 use types::states::NmtStateAnswer;
 
-// Makes a fresh state for a node.
+// Makes a fresh state for a node. The name carries the interface's version, as include/powerlink.h tells.
 #[no_mangle]
-pub extern "C" fn powerlink_reporter_new(state: &mut Reporter, id: u8) -> u8
+pub extern "C" fn powerlink_reporter_new_v1(state: &mut Reporter, id: u8) -> u8
     ensures { λ r. ⌜ ReporterMakes id r (now (state .entry)) (now (state .exit)) ⌝ }
 {
     match new(state, NodeId(id)) {
@@ -121,6 +121,15 @@ pub extern "C" fn powerlink_reporter_answer(
             written_or(answered, written)
         }
     }
+}
+
+// The EN that a PRes of this node carries.
+#[no_mangle]
+pub extern "C" fn powerlink_reporter_en(state: &Reporter, en: &mut bool) -> u8
+    ensures { λ r. ⌜ ReporterEn r (now (state .entry)) (now (en .exit)) ⌝ }
+{
+    *en = reporter::en(state);
+    0
 }
 
 // Reads a frame; the outcome is 0 where it is ignored, 1 where its EA closes nothing, and 2 where it closes the batch.

@@ -79,7 +79,7 @@ unsafe extern "C" {
         source_mac: *const u8, dest_mac: *const u8, target_node: u8, source: u8, service: u8, payload: *const u8,
         payload_len: usize, target: *mut u8, target_len: usize, written: *mut usize, octet: *mut u8,
     ) -> u8;
-    fn powerlink_collector_new(state: *mut u8) -> u8;
+    fn powerlink_collector_new_v1(state: *mut u8) -> u8;
     fn powerlink_collector_register(state: *mut u8, id: u8) -> u8;
     fn powerlink_collector_read(
         state: *mut u8, buffer: *const u8, len: usize, outcome: *mut u8, octet: *mut u8,
@@ -201,7 +201,7 @@ pub fn boxed(id: u8, frame: &[u8]) -> Boxed {
     let mut state = [0u8; COLLECTOR_LEN];
     let (mut outcome, mut octet) = (0xFF, 0);
     unsafe {
-        assert_eq!(powerlink_collector_new(state.as_mut_ptr()), 0);
+        assert_eq!(powerlink_collector_new_v1(state.as_mut_ptr()), 0);
         assert_eq!(powerlink_collector_register(state.as_mut_ptr(), id), 0);
         let before = state;
         let cause =
