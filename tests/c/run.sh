@@ -45,7 +45,8 @@ fi
 mkdir "$out/other"
 sed 's/_new_v1$/_new_v0/' include/powerlink.h > "$out/other/powerlink.h"
 for end in collector reporter; do
-    printf '%s\n' '#include "powerlink.h"' "int main(void) { return powerlink_${end}_new == 0; }" > "$out/pair.c"
+    printf '%s\n' '#include "powerlink.h"' 'static void (*volatile made)(void);' \
+        "int main(void) { made = (void (*)(void))powerlink_${end}_new; return made == 0; }" > "$out/pair.c"
     cc -std=c99 -Iinclude "$out/pair.c" "$lib" -o "$out/pair"
     if cc -std=c99 "-I$out/other" "$out/pair.c" "$lib" -o "$out/pair" 2> "$out/undefined"; then
         echo "tests/c: powerlink_${end}_new of another version links"
