@@ -520,8 +520,8 @@ uint8_t powerlink_new_asnd(
  *
  * Take and the journal. The state saved after the journal lists an entry twice if the power goes between them; the
  * state saved before it loses one. So the length of the journal is saved with the state, in one file: Take, append,
- * flush the journal, save both. After a restart the journal is cut to the saved length, and what is cut off is in the
- * book still. Where others read the journal as it grows, it is cut to powerlink_journal_whole_len instead, and Take is
+ * flush the journal, save both. After a restart the journal is cut to the saved length, and what is cut off, Take
+ * hands out again. Where others read the journal as it grows, it is cut to powerlink_journal_whole_len instead, and Take is
  * only called on a saved state: each record behind the saved length is then what the next Take for its ID hands out,
  * and is taken, compared and not appended again. (To compare the last record without a length is not enough: of two
  * equal entries one would be lost.)

@@ -104,7 +104,7 @@
 //! **The journal.** If the state is saved after the journal is written, a power cut between them
 //! lists an entry twice; if before, it loses one. So the journal's length is saved with the state, in
 //! one file: [`Collector::take`], append, flush the journal, save both. After a restart the journal
-//! is cut to the saved length, and what is cut off is still in the book. Where others read the
+//! is cut to the saved length, and what is cut off, `take` hands out again. Where others read the
 //! journal as it grows, it is cut to [`journal::whole_len`] instead, and `take` is only called on a
 //! saved box: each record behind the saved length is then what the next `take` for its ID hands out,
 //! and is taken, compared and not appended again. To compare the last record without a length is
