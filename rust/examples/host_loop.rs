@@ -81,8 +81,8 @@ impl World {
         Ok(())
     }
 
-    /// Writes a file anew and renames it: a power cut leaves the old one or the new one, whole. What
-    /// an end saves is its state and a number that must not get ahead of it, nor fall behind.
+    /// Writes a file anew and renames it: a power cut leaves the old one or the new one, whole.
+    /// What an end saves is its state and a number that must not get ahead of it, nor fall behind.
     fn save(&mut self, name: &str, state: &[u8], number: u64) -> Outcome<()> {
         self.burn()?;
         let new = self.folder.join("new");
@@ -132,7 +132,8 @@ impl BoxHost {
         })
     }
 
-    /// A new box goes on with the journal that is there, without a record that a power cut has torn.
+    /// A new box goes on with the journal that is there, without a record that a power cut has
+    /// torn.
     fn anew(world: &mut World, mut journal: File) -> Outcome<Self> {
         let mut journal_len = journal.metadata()?.len();
         match journal::whole_len(1, journal_len as usize) {
@@ -191,8 +192,8 @@ impl BoxHost {
         Ok(())
     }
 
-    /// EA is asked for when the frame is sent. Every frame to a head carries it, whatever else it is
-    /// for.
+    /// EA is asked for when the frame is sent. Every frame to a head carries it, whatever else it
+    /// is for.
     fn send(&self, world: &mut World, cycle: u64) -> Outcome<()> {
         let mut frame = [0; 60];
         let (now, since) = (NetTime::default(), RelativeTime(cycle));

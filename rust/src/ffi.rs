@@ -7,8 +7,8 @@
 //! place of the declared size; borrows see to it that nothing else reaches what is written during a
 //! call. No function keeps a pointer, and none unwinds.
 //!
-//! The two `*_new` are linked by a name with the interface's number, [`VERSION`](crate::VERSION), so that an
-//! archive of another one does not link.
+//! The two `*_new` are linked by a name with the interface's number, [`VERSION`](crate::VERSION),
+//! so that an archive of another one does not link.
 use crate::codes::MessageType;
 use crate::collector::{RequestFields, COLLECTOR_LEN};
 use crate::error::Error;

@@ -69,8 +69,8 @@
 //! # }
 //! ```
 //!
-//! What the box hands out goes into a [`journal`]. `examples/host_loop.rs` is a host that also sends
-//! its cyclic frames and outlasts power cuts.
+//! What the box hands out goes into a [`journal`]. `examples/host_loop.rs` is a host that also
+//! sends its cyclic frames and outlasts power cuts.
 //!
 //! # What the theorem asks of a host
 //!
@@ -89,33 +89,33 @@
 //! EN of [`Reporter::en`].
 //!
 //! **Threads.** Both states are `Send` and `Sync`, and no call has a state of its own: separate
-//! states go on at the same time, and for one state `&mut` is the lock, or asks for one. Where it is
-//! shared, the lock is held until the frame is in its place in the order of sending. A cyclic task
-//! that may not wait for the lock sends all frames to the heads itself, and takes EA from a copy as
-//! each one leaves; the task that reads answers renews the copy after every [`Collector::read`], once
-//! the state is saved and before the next answer is read.
+//! states go on at the same time, and for one state `&mut` is the lock, or asks for one. Where it
+//! is shared, the lock is held until the frame is in its place in the order of sending. A cyclic
+//! task that may not wait for the lock sends all frames to the heads itself, and takes EA from a
+//! copy as each one leaves; the task that reads answers renews the copy after every
+//! [`Collector::read`], once the state is saved and before the next answer is read.
 //!
 //! **Restarts.** A state ([`Reporter::as_bytes`], [`Collector::as_bytes`]) is saved after each call
 //! that has changed it and before any later frame leaves, a head's before the answer itself leaves;
 //! whole, by a file written anew and renamed. A cycle that reads, saves and then sends does so. A
-//! fault is accepted once the state after its [`Reporter::raise`] is saved. What else happens is told
-//! at [`Reporter`] and [`Collector`]. Saved octets are of one [`VERSION`] alone.
+//! fault is accepted once the state after its [`Reporter::raise`] is saved. What else happens is
+//! told at [`Reporter`] and [`Collector`]. Saved octets are of one [`VERSION`] alone.
 //!
 //! **The journal.** If the state is saved after the journal is written, a power cut between them
-//! lists an entry twice; if before, it loses one. So the journal's length is saved with the state, in
-//! one file: [`Collector::take`], append, flush the journal, save both. After a restart the journal
-//! is cut to the saved length, and what is cut off, `take` hands out again. Where others read the
-//! journal as it grows, it is cut to [`journal::whole_len`] instead, and `take` is only called on a
-//! saved box: each record behind the saved length is then what the next `take` for its ID hands out,
-//! and is taken, compared and not appended again. To compare the last record without a length is
-//! not enough: of two equal entries, one would be lost.
+//! lists an entry twice; if before, it loses one. So the journal's length is saved with the state,
+//! in one file: [`Collector::take`], append, flush the journal, save both. After a restart the
+//! journal is cut to the saved length, and what is cut off, `take` hands out again. Where others
+//! read the journal as it grows, it is cut to [`journal::whole_len`] instead, and `take` is only
+//! called on a saved box: each record behind the saved length is then what the next `take` for its
+//! ID hands out, and is taken, compared and not appended again. To compare the last record without
+//! a length is not enough: of two equal entries, one would be lost.
 //!
 //! # Refusals
 //!
 //! Every call ends in its full answer or in an [`Error`], which has a number and, where a code was
 //! not known, the octet that was found. A refused call leaves target and state as they were.
-//! [`serialize_frame`], [`Frame::write_frame`] and [`StatusFields::serialize`] join several calls of
-//! the library here; of them this is tested, and not proved.
+//! [`serialize_frame`], [`Frame::write_frame`] and [`StatusFields::serialize`] join several calls
+//! of the library here; of them this is tested, and not proved.
 //!
 //! # What is proved, and what is not
 //!
@@ -126,8 +126,8 @@
 //! conversions between their numbers and the types here, the tables of codes, `new`, and what is
 //! plain Rust. Neither is the compiler that made the archive, nor what the host does.
 //!
-//! An archive of another [`VERSION`] does not link. No call panics, unless the archive does not keep
-//! what its source promises, or there is no memory to allocate: a [`Collector`] is boxed, and
+//! An archive of another [`VERSION`] does not link. No call panics, unless the archive does not
+//! keep what its source promises, or there is no memory to allocate: a [`Collector`] is boxed, and
 //! [`StatusFields::serialize`] gathers its entries.
 //!
 //! # For readers of powerlink-rs
@@ -164,8 +164,8 @@ mod numbers;
 mod reporter;
 mod types;
 
-/// The number of the library's interface. It rises with each change of a function's parameters or of
-/// a state's length; an archive of another one does not link, and states that were saved with
+/// The number of the library's interface. It rises with each change of a function's parameters or
+/// of a state's length; an archive of another one does not link, and states that were saved with
 /// another one are not gone on from.
 pub const VERSION: u32 = 1;
 

@@ -16,11 +16,12 @@ pub const REPORTER_LEN: usize = 408;
 ///
 /// [What the theorem asks of a host](crate#what-the-theorem-asks-of-a-host) has three parts here:
 ///
-/// - the head's StatusResponses come from [`answer`](Reporter::answer) alone, and the EN of its PRes
-///   is [`en`](Reporter::en);
+/// - the head's StatusResponses come from [`answer`](Reporter::answer) alone, and the EN of its
+///   PRes is [`en`](Reporter::en);
 /// - the state is saved after each call that has changed it and before the next frame leaves: after
-///   `answer`, before that answer leaves. A head that goes on from a state before an answer that was
-///   booked adds to the batch what is raised since; the box knows its EN, and what was added is lost;
+///   `answer`, before that answer leaves. A head that goes on from a state before an answer that
+///   was booked adds to the batch what is raised since; the box knows its EN, and what was added is
+///   lost;
 /// - head and box begin anew together. After an odd number of booked batches, the first batch of a
 ///   new head has the EN that the box knows, and is lost.
 #[derive(PartialEq, Eq)]

@@ -10,8 +10,8 @@ pub struct PReqFlags {
     /// Multiplexed slot.
     pub ms: bool,
     /// Exception acknowledge. From the managing node it is that of
-    /// [`Collector::flags`](crate::Collector::flags) at the moment of sending: any other may close a
-    /// batch that is not booked, and its entries are lost.
+    /// [`Collector::flags`](crate::Collector::flags) at the moment of sending: any other may close
+    /// a batch that is not booked, and its entries are lost.
     pub ea: bool,
     /// Ready: the payload is valid.
     pub rd: bool,

@@ -215,8 +215,8 @@ fn heads_are_kept_apart() {
     }
 }
 
-/// Whatever the line does, and whichever frames the host sends with the box's flags: what the box has handed out is the front of what was raised, and all of
-/// it in the end.
+/// Whatever the line does, and whichever frames the host sends with the box's flags: what the box
+/// has handed out is the front of what was raised, and all of it in the end.
 #[test]
 fn nothing_lost_and_nothing_twice() {
     let mut entries = 0;

@@ -1,5 +1,5 @@
-//! Records of the journal, and the order of their tests: 1, then 19. How much of a journal is whole:
-//! 17, then 18.
+//! Records of the journal, and the order of their tests: 1, then 19. How much of a journal is
+//! whole: 17, then 18.
 use crate::entry;
 use powerlink::*;
 
