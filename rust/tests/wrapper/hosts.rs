@@ -82,6 +82,46 @@ fn flags_of_a_head_that_is_not_registered() {
     );
 }
 
+/// The pattern of a cyclic task: it takes EA from a copy, which is renewed after each reading and
+/// before the next. Frames that leave between the reading and the renewal have the EA of before.
+#[test]
+fn a_copy_of_ea_that_is_renewed_before_the_next_reading() {
+    let mut listed = 0;
+    for seed in 0..40 {
+        let mut numbers = Numbers(seed);
+        let (mut head, mut the_box) = (Reporter::new(HEAD).unwrap(), fresh_box());
+        let (mut to_box, mut to_head) = (Direction::default(), Direction::default());
+        let mut copy = the_box.flags(HEAD).unwrap();
+        let (mut raised, mut taken) = (0, Vec::new());
+        for _ in 0..2_000 {
+            match numbers.below(8) {
+                0 => raised += head.raise(&entry(raised)).is_ok() as u16,
+                1 => to_box.sent.push(answer(&mut head, 7)),
+                2 => {
+                    copy = the_box.flags(HEAD).unwrap();
+                    if let Some(frame) = to_box.arrives(&mut numbers) {
+                        the_box.read(frame).unwrap();
+                    }
+                }
+                3 => copy = the_box.flags(HEAD).unwrap(),
+                4 => to_head.sent.push(preq(7, copy.ea)),
+                5 => to_head.sent.push(ident_request(7, copy)),
+                _ => {
+                    if let Some(frame) = to_head.arrives(&mut numbers) {
+                        head.read(frame).unwrap();
+                    }
+                }
+            }
+            while let Ok(entry) = the_box.take(HEAD) {
+                taken.push(entry.error_code);
+            }
+            assert!((0..raised).collect::<Vec<_>>().starts_with(&taken));
+        }
+        listed += taken.len();
+    }
+    assert!(listed > 1_000, "only {listed} entries");
+}
+
 /// A power cut.
 #[derive(Debug)]
 struct Cut;
