@@ -6,7 +6,7 @@
 set -eu
 cd "$(dirname "$0")/.."
 if ! lacks=$(tests/compare/inputs.sh); then
-    echo "not there: $lacks" >    echo "there is no $lacks" >&22
+    echo "not there: $lacks" >&2
     exit 1
 fi
 lib=${POWERLINK_LIB_DIR:-target/staticlib}
