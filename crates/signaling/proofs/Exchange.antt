@@ -1,14 +1,14 @@
 -- What one exchange leaves: the head has closed what its answer carried.
 -- Assumes nothing.
 use Prim.Native.Nat.{ℕ, _+_, _≤_}
-use mathlib.Core.Bool.{Bool, false, not, Bool·beq}
+use mathlib.Core.Bool.{Bool, Bool·beq}
 use mathlib.Core.Path.{_≡_, refl, sym, ap, _∙_}
 use mathlib.Core.Logic.{_⊎_, inl, inr}
 use mathlib.Core.List.{List, _∷_}
 use mathlib.Core.Option.{Option, none, some}
 use native.Mathlib.Omega.{arith}
-use lib.ListN.{length, getElem?, length-append}
-use borrow.Author.Tests.{le-leb}
+use lib.ListN.{length, getElem?}
+use lib.Dec.{leb}
 use Rattle.section.specs.declared.WriteAnswer.the-variants as write
 use Rattle.codec.specs.Frame.{readFrame}
 use Rattle.status_response.specs.declared.fields.StatusAnswer.the-variants as status
@@ -21,25 +21,24 @@ use Rattle.collector.specs.Rules.{saidIn, Said, bookLength, Account, Box, heard
 use Rattle.collector.specs.declared.ReadAnswer.{ReadAnswer as BoxReadAnswer}
 use Rattle.collector.specs.declared.ReadAnswer.the-variants as box
 use Rattle.collector.specs.declared.reading.Heard.the-variants as boxHears
-use Rattle.signaling.specs.Calls.{answer, sent, Event, answered, headRead, boxRead, answersSent, requestsSent, isBooked, node, World, Step, headReads, boxReads, eaOf}
+use Rattle.signaling.specs.Calls.{answer, sent, Event, answered, headRead, boxRead, answersSent, requestsSent, node, World, Step, headReads, boxReads, eaOf}
 use Rattle.signaling.specs.Exchanges.{Quiet, AnswerAgain, RequestAgain, NoRepeat, Quietly, Exchange}
 use Rattle.signaling.proofs.Calls.{read-here}
-use Rattle.signaling.proofs.Facts.{either, not-not, beq-not, beq-true, beq-false, at-lt}
+use Rattle.signaling.proofs.Facts.{clash, either, beq-same, beq-true, at-lt}
 use Rattle.signaling.proofs.Frames.{Says}
-use Rattle.signaling.proofs.Invariant.{bookOf, headIn, placeFor}
+use Rattle.signaling.proofs.Invariant.{headIn, placeFor}
 use Rattle.signaling.proofs.Quiet.{IsPlace, Ready, goes-on, Calm, calm, quietly, no-repeat}
-use Rattle.signaling.proofs.Resting.{opened-twice, head-hears, shut, closed, quiet-ready, Resting, rests-again}
-use Rattle.signaling.proofs.Steps.{keeps}
+use Rattle.signaling.proofs.Resting.{opened-twice, head-hears, shut, closed, Resting, rests-again}
 
 -- ---- both ends, while nothing changes
 
 -- Since the head became h and the box's bit became ea: all that was sent from the places n and m on says so.
-record Steady (i : ℕ) (h : Head) (ea : Bool) (n m : ℕ) (w : World) : Type 0 where
-  ready : Ready i w
-  head : headIn w ≡ h
-  bit : eaOf (placeFor i w) ≡ ea
-  mine : (p : ℕ) (a : List ℕ) → n ≤ p → getElem? (answersSent i (w .log)) p ≡ some a → Says a h
-  its : (q : ℕ) (f : List ℕ) (x : Bool) → m ≤ q → getElem? (requestsSent i (w .log)) q ≡ some f → heardIn i (readFrame f) ≡ heard.Ea x
+pub record Steady (i : ℕ) (h : Head) (ea : Bool) (n m : ℕ) (w : World) : Type 0 where
+  pub ready : Ready i w
+  pub head : headIn w ≡ h
+  pub bit : eaOf (placeFor i w) ≡ ea
+  pub mine : (p : ℕ) (a : List ℕ) → n ≤ p → getElem? (answersSent i (w .log)) p ≡ some a → Says a h
+  pub its : (q : ℕ) (f : List ℕ) (x : Bool) → m ≤ q → getElem? (requestsSent i (w .log)) q ≡ some f → heardIn i (readFrame f) ≡ heard.Ea x
       → x ≡ ea
 
 -- places from here on
@@ -71,7 +70,7 @@ module _ {i : ℕ} {h : Head} {ea : Bool} {n m : ℕ} where
   quiet-steady : {w v : World} {x : Event} → Step i w x v → Quiet i x → opened h ≡ h → Steady i h ea n m w → Steady i h ea n m v
   quiet-steady s k settled y =
       let z = calm (y .ready .held) s k in
-      steady-by (quiet-ready s k (y .ready)) z
+      steady-by (goes-on s (y .ready)) z
       (elim (z .head) [ inl e ↦ e ∙ y .head | inr e ↦ e ∙ ap opened (y .head) ∙ settled ])
       (y .bit)
       (y .mine)
@@ -87,75 +86,85 @@ first-steady : {i : ℕ} {w v : World} {n : ℕ} {bs : List ℕ} → Step i w (a
 first-steady {i} {w} {n} {bs} (answer f r after target written sizes c) y =
     let s : Step i w (answered (write.Written n) bs) (record { head = after; box = w .box; log = answered (write.Written n) bs ∷ w .log }) =
     answer f (write.Written n) after target bs sizes c in
-    steady-by (quiet-ready s tt y) (calm (y .held) s tt) (c .head) refl
+    steady-by (goes-on s y) (calm (y .held) s tt) (c .head) refl
     (λ p a le e. absurd (omega (arith, at-lt (answersSent i (w .log)) a p e)))
     (λ q f x le e me. absurd (omega (arith, at-lt (requestsSent i (w .log)) f q e)))
 
 -- ---- the box reads
 
--- where the open batch is not booked, there is room for it
-fits-batch : {i : ℕ} {w : World} → Ready i w → isBooked i (w .log) ≡ false → length (bookOf (placeFor i w)) + length (headIn w .batch) ≤ bookLength
-fits-batch y new =
-    let n = simp length-append at (ap length (rw (new, ← (y .held .head)) at (y .held .inv .total))) in
-    omega (arith, y .room, n)
+module _ (said : Said) (f : StatusFields) (e : said .fields ≡ status.Status f) where
+  -- an answer that is not refused with 12 is known or booked
+  outcome : (o : Option Account) → IsPlace o → (accountAnswer said o ≡ box.BookFull → ⊥)
+      → ((accountAnswer said o ≡ box.Known) × (eaOf o ≡ f .«en_flag»)) ⊎ (accountAnswer said o ≡ box.Booked)
+  unfolding bookAnswer
+  outcome none is found = absurd is
+  outcome (some p) is found =
+      either (Bool·beq (f .«en_flag») (p .ea))
+      (λ same. inl (rw (e, same), sym (beq-true (f .«en_flag») (p .ea) same)))
+      (λ new.
+      either (leb (length (p .book) + length (said .entries)) bookLength)
+      (λ fits. inr (rw (e, new, fits)))
+      (λ full. absurd (found (rw (e, new, full)))))
 
--- the batch that an answer with a new bit carries is not booked, so there is room for it
-room-for : {i : ℕ} {w : World} → Ready i w → Bool·beq (headIn w .en) (eaOf (placeFor i w)) ≡ false
-    → length (bookOf (placeFor i w)) + length (headIn w .batch) ≤ bookLength
-room-for {i} {w} y new =
-    let ea = eaOf (placeFor i w) in
-    let en = headIn w .en in
-    let differ : ea ≡ not en = sym (not-not ea) ∙ ap not (sym (beq-false en ea new)) in
-    fits-batch y (rw (← (y .held .head)) at (y .held .inv .since) ∙ ap (λ (b : Bool). Bool·beq b en) differ ∙ beq-not en)
+  -- one that carries EA is known
+  known : (o : Option Account) → IsPlace o → eaOf o ≡ f .«en_flag» → accountAnswer said o ≡ box.Known
+  unfolding bookAnswer
+  known none is same = absurd is
+  known (some p) is same = rw (e, same, beq-same (f .«en_flag»))
 
--- with room for its batch, an answer is known or booked
-outcome : (said : Said) (o : Option Account) (f : StatusFields) → IsPlace o → said .fields ≡ status.Status f
-    → (Bool·beq (f .«en_flag») (eaOf o) ≡ false → length (bookOf o) + length (said .entries) ≤ bookLength)
-    → ((accountAnswer said o ≡ box.Known) × (eaOf o ≡ f .«en_flag»)) ⊎ (accountAnswer said o ≡ box.Booked)
-unfolding bookAnswer
-outcome said none f is e room = absurd is
-outcome said (some p) f is e room =
-    either (Bool·beq (f .«en_flag») (p .ea))
-    (λ same. inl (rw (e, same), sym (beq-true (f .«en_flag») (p .ea) same)))
-    (λ new. inr (rw (e, new, le-leb (length (p .book) + length (said .entries)) bookLength (room new))))
+  booked-bit : (o : Option Account) → IsPlace o → bookedAccount said o .ea ≡ f .«en_flag»
+  booked-bit none is = absurd is
+  booked-bit (some p) is = rw e
 
-booked-bit : (said : Said) (o : Option Account) (f : StatusFields) → IsPlace o → said .fields ≡ status.Status f
-    → bookedAccount said o .ea ≡ f .«en_flag»
-booked-bit said none f is e = absurd is
-booked-bit said (some p) f is e = rw e
+module _ (i : ℕ) (h : Head) (bs : List ℕ) (b : Box) (says : Says bs h) (id : h .id ≡ i) where
+  hears-me : boxHeard (readFrame bs) ≡ boxHears.Status (node i)
+  hears-me = rw (← id) (says .status)
 
--- then its bit is EA
-box-agrees : (i : ℕ) (h : Head) (bs : List ℕ) (b : Box) → Says bs h → h .id ≡ i → IsPlace (b .accounts i)
-    → (Bool·beq (h .en) (eaOf (b .accounts i)) ≡ false → length (bookOf (b .accounts i)) + length (h .batch) ≤ bookLength)
-    → eaOf (boxAfterRead (readAnswer bs b) bs b .accounts i) ≡ h .en
-unfolding readAnswer
-box-agrees i h bs b says id is room =
-    let me : boxHeard (readFrame bs) ≡ boxHears.Status (node i) = rw (← id) (says .status) in
-    let answer : readAnswer bs b ≡ accountAnswer (saidIn (statusPayload bs)) (b .accounts i) = rw me in
-    elim (outcome (saidIn (statusPayload bs)) (b .accounts i) (says .fields) is (says .read) (rw (says .en, says .entries) room)) [
-      | inl k ↦ rw (answer, k .0) (k .1 ∙ says .en)
-      | inr k ↦
-          rw (answer, k, read-here i bs b me) (booked-bit (saidIn (statusPayload bs)) (b .accounts i) (says .fields) is (says .read) ∙ says .en)
-    ]
+  pub box-says : readAnswer bs b ≡ accountAnswer (saidIn (statusPayload bs)) (b .accounts i)
+  unfolding readAnswer
+  box-says = rw hears-me
 
--- the first reading, and a repeat: EA is EN behind it
-box-steady : {i : ℕ} {h : Head} {ea : Bool} {n m p : ℕ} {bs : List ℕ} {r : BoxReadAnswer} {w v : World} → n ≤ p
-    → Step i w (boxRead (sent p) bs r) v
-    → Steady i h ea n m w
-    → Steady i h (h .en) n (length (requestsSent i (w .log))) v
-box-steady {i} {h} {p} {bs} {r} {w} le (boxReads from octets told after d c) y =
-    let s : Step i w (boxRead (sent p) bs r) (record { head = w .head; box = after; log = boxRead (sent p) bs r ∷ w .log }) =
-    boxReads (sent p) bs r after d c in
-    let id : h .id ≡ i = rw (← (y .head), y .ready .held .head) (y .ready .held .inv .id) in
-    record {
-      ready = goes-on s (λ t. refl) (keeps (y .ready .held) s) (y .ready);
-      head = y .head;
-      bit =
-          rw (c .box .accounts i, c .answer)
-          (box-agrees i h bs (boxOf (w .box)) (y .mine p bs le (d .1)) id (y .ready .place) (rw (← (y .head)) (room-for (y .ready))));
-      mine = y .mine;
-      its = λ q f x le e me. absurd (omega (arith, at-lt (requestsSent i (w .log)) f q e));
-    }
+  -- then its bit is EA
+  box-agrees : IsPlace (b .accounts i) → (readAnswer bs b ≡ box.BookFull → ⊥)
+      → eaOf (boxAfterRead (readAnswer bs b) bs b .accounts i) ≡ h .en
+  box-agrees is found =
+      let said = saidIn (statusPayload bs) in
+      let o = b .accounts i in
+      elim (outcome said (says .fields) (says .read) o is (λ full. found (box-says ∙ full))) [
+        | inl k ↦ rw (box-says, k .0) (k .1 ∙ says .en)
+        | inr k ↦ rw (box-says, k, read-here i bs b hears-me) (booked-bit said (says .fields) (says .read) o is ∙ says .en)
+      ]
+
+module _ {i : ℕ} {h : Head} {ea : Bool} {n m : ℕ} {w : World} (y : Steady i h ea n m w) where
+  pub its-id : h .id ≡ i
+  its-id = rw (← (y .head), y .ready .held .head) (y .ready .held .inv .id)
+
+  -- the first reading, and a repeat: EA is EN behind it
+  box-steady : {p : ℕ} {bs : List ℕ} {r : BoxReadAnswer} {v : World} → n ≤ p → Step i w (boxRead (sent p) bs r) v → (r ≡ box.BookFull → ⊥)
+      → Steady i h (h .en) n (length (requestsSent i (w .log))) v
+  box-steady {p} {bs} {r} le (boxReads from octets told after d c) found =
+      let s : Step i w (boxRead (sent p) bs r) (record { head = w .head; box = after; log = boxRead (sent p) bs r ∷ w .log }) =
+      boxReads (sent p) bs r after d c in
+      record {
+        ready = goes-on s (y .ready);
+        head = y .head;
+        bit =
+            rw (c .box .accounts i, c .answer)
+            (box-agrees i h bs (boxOf (w .box)) (y .mine p bs le (d .1)) its-id (y .ready .place) (λ full. found (c .answer ∙ full)));
+        mine = y .mine;
+        its = λ q f x le e me. absurd (omega (arith, at-lt (requestsSent i (w .log)) f q e));
+      }
+
+  -- what carries EA is not refused
+  known-found : {p : ℕ} {bs : List ℕ} {r : BoxReadAnswer} {v : World} → n ≤ p → ea ≡ h .en → Step i w (boxRead (sent p) bs r) v
+      → r ≡ box.BookFull
+      → ⊥
+  known-found {p} {bs} le same (boxReads from octets told after d c) full =
+      let says = y .mine p bs le (d .1) in
+      let k = known (saidIn (statusPayload bs)) (says .fields) (says .read) (placeFor i w) (y .ready .place) (y .bit ∙ same ∙ sym (says .en)) in
+      let x = box-says i h bs (boxOf (w .box)) says its-id in
+      let z : box.BookFull ≡ box.Known = sym full ∙ c .answer ∙ x ∙ k in
+      clash cc
 
 -- the box has read an answer that was sent from the place n on
 abbrev Agreed : ℕ → Head → ℕ → World → Type 0
@@ -166,7 +175,9 @@ module _ {i : ℕ} {h : Head} {n : ℕ} (settled : opened h ≡ h) where
   quiet-agreed w v x s k y = (y .0, quiet-steady s k settled (y .1))
 
   agrees-again : {p : ℕ} {bs : List ℕ} {w v : World} → n ≤ p → Quietly i (AnswerAgain p bs) w v → Agreed i h n w → Agreed i h n v
-  agrees-again le = quietly (Agreed i h n) quiet-agreed (λ w v x s k y. (_, box-steady le (rw (k .1) at s) (y .1)))
+  agrees-again le =
+      quietly (Agreed i h n) quiet-agreed
+      (λ w v x s k y. let read = rw (k .1) at s in (_, box-steady (y .1) le read (known-found (y .1) le refl read)))
 
 -- ---- the head reads
 
@@ -180,16 +191,21 @@ module _ {i : ℕ} {h : Head} {n m q : ℕ} {bs : List ℕ} {x : Bool} {r : Read
       let mine = carries-en s y in
       rests-again h mine l
       (record {
-        ready = goes-on s (λ t. refl) (keeps (y .ready .held) s) (y .ready);
+        ready = goes-on s (y .ready);
         head = inl (head-hears mine (y .ready .held) s ∙ rw (y .head) (closed h));
       })
 
 -- ---- the exchange
 
-pub exchanged : {i : ℕ} {w v : World} → Ready i w → Exchange i w v → Resting i (shut (opened (headIn w))) v
-exchanged {i} {w} y x =
+-- what was said when the box reads
+pub until-read : {i : ℕ} {w v : World} → Ready i w → (x : Exchange i w v)
+    → Steady i (opened (headIn w)) (eaOf (placeFor i w)) (length (answersSent i (w .log))) (length (requestsSent i (w .log))) (x .w₂)
+until-read {w} y x = quietly-steady (opened-twice (headIn w)) (x .quiet₁) (first-steady (x .answers) y)
+
+pub exchanged : {i : ℕ} {w v : World} → Ready i w → (x : Exchange i w v) → (x .boxSays ≡ box.BookFull → ⊥)
+    → Resting i (shut (opened (headIn w))) v
+exchanged {w} y x found =
     let settled = opened-twice (headIn w) in
-    let y₁ = quietly-steady settled (x .quiet₁) (first-steady (x .answers) y) in
-    let y₂ = agrees-again settled (x .newAnswer) (x .quiet₂) (_, box-steady (x .newAnswer) (x .boxReads) y₁) .1 in
+    let y₂ = agrees-again settled (x .newAnswer) (x .quiet₂) (_, box-steady (until-read y x) (x .newAnswer) (x .boxReads) found) .1 in
     let y₃ = quiet-steady (x .requests) tt settled (steady-from (y₂ .ready) (y₂ .head) (y₂ .bit)) in
     head-ends (x .newRequest) (x .mine) (x .headReads) (x .quiet₄) (quietly-steady settled (x .quiet₃) y₃)

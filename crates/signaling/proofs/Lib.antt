@@ -14,6 +14,7 @@ pub mod Host
 pub mod Invariant
 pub mod Losses
 pub mod Making
+pub mod Places
 pub mod Progress
 pub mod Quiet
 pub mod Resting

@@ -1,20 +1,22 @@
 -- Each exchange closes what the answer carries: w entries are closed after at most w exchanges.
 -- Assumes nothing.
-use Prim.Native.Nat.{ℕ, _-_, _≤_}
-use mathlib.Core.Path.{_≡_, refl, ap}
-use mathlib.Core.Logic.{inl}
+use Prim.Native.Nat.{ℕ, zero, suc, _-_, _≤_}
+use mathlib.Core.Path.{_≡_, refl, ap, _∙_}
+use mathlib.Core.Logic.{inl, inr}
 use mathlib.Core.List.{List, [], _∷_, _++_}
 use native.Mathlib.Omega.{arith}
 use lib.ListN.{length, length-append, length-drop}
 use Rattle.error_entry.specs.declared.ErrorEntry.{ErrorEntry}
 use Rattle.reporter.specs.Rules.{opens, Head, opened}
+use Rattle.collector.specs.declared.ReadAnswer.the-variants as box
 use Rattle.signaling.specs.Calls.{accepted, handedOut, ruled, unbooked, World, Run}
-use Rattle.signaling.specs.Exchanges.{pending, Exchanges, done, more, Room, Progress}
+use Rattle.signaling.specs.Exchanges.{pending, Exchange, Exchanges, done, more, Room, Progress, IsRegistered, Found, StepwiseProgress}
 use mathlib.Core.Bool.{false, true}
 use Rattle.signaling.proofs.Exchange.{exchanged}
 use Rattle.signaling.proofs.Invariant.{headIn, Held}
-use Rattle.signaling.proofs.Quiet.{Ready}
-use Rattle.signaling.proofs.Resting.{entries, Resting, resting-entries, rests}
+use Rattle.signaling.proofs.Places.{quiet-roomy, exchange-roomy, exchange-found}
+use Rattle.signaling.proofs.Quiet.{Roomy}
+use Rattle.signaling.proofs.Resting.{opened-twice, entries, shut, Resting, resting-entries, rests}
 use Rattle.signaling.proofs.Steps.{held}
 
 -- ---- the pending entries
@@ -34,47 +36,77 @@ opened-fewer h = open-fewer h (h .batch) (h .waiting) refl refl
 
 -- ---- many exchanges
 
-at-rest : {i : ℕ} {w : World} → Ready i w → Resting i (headIn w) w
-at-rest y = record { ready = y; head = inl refl }
+-- a head after so many exchanges
+abbrev turns : ℕ → Head → Head
+turns zero h = h
+turns (suc n) h = turns n (shut (opened h))
 
-ends : {i n : ℕ} {w v : World} → Ready i w → Exchanges i n w v → Ready i v
-ends y (done l) = rests l (at-rest y) .ready
-ends y (more l x xs) = ends (exchanged (rests l (at-rest y) .ready) x .ready) xs
+-- n are closed at least, or all
+turns-fewer : (n : ℕ) (h : Head) → length (entries (turns n h)) ≤ length (entries h) - n
+turns-fewer zero h = omega arith
+turns-fewer (suc n) h = omega (arith, turns-fewer n (shut (opened h)), opened-fewer h)
 
--- after n exchanges n are closed at least, or all
-at-least : {i n : ℕ} {w v : World} → Ready i w → Exchanges i n w v → length (entries (headIn v)) ≤ length (entries (headIn w)) - n
-at-least y (done l) = rw (resting-entries (rests l (at-rest y))) (omega arith)
-at-least {w} y (more {n} {t} {u} {v} l x xs) =
-    let same = rests l (at-rest y) in
-    let z = exchanged (same .ready) x in
-    let a = at-least (z .ready) xs in
-    let b : length (entries (headIn u)) ≤ length (entries (headIn t)) - 1 = rw (resting-entries z) (opened-fewer (headIn t)) in
-    let c : length (entries (headIn t)) ≡ length (entries (headIn w)) = ap length (resting-entries same) in
-    omega arith
+resting-opened : {i : ℕ} {h : Head} {w : World} → Resting i h w → opened (headIn w) ≡ opened h
+resting-opened {h} y = elim (y .head) [ inl e ↦ ap opened e | inr e ↦ ap opened e ∙ opened-twice h ]
+
+module _ {i : ℕ} where
+  turned : {h : Head} {w v : World} → Resting i h w → (x : Exchange i w v) → (x .boxSays ≡ box.BookFull → ⊥) → Resting i (shut (opened h)) v
+  turned y x found = rw (resting-opened y) at (exchanged (y .ready) x found)
+
+  turned-often : {h : Head} {n : ℕ} {w v : World} → Resting i h w → (xs : Exchanges i n w v) → Found xs → Resting i (turns n h) v
+  turned-often y (done l) f = rests l y
+  turned-often y (more l x xs) f = turned-often (turned (rests l y) x (f .0)) xs (f .1)
+
+  -- with places for all that is not booked, each exchange finds them
+  all-found : {h : Head} {n : ℕ} {w v : World} → Resting i h w → Roomy i w → (xs : Exchanges i n w v) → Found xs
+  all-found y room (done l) = tt
+  all-found y room (more l x xs) =
+      let t = rests l y in
+      let here = quiet-roomy l room in
+      let first = exchange-found here x (t .ready) in
+      (first, all-found (turned t x first) (exchange-roomy here x) xs)
 
 -- ---- from the start
 
+at-rest : {i : ℕ} {w : World} → Run i w → IsRegistered i w → Resting i (headIn w) w
+at-rest run is = record { ready = record { held = held run; place = rw (is .1) tt }; head = inl refl }
+
 -- free places for what is not booked
-ready : {i : ℕ} {w : World} → Held i w → Room i w → Ready i w
-ready {i} {w} t free =
+roomy : {i : ℕ} {w : World} → Held i w → Room i w → Roomy i w
+roomy {i} {w} t free =
     let total : handedOut i (w .log) ++ free .account .book ++ (unbooked i (w .log) ++ ruled i (w .log) .waiting) ≡ accepted i (w .log) =
     rw (free .registered) at (t .inv .total) in
     let n = simp length-append at (ap length total) in
     let k = simp length-append at (free .free) in
-    record { held = t; place = rw (free .registered) tt; room = omega (arith, n, k) }
-
-closes : (i n : ℕ) (w v : World) → Run i w → Room i w → Exchanges i n w v → length (pending i v) ≤ length (pending i w) - n
-closes i n w v run free xs =
-    let y = ready (held run) free in
-    rw (pending-in (y .held), pending-in (ends y xs .held)) (at-least y xs)
+    omega (arith, n, k)
 
 none-left : (l : List ErrorEntry) → length l ≤ 0 → l ≡ []
 none-left [] e = refl
 none-left (x ∷ l) e = absurd (omega arith)
 
+module _ (i n : ℕ) (w v : World) (run : Run i w) where
+  module _ (is : IsRegistered i w) (xs : Exchanges i n w v) (found : Found xs) where
+    closes : length (pending i v) ≤ length (pending i w) - n
+    closes =
+        let y = turned-often (at-rest run is) xs found in
+        rw (pending-in (held run), pending-in (y .ready .held), resting-entries y) (turns-fewer n (headIn w))
+
+    closed : length (pending i w) ≤ n → pending i v ≡ []
+    closed few = none-left (pending i v) (omega (arith, closes))
+
+  module _ (free : Room i w) where
+    is-registered : IsRegistered i w
+    is-registered = (free .account, free .registered)
+
+    finds : (xs : Exchanges i n w v) → Found xs
+    finds xs = all-found (at-rest run is-registered) (roomy (held run) free) xs
+
+pub stepwise-progress : StepwiseProgress
+stepwise-progress = record { closes = closes; closed = closed; found = finds }
+
 pub progress : Progress
 progress =
     record {
-      closes = closes;
-      closed = λ i n w v run free xs few. none-left (pending i v) (omega (arith, closes i n w v run free xs));
+      closes = λ i n w v run free xs. closes i n w v run (is-registered i n w v run free) xs (finds i n w v run free xs);
+      closed = λ i n w v run free xs. closed i n w v run (is-registered i n w v run free) xs (finds i n w v run free xs);
     }

@@ -36,9 +36,9 @@ use Rattle.signaling.proofs.Calls.{unheard, read-elsewhere, register-sa
 use Rattle.signaling.proofs.Facts.{either, at-snoc}
 use Rattle.signaling.proofs.Frames.{Says}
 use Rattle.signaling.proofs.Invariant.{headIn, placeFor, Held}
-use Rattle.signaling.proofs.Steps.{answer-says, head-now, request-says}
+use Rattle.signaling.proofs.Steps.{answer-says, head-now, request-says, keeps}
 
--- ---- every call but a Raise that is accepted: a place stays, nothing is accepted, and nothing is taken back
+-- ---- every call: a place stays
 
 abbrev pub IsPlace : Option Account → Type 0
 IsPlace none = ⊥
@@ -72,15 +72,33 @@ module _ (i : ℕ) (b : Box) (is : IsPlace (b .accounts i)) where
   take-stays j taking.NotRegistered = is
   take-stays j taking.NothingBooked = is
 
+place-stays : {i : ℕ} {w v : World} {x : Event} → Step i w x v → IsPlace (placeFor i w) → IsPlace (placeFor i v)
+place-stays (raise e r after n c) y = y
+place-stays (answer f r after target written sizes c) y = y
+place-stays (headReads o bs r after d c) y = y
+place-stays {i} {w} (register j r after c) y = rw (c .box .accounts i) (register-stays i (boxOf (w .box)) y j r)
+place-stays {i} {w} (boxReads o bs r after d c) y = rw (c .box .accounts i) (read-stays i (boxOf (w .box)) y bs r)
+place-stays (request j f r target written six c) y = y
+place-stays {i} {w} (takes j r after c) y = rw (c .box .accounts i) (take-stays i (boxOf (w .box)) y j r)
+place-stays (hosts bs told) y = y
+
+-- the head is registered
+pub record Ready (i : ℕ) (w : World) : Type 0 where
+  pub held : Held i w
+  pub place : IsPlace (placeFor i w)
+
+pub goes-on : {i : ℕ} {w v : World} {x : Event} → Step i w x v → Ready i w → Ready i v
+goes-on s y = record { held = keeps (y .held) s; place = place-stays s (y .place) }
+
+-- ---- every call but a Raise that is accepted: nothing is accepted, and nothing is taken back
+
 -- nothing is accepted
 abbrev pub NoRaise : ℕ → Event → Type 0
 NoRaise i x = (t : Tally) → adds i x t .entries .accepted ≡ t .entries .accepted
 
--- the head is registered, and the book has places for all that is not in it
-pub record Ready (i : ℕ) (w : World) : Type 0 where
-  pub held : Held i w
-  pub place : IsPlace (placeFor i w)
-  pub room : length (accepted i (w .log)) ≤ length (handedOut i (w .log)) + bookLength
+-- the book has places for all that is not in it
+abbrev pub Roomy : ℕ → World → Type 0
+Roomy i w = length (accepted i (w .log)) ≤ length (handedOut i (w .log)) + bookLength
 
 -- a Take takes back nothing
 hands-on : (mine : Bool) (r : TakeAnswer) (es : List ErrorEntry) → length es ≤ length (pick mine (ifTaken r es) es)
@@ -89,23 +107,15 @@ hands-on true (taking.Taken e) es = simp length-append (omega arith)
 hands-on true taking.NotRegistered es = omega arith
 hands-on true taking.NothingBooked es = omega arith
 
-pub goes-on : {i : ℕ} {w v : World} {x : Event} → Step i w x v → NoRaise i x → Held i v → Ready i w → Ready i v
-goes-on {i} {w} (raise e r after n c) k t y =
-    record { held = t; place = y .place; room = rw (k (tally i (w .log))) (y .room) }
-goes-on (answer f r after target written sizes c) k t y = record { held = t; place = y .place; room = y .room }
-goes-on (headReads o bs r after d c) k t y = record { held = t; place = y .place; room = y .room }
-goes-on {i} {w} (register j r after c) k t y =
-    record { held = t; place = rw (c .box .accounts i) (register-stays i (boxOf (w .box)) (y .place) j r); room = y .room }
-goes-on {i} {w} (boxReads o bs r after d c) k t y =
-    record { held = t; place = rw (c .box .accounts i) (read-stays i (boxOf (w .box)) (y .place) bs r); room = y .room }
-goes-on (request j f r target written six c) k t y = record { held = t; place = y .place; room = y .room }
-goes-on (hosts bs told) k t y = record { held = t; place = y .place; room = y .room }
-goes-on {i} {w} (takes j r after c) k t y =
-    record {
-      held = t;
-      place = rw (c .box .accounts i) (take-stays i (boxOf (w .box)) (y .place) j r);
-      room = omega (arith, y .room, hands-on (eqb j i) r (handedOut i (w .log)));
-    }
+pub room-stays : {i : ℕ} {w v : World} {x : Event} → Step i w x v → NoRaise i x → Roomy i w → Roomy i v
+room-stays {i} {w} (raise e r after n c) k y = rw (k (tally i (w .log))) y
+room-stays (answer f r after target written sizes c) k y = y
+room-stays (headReads o bs r after d c) k y = y
+room-stays (register j r after c) k y = y
+room-stays (boxReads o bs r after d c) k y = y
+room-stays (request j f r target written six c) k y = y
+room-stays {i} {w} (takes j r after c) k y = omega (arith, y, hands-on (eqb j i) r (handedOut i (w .log)))
+room-stays (hosts bs told) k y = y
 
 pub quiet-raises-not : (i : ℕ) (x : Event) → Quiet i x → NoRaise i x
 quiet-raises-not i (raised e Raised) k = absurd (omega arith)

@@ -15,8 +15,8 @@ use Rattle.signaling.specs.Calls.{Origin, sent, Event, headRead, World, 
 use Rattle.signaling.specs.Exchanges.{Quiet, NoRepeat, RequestAgain, Quietly}
 use Rattle.signaling.proofs.Facts.{beq-same, beq-not}
 use Rattle.signaling.proofs.Invariant.{headIn, Held}
-use Rattle.signaling.proofs.Quiet.{Ready, goes-on, quiet-raises-not, calm, quietly, no-repeat}
-use Rattle.signaling.proofs.Steps.{head-now, keeps}
+use Rattle.signaling.proofs.Quiet.{Ready, goes-on, calm, quietly, no-repeat}
+use Rattle.signaling.proofs.Steps.{head-now}
 
 -- ---- the head's opening, by cases of the two lists
 
@@ -80,9 +80,6 @@ kept h = kept-by h (h .waiting) refl
 
 -- ---- a head at rest
 
-pub quiet-ready : {i : ℕ} {w v : World} {x : Event} → Step i w x v → Quiet i x → Ready i w → Ready i v
-quiet-ready {i} {x} s k y = goes-on s (quiet-raises-not i x k) (keeps (y .held) s) y
-
 pub record Resting (i : ℕ) (h : Head) (w : World) : Type 0 where
   pub ready : Ready i w
   pub head : (headIn w ≡ h) ⊎ (headIn w ≡ opened h)
@@ -94,7 +91,7 @@ module _ {i : ℕ} {h : Head} where
   quiet-rests : (w v : World) (x : Event) → Step i w x v → Quiet i x → Resting i h w → Resting i h v
   quiet-rests w v x s k y =
       record {
-        ready = quiet-ready s k (y .ready);
+        ready = goes-on s (y .ready);
         head = elim (calm (y .ready .held) s k .head) [
           | inl same ↦ elim (y .head) [ inl e ↦ inl (same ∙ e) | inr e ↦ inr (same ∙ e) ]
           | inr opens ↦ elim (y .head) [ inl e ↦ inr (opens ∙ ap opened e) | inr e ↦ inr (opens ∙ ap opened e ∙ opened-twice h) ]
@@ -111,7 +108,7 @@ module _ {i : ℕ} (h : Head) {q : ℕ} {bs : List ℕ} (me : heardIn i (readFra
       let read : Step i w (headRead (sent q) bs (k .0)) v = rw (k .1) at s in
       let now = head-hears me (y .ready .held) read in
       record {
-        ready = goes-on read (λ t. refl) (keeps (y .ready .held) s) (y .ready);
+        ready = goes-on read (y .ready);
         head = elim (y .head) [ inl e ↦ inl (now ∙ rw e (closed (shut h))) | inr e ↦ inr (now ∙ rw e (kept h)) ];
       }
 

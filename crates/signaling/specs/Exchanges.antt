@@ -1,4 +1,5 @@
--- The w exchanges: 01's bound on how long a backlog lasts.
+-- The w exchanges: 01's bound on how long a backlog lasts, with places for all of it at the start (`Progress`) and with places as each
+-- exchange needs them (`StepwiseProgress`), which is more.
 -- Assumes nothing.
 use Prim.Native.Nat.{ℕ, suc, _+_, _-_, _≤_}
 use mathlib.Core.Bool.{Bool}
@@ -16,6 +17,7 @@ use Rattle.reporter.specs.declared.acknowledge.Heard.the-variants as heard
 use Rattle.collector.specs.Layout.{accountOf}
 use Rattle.collector.specs.Rules.{Account}
 use Rattle.collector.specs.declared.ReadAnswer.{ReadAnswer as BoxReadAnswer}
+use Rattle.collector.specs.declared.ReadAnswer.the-variants as box
 use Rattle.collector.specs.declared.RequestAnswer.the-variants as requesting
 use Rattle.signaling.specs.Calls.{sent, foreign, Event, raised, answered, headRead, registered, boxRead, requested, taken, hosted, answersSent, requestsSent, ruled, unbooked, World, Step, Run}
 
@@ -108,3 +110,22 @@ pub record Progress : Type 0 where
   pub closes : (i n : ℕ) (w v : World) → Run i w → Room i w → Exchanges i n w v → length (pending i v) ≤ length (pending i w) - n
   -- "w entries are closed after at most w exchanges"
   pub closed : (i n : ℕ) (w v : World) → Run i w → Room i w → Exchanges i n w v → length (pending i w) ≤ n → pending i v ≡ []
+
+-- ---- free places, exchange by exchange: Takes between two exchanges make places too
+
+abbrev pub IsRegistered : ℕ → World → Type 0
+IsRegistered i w = (account : Account) × (accountOf (w .box) i ≡ some account)
+
+-- each exchange finds the places that it needs: its answer, when first read, is not refused with 12
+abbrev pub Found : {i n : ℕ} {w v : World} → Exchanges i n w v → Type 0
+Found (done l) = Unit {0}
+Found (more l x xs) = (x .boxSays ≡ box.BookFull → ⊥) × Found xs
+
+pub record StepwiseProgress : Type 0 where
+  pub closes : (i n : ℕ) (w v : World) → Run i w → IsRegistered i w → (xs : Exchanges i n w v) → Found xs
+      → length (pending i v) ≤ length (pending i w) - n
+  pub closed : (i n : ℕ) (w v : World) → Run i w → IsRegistered i w → (xs : Exchanges i n w v) → Found xs
+      → length (pending i w) ≤ n
+      → pending i v ≡ []
+  -- places for all at the start are found
+  pub found : (i n : ℕ) (w v : World) → Run i w → Room i w → (xs : Exchanges i n w v) → Found xs
