@@ -1,4 +1,4 @@
--- A list of calls with a loss and a repeat that books two batches, and two exchanges.
+-- A list of all calls with losses, repeats and refusals that books two batches.
 -- Assumes nothing.
 use Prim.Native.Nat.{ℕ, _^_, _<_}
 use mathlib.Core.Bool.{Bool, true, false}
@@ -6,27 +6,27 @@ use mathlib.Core.Path.{_≡_, refl, sym, ap, _∙_}
 use mathlib.Core.List.{List, [], _∷_}
 use mathlib.Core.Option.{some}
 use native.Mathlib.Omega.{arith}
-use lib.ListN.{length, take}
+use lib.ListN.{length, take, drop}
 use Rattle.types.specs.declared.error_mode.ErrorEntryMode.{ErrorEntryMode}
-use Rattle.types.specs.declared.error_mode.ErrorEntryMode.the-variants.{ErrorActive, ErrorCleared, EventOccurred}
+use Rattle.types.specs.declared.error_mode.ErrorEntryMode.the-variants.{Terminator, ErrorActive, ErrorCleared, EventOccurred}
 use Rattle.section.specs.declared.WriteAnswer.the-variants as write
 use Rattle.error_entry.specs.declared.ErrorEntry.{ErrorEntry}
 use Rattle.reporter.specs.Rules.{Head, freshHead, isRaisable, raiseAnswer, afterRaise, opened, answerFrame, eaAnswer}
-use Rattle.reporter.specs.declared.RaiseAnswer.the-variants.{Raised}
-use Rattle.reporter.specs.declared.ReadAnswer.the-variants.{Closed}
-use Rattle.collector.specs.Layout.{freshBytes}
+use Rattle.reporter.specs.declared.RaiseAnswer.{RaiseAnswer}
+use Rattle.reporter.specs.declared.RaiseAnswer.the-variants.{Raised, EntryInvalid}
+use Rattle.reporter.specs.declared.ReadAnswer.the-variants.{Closed, Kept, Ignored}
+use Rattle.collector.specs.Layout.{boxOf, freshBytes}
 use Rattle.collector.specs.Rules.{Account, freshAccount, registerAnswer, bookAnswer, requestFrame}
 use Rattle.collector.specs.declared.ReadAnswer.the-variants as box
 use Rattle.collector.specs.declared.RegisterAnswer.the-variants.{Registered}
 use Rattle.collector.specs.declared.RequestAnswer.the-variants as requesting
-use Rattle.signaling.specs.Calls.{sent, Event, raised, answered, headRead, registered, boxRead, requested, Log, World, Run, fresh, call}
-use Rattle.signaling.specs.Example.{entry, five, LossAndRepeat, TwoExchanges, Onward, here, further}
-use Rattle.signaling.specs.Exchanges.{done, more, still}
+use Rattle.collector.specs.declared.TakeAnswer.the-variants as taking
+use Rattle.signaling.specs.Calls.{sent, foreign, Event, raised, answered, headRead, registered, boxRead, requested, taken, hosted, Log, World, Run, fresh, call}
+use Rattle.signaling.specs.Example.{entry, five, LossAndRepeat, Onward, here, further}
 use Rattle.signaling.proofs.Callable.{freshes}
 use Rattle.signaling.proofs.Draining.{draining}
-use Rattle.signaling.proofs.ExampleFrames.{numbers, fields, sizes, asked, fifth, first, second, answer-octets, first-says, second-says, hears-ea}
-use Rattle.signaling.proofs.Exchanging.{Exchanged, exchanging}
-use Rattle.signaling.proofs.Making.{world, Knows, Next, Started, held, sent-whole, starting, raising, answering, closing, knowing, booking, asking}
+use Rattle.signaling.proofs.ExampleFrames.{numbers, fields, sizes, asked, fifth, first, second, answer-octets, first-says, second-says, hears-ea, presFrame, pres-far, pres-other, pres-ignored, preqFrame, hears-host, hears-not, first-length, second-length, request-length}
+use Rattle.signaling.proofs.Making.{world, Knows, Next, Started, held, sent-whole, starting, raising, answering, hearing, knowing, booking, passing, registering, asking, handing, hosting}
 
 -- ---- what the head becomes, and the list of calls
 
@@ -44,16 +44,19 @@ place ea es = record { ea = ea; book = es }
 abbrev pub answerOf : Head → Event
 answerOf h = answered (write.Written (length (answerFrame fields h))) (held (answerFrame fields h))
 
-abbrev pub requestOf : Bool → Event
-requestOf ea = requested 7 (requesting.Written (length (requestFrame 7 asked ea))) (held (requestFrame 7 asked ea))
+abbrev pub requestOf : ℕ → Bool → Event
+requestOf i ea = requested i (requesting.Written (length (requestFrame i asked ea))) (held (requestFrame i asked ea))
+
+abbrev at-start : Log
+at-start = requestOf 9 false ∷ registered 9 Registered ∷ registered 7 Registered ∷ []
 
 abbrev pub all-raised : Log
 all-raised =
     raised fifth Raised ∷ raised (entry ErrorActive 0x8164) Raised ∷ raised (entry EventOccurred 0x8163) Raised
     ∷ raised (entry ErrorCleared 0x8162) Raised
     ∷ raised (entry ErrorActive 0x8161) Raised
-    ∷ registered 7 Registered
-    ∷ []
+    ∷ raised (entry Terminator 0x8160) EntryInvalid
+    ∷ at-start
 
 -- the first answer is lost
 abbrev pub answered-twice : Log
@@ -61,23 +64,31 @@ answered-twice = answerOf first ∷ answerOf first ∷ all-raised
 
 abbrev pub twice-read : Log
 twice-read =
-    boxRead (sent 1) (answerFrame fields first) box.Known ∷ boxRead (sent 1) (answerFrame fields first) box.Booked ∷ answered-twice
+    boxRead (sent 1) (answerFrame fields first) box.Known ∷ boxRead (sent 1) (answerFrame fields first) box.Booked
+    ∷ boxRead foreign presFrame box.NotStatusResponse
+    ∷ answered-twice
+
+-- the first request is lost
+abbrev asked-twice : Log
+asked-twice =
+    requestOf 7 true ∷ requestOf 7 true ∷ headRead foreign presFrame Ignored ∷ headRead (sent 0) (requestFrame 9 asked false) Ignored
+    ∷ twice-read
 
 abbrev pub first-closed : Log
-first-closed = headRead (sent 0) (requestFrame 7 asked true) Closed ∷ requestOf true ∷ twice-read
+first-closed =
+    headRead (sent 2) (requestFrame 7 asked true) Kept ∷ headRead (sent 2) (requestFrame 7 asked true) Closed ∷ asked-twice
 
 abbrev all-booked : Log
 all-booked = boxRead (sent 2) (answerFrame fields second) box.Booked ∷ answerOf second ∷ first-closed
 
+-- a frame of the box's host closes the batch
 abbrev all-closed : Log
-all-closed = headRead (sent 1) (requestFrame 7 asked false) Closed ∷ requestOf false ∷ all-booked
+all-closed = headRead (sent 3) (preqFrame false) Closed ∷ hosted (preqFrame false) ∷ all-booked
 
--- an exchange in which the frames at these places are read
-abbrev exchanged : ℕ → ℕ → Head → Log → Log
-exchanged n m h l =
-    headRead (sent m) (requestFrame 7 asked (h .en)) Closed ∷ requestOf (h .en) ∷ boxRead (sent n) (answerFrame fields h) box.Booked ∷ answerOf h ∷ l
+abbrev one-taken : Log
+one-taken = taken 7 (taking.Taken (entry ErrorActive 0x8161)) ∷ all-closed
 
--- ---- the list with a loss and a repeat
+-- ---- the list with losses and repeats
 
 -- from v on calls have come to this
 pub record Reached (v : World) (l : Log) (h : Head) (p : Account) : Type 0 where
@@ -104,20 +115,20 @@ module _ {v : World} where
       let n = make (r .state) (r .box) (r .knows) in
       record { state = n .state; box = n .box; onward = further (r .onward) (n .step); knows = n .knows }
 
-  adding : {l : Log} {h : Head} {p : Account} (m : ErrorEntryMode) (c : ℕ) → c < 2 ^ 16 → raiseAnswer (entry m c) h ≡ Raised
+  adding : {l : Log} {h : Head} {p : Account} (m : ErrorEntryMode) (c : ℕ) (r : RaiseAnswer) → c < 2 ^ 16 → raiseAnswer (entry m c) h ≡ r
       → Reached v l h p
-      → Reached v (raised (entry m c) Raised ∷ l) (afterRaise Raised (entry m c) h) p
-  adding m c small ok r = next r (λ s b k. raising k (entry m c) (numbers m c small) ok)
+      → Reached v (raised (entry m c) r ∷ l) (afterRaise r (entry m c) h) p
+  adding m c r small ok y = next y (λ s b k. raising k (entry m c) r (numbers m c small) ok)
 
-  raise-all : Reached v (registered 7 Registered ∷ []) (freshHead 7) freshAccount → Reached v all-raised (waits five) freshAccount
+  raise-all : Reached v at-start (freshHead 7) freshAccount → Reached v all-raised (waits five) freshAccount
   unfolding raiseAnswer isRaisable
   raise-all r =
-      adding ErrorCleared 0x8165 (omega arith) refl
-      (adding ErrorActive 0x8164 (omega arith) refl
-      (adding EventOccurred 0x8163 (omega arith) refl
-      (adding ErrorCleared 0x8162 (omega arith) refl
-      (adding ErrorActive 0x8161 (omega arith) refl
-      r))))
+      adding ErrorCleared 0x8165 Raised (omega arith) refl
+      (adding ErrorActive 0x8164 Raised (omega arith) refl
+      (adding EventOccurred 0x8163 Raised (omega arith) refl
+      (adding ErrorCleared 0x8162 Raised (omega arith) refl
+      (adding ErrorActive 0x8161 Raised (omega arith) refl
+      (adding Terminator 0x8160 EntryInvalid (omega arith) refl r)))))
 
   answer-twice : Reached v all-raised (waits five) freshAccount → Reached v answered-twice first freshAccount
   unfolding opened
@@ -129,7 +140,7 @@ module _ {v : World} where
   unfolding bookAnswer
   read-twice r =
       next
-      (next r
+      (next (next r (λ s b k. passing k foreign presFrame (pres-far .0) pres-other))
       (λ s b k.
       booking k (answerFrame fields first) first first-says refl 1
       (omega arith, ap some (sent-whole (answerFrame fields first))) (answer-octets .0) refl))
@@ -137,13 +148,31 @@ module _ {v : World} where
       knowing k (answerFrame fields first) first first-says refl 1
       (omega arith, ap some (sent-whole (answerFrame fields first))) (answer-octets .0) refl)
 
-  pub close-first : Reached v twice-read first (place true (take 4 five)) → Reached v first-closed between (place true (take 4 five))
-  unfolding asked eaAnswer
-  close-first r =
-      next (next r (λ s b k. asking k asked refl))
+  ask-twice : Reached v twice-read first (place true (take 4 five)) → Reached v asked-twice first (place true (take 4 five))
+  unfolding asked
+  ask-twice r =
+      next
+      (next
+      (next
+      (next r
       (λ s b k.
-      closing k 0 (requestFrame 7 asked true)
-      (omega arith, ap some (sent-whole (requestFrame 7 asked true))) refl (rw (hears-ea true)))
+      hearing k (sent 0) (requestFrame 9 asked false) Ignored (omega arith, ap some (sent-whole (requestFrame 9 asked false))) refl
+      (rw (hears-not false))))
+      (λ s b k. hearing k foreign presFrame Ignored (pres-far .1) refl (rw pres-ignored)))
+      (λ s b k. asking k 7 _ (k .place) asked refl))
+      (λ s b k. asking k 7 _ (k .place) asked refl)
+
+  pub close-first : Reached v twice-read first (place true (take 4 five)) → Reached v first-closed between (place true (take 4 five))
+  unfolding eaAnswer
+  close-first r =
+      next
+      (next (ask-twice r)
+      (λ s b k.
+      hearing k (sent 2) (requestFrame 7 asked true) Closed (omega arith, ap some (sent-whole (requestFrame 7 asked true))) refl
+      (rw (hears-ea true))))
+      (λ s b k.
+      hearing k (sent 2) (requestFrame 7 asked true) Kept (omega arith, ap some (sent-whole (requestFrame 7 asked true))) refl
+      (rw (hears-ea true)))
 
   pub answer-second : {p : Account} → Reached v first-closed between p → Reached v (answerOf second ∷ first-closed) second p
   unfolding opened
@@ -158,12 +187,13 @@ module _ {v : World} where
       (omega arith, ap some (sent-whole (answerFrame fields second))) (answer-octets .1) refl)
 
   close-second : Reached v all-booked second (place false five) → Reached v all-closed (waits []) (place false five)
-  unfolding asked eaAnswer
+  unfolding eaAnswer
   close-second r =
-      next (next r (λ s b k. asking k asked refl))
-      (λ s b k.
-      closing k 1 (requestFrame 7 asked false)
-      (omega arith, ap some (sent-whole (requestFrame 7 asked false))) refl (rw (hears-ea false)))
+      next (next r (λ s b k. hosting k (preqFrame false) (hears-host false)))
+      (λ s b k. hearing k (sent 3) (preqFrame false) Closed (omega arith, refl) refl (rw (hears-host false)))
+
+  take-one : Reached v all-closed (waits []) (place false five) → Reached v one-taken (waits []) (place false (drop 1 five))
+  take-one r = next r (λ s b k. handing k (entry ErrorActive 0x8161) (drop 1 five) refl)
 
 -- ---- from a fresh box and a fresh head
 
@@ -177,10 +207,18 @@ origin = world (started .head) freshBytes []
 pub original : Run 7 origin
 original = fresh [] (started .head) freshBytes (started .made) (started .fresh)
 
-reached-start : Reached origin (registered 7 Registered ∷ []) (freshHead 7) freshAccount
+-- the other head can be registered too
+free-for-9 : registerAnswer 9 (boxOf (started .next .box)) ≡ Registered
+unfolding registerAnswer
+free-for-9 = rw (started .box .accounts 9, started .box .vacant, freshes .box .accounts 9, freshes .box .vacant)
+
+reached-start : Reached origin at-start (freshHead 7) freshAccount
+unfolding asked
 reached-start =
     let t = started .next in
-    record { state = t .state; box = t .box; onward = further here (t .step); knows = t .knows }
+    let u = registering (t .knows) 9 refl free-for-9 in
+    let x = asking (u .0 .knows) 9 freshAccount (u .1) asked refl in
+    record { state = x .state; box = x .box; onward = further (further (further here (t .step)) (u .0 .step)) (x .step); knows = x .knows }
 
 pub reached-raised : Reached origin all-raised (waits five) freshAccount
 reached-raised = raise-all reached-start
@@ -193,62 +231,16 @@ reached-first = close-first (read-twice reached-answered)
 
 pub loss-and-repeat : LossAndRepeat
 loss-and-repeat =
-    let r = close-second (book-second (answer-second reached-first)) in
+    let r = take-one (close-second (book-second (answer-second reached-first))) in
     record {
       w = reachedWorld r;
       run = runs original (r .onward);
+      made = rw (first-length, second-length, request-length 7 true, request-length 9 false);
       entries = refl;
-      answers = refl;
-      requests = refl;
-      read = refl;
+      handed = refl;
       place = r .knows .place;
       rest = r .knows .rules;
       state = r .knows .means ∙ sym (r .knows .rules);
       booked = rw (reached-first .knows .rules);
-      drained = draining 7 (some (place false five)) (r .box) (r .knows .boxSize) (r .knows .place);
-    }
-
--- ---- two exchanges
-
-module _ {s b : List ℕ} where
-  exchange₁ : Knows 7 s b all-raised (waits five) freshAccount
-      → Exchanged 7 s b all-raised (exchanged 0 0 first all-raised) between (place true (take 4 five))
-  unfolding opened asked bookAnswer eaAnswer
-  exchange₁ k =
-      exchanging 7 fields asked sizes refl all-raised (waits five) freshAccount 0 0 k (omega arith) first-says refl (answer-octets .0) refl
-      (omega arith, ap some (sent-whole (answerFrame fields first)))
-      (omega arith)
-      (omega arith, ap some (sent-whole (requestFrame 7 asked true)))
-      (omega arith)
-      (hears-ea true)
-      refl
-
-  exchange₂ : Knows 7 s b (exchanged 0 0 first all-raised) between (place true (take 4 five))
-      → Exchanged 7 s b (exchanged 0 0 first all-raised) (exchanged 1 1 second (exchanged 0 0 first all-raised)) (waits []) (place false five)
-  unfolding opened asked bookAnswer eaAnswer
-  exchange₂ k =
-      exchanging 7 fields asked sizes refl (exchanged 0 0 first all-raised) between (place true (take 4 five)) 1 1 k (omega arith) second-says
-      refl
-      (answer-octets .1)
-      refl
-      (omega arith, ap some (sent-whole (answerFrame fields second)))
-      (omega arith)
-      (omega arith, ap some (sent-whole (requestFrame 7 asked false)))
-      (omega arith)
-      (hears-ea false)
-      refl
-
-pub two-exchanges : TwoExchanges
-two-exchanges =
-    let r = reached-raised in
-    let x = exchange₁ (r .knows) in
-    let y = exchange₂ (x .knows) in
-    record {
-      w = reachedWorld r;
-      v = world (y .state) (y .box) (exchanged 1 1 second (exchanged 0 0 first all-raised));
-      run = runs original (r .onward);
-      room = record { account = freshAccount; registered = r .knows .place; free = rw (r .knows .rules) (omega arith) };
-      waiting = rw (r .knows .rules);
-      exchanges = more still (x .exchange) (more still (y .exchange) (done still));
-      closed = rw (y .knows .rules);
+      drained = draining 7 (some (place false (drop 1 five))) (r .box) (r .knows .boxSize) (r .knows .place);
     }

@@ -18,21 +18,31 @@ use Rattle.types.specs.declared.poll_flags.PRFlag.the-variants.{Low1}
 use Rattle.types.specs.declared.states.NmtState.the-variants.{NmtOperational}
 use Rattle.section.specs.Write.{padded}
 use Rattle.control.specs.ASnd.{asndSection}
+use Rattle.poll.specs.PReq.{newPReq}
+use Rattle.poll.specs.PRes.{newPRes}
+use Rattle.poll.specs.declared.preq.NewPReqFrame.{NewPReqFrame}
+use Rattle.poll.specs.declared.pres.NewPResFrame.{NewPResFrame}
 use Rattle.frame.specs.Write.{frameBytes}
-use Rattle.codec.specs.Frame.{readFrame}
+use Rattle.frame.specs.declared.PowerlinkFrame.the-variants.{PReq, PRes}
+use Rattle.codec.specs.Frame.{readFrame, deserializeFrame}
+use Rattle.codec.specs.declared.FrameAnswer.the-variants as frame
 use Rattle.error_entry.specs.Entry.{typeNumber, entryBytes}
 use Rattle.error_entry.specs.declared.ErrorEntry.{ErrorEntry}
 use Rattle.status_response.specs.BitField.{fieldBytes}
 use Rattle.status_response.specs.Fields.{headBytes}
 use Rattle.status_response.specs.Steps.{statusBytes}
+use Rattle.frame_laws.proofs.ReadBack.{frames-read-back}
 use Rattle.reporter.specs.Rules.{Head, freshHead, isRaisable, answerPayload, answerFrame, eaFor, heardIn}
 use Rattle.reporter.specs.declared.AnswerFields.{AnswerFields}
 use Rattle.reporter.specs.declared.acknowledge.Heard.the-variants as heard
 use Rattle.reporter.proofs.Meaning.{answer-size}
-use Rattle.collector.specs.Rules.{requestFrame}
+use Rattle.collector.specs.Rules.{heardIn as boxHeard, requestFrame}
 use Rattle.collector.specs.declared.RequestFields.{RequestFields}
-use Rattle.signaling.specs.Calls.{NotFrom, Numbers, AnswerSizes}
+use Rattle.collector.specs.declared.reading.Heard.the-variants as boxHears
+use Rattle.collector.proofs.Meaning.{request-size}
+use Rattle.signaling.specs.Calls.{NotFrom, Numbers, AnswerSizes, node}
 use Rattle.signaling.specs.Example.{entry, five, madeStatus}
+use Rattle.signaling.proofs.Calls.{request-else}
 use Rattle.signaling.proofs.Facts.{both}
 use Rattle.signaling.proofs.Frames.{Says, is-status, answer-reads, request-reads}
 
@@ -121,3 +131,63 @@ made-source ne = (rw (made-answer, is-status fields (freshHead 7) sizes tt) at n
 pub hears-ea : (ea : Bool) → heardIn 7 (readFrame (requestFrame 7 asked ea)) ≡ heard.Ea ea
 unfolding asked eaFor
 hears-ea ea = rw (request-reads 7 asked ea refl)
+
+-- ---- a frame of another head, and one of the box's host
+
+unfoldable other : NewPResFrame
+other =
+    newPRes (record { 0 = 2 ∷ 0 ∷ 0 ∷ 0 ∷ 0 ∷ 9 ∷ [] }) (node 9) NmtOperational
+    (record { ms = false; en = false; rd = true; pr = Low1; rs = record { 0 = 0 } })
+    (record { 0 = 0 })
+    0
+
+pub presFrame : List ℕ
+presFrame = frameBytes (other .«eth_header») (PRes (other .frame)) []
+
+pres-reads : readFrame presFrame ≡ frame.Frame (PRes (other .frame))
+unfolding other presFrame deserializeFrame
+pres-reads =
+    frames-read-back .reads (other .«eth_header») (PRes (other .frame)) [] (record { destination = refl; source = refl; ethertype = refl })
+    (refl, (omega arith, (refl, omega arith))) .frame
+
+pub pres-far : NotFrom 7 (readFrame presFrame) × NotFrom 240 (readFrame presFrame)
+unfolding other
+pres-far = (rw pres-reads (λ e. omega arith), rw pres-reads (λ e. omega arith))
+
+pub pres-other : boxHeard (readFrame presFrame) ≡ boxHears.Other
+pres-other = rw pres-reads
+
+pub pres-ignored : heardIn 7 (readFrame presFrame) ≡ heard.Nothing
+pres-ignored = rw pres-reads
+
+unfoldable poll : Bool → NewPReqFrame
+poll ea =
+    newPReq (record { 0 = 2 ∷ 0 ∷ 0 ∷ 0 ∷ 0 ∷ 240 ∷ [] }) (record { 0 = 2 ∷ 0 ∷ 0 ∷ 0 ∷ 0 ∷ 7 ∷ [] }) (node 7)
+    (record { ms = false; ea = ea; rd = true })
+    (record { 0 = 0 })
+    0
+
+pub preqFrame : Bool → List ℕ
+preqFrame ea = frameBytes (poll ea .«eth_header») (PReq (poll ea .frame)) []
+
+pub hears-host : (ea : Bool) → heardIn 7 (readFrame (preqFrame ea)) ≡ heard.Ea ea
+unfolding poll preqFrame deserializeFrame eaFor
+hears-host ea =
+    rw
+    (frames-read-back .reads (poll ea .«eth_header») (PReq (poll ea .frame)) []
+    (record { destination = refl; source = refl; ethertype = refl }) (refl, omega arith) .frame)
+
+pub hears-not : (ea : Bool) → heardIn 7 (readFrame (requestFrame 9 asked ea)) ≡ heard.Nothing
+unfolding asked
+hears-not ea = request-else 7 9 asked ea refl (λ e. omega arith)
+
+-- ---- how long they are
+
+pub first-length : length (answerFrame fields first) ≡ 132
+first-length = answer-size fields first
+
+pub second-length : length (answerFrame fields second) ≡ 72
+second-length = answer-size fields second
+
+pub request-length : (i : ℕ) (ea : Bool) → length (requestFrame i asked ea) ≡ 60
+request-length i ea = request-size i asked ea

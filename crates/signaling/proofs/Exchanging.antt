@@ -18,7 +18,7 @@ use Rattle.collector.specs.declared.RequestFields.{RequestFields}
 use Rattle.signaling.specs.Calls.{sent, answered, headRead, boxRead, requested, Log, answersSent, requestsSent, tally, Delivered, AnswerSizes}
 use Rattle.signaling.specs.Exchanges.{Exchange, still}
 use Rattle.signaling.proofs.Frames.{Says}
-use Rattle.signaling.proofs.Making.{world, Knows, held, answering, closing, booking, asking}
+use Rattle.signaling.proofs.Making.{world, Knows, held, answering, hearing, booking, asking}
 
 -- an exchange that can be made, and what it leaves
 pub record Exchanged (i : ℕ) (s b : List ℕ) (l after : Log) (h : Head) (p : Account) : Type 0 where
@@ -58,8 +58,8 @@ module _ (i : ℕ) (f : AnswerFields) (g : RequestFields) (sizes : AnswerSizes f
     exchanging n m k small says from octets books₁ given₁ new₁ given₂ new₂ hears₁ closes =
         let a = answering k f sizes small in
         let b = booking (a .knows) frame₁ (opened h) says from n given₁ octets books₁ in
-        let c = asking (b .knows) g six in
-        let d = closing (c .knows) m frame₂ given₂ from (rw hears₁ closes) in
+        let c = asking (b .knows) i _ (b .knows .place) g six in
+        let d = hearing (c .knows) (sent m) frame₂ Closed given₂ from (rw hears₁ closes) in
         record {
           state = d .state;
           box = d .box;

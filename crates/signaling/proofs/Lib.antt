@@ -20,3 +20,4 @@ pub mod Quiet
 pub mod Resting
 pub mod Steps
 pub mod Transit
+pub mod TwoExchanges

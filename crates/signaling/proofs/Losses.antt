@@ -18,9 +18,9 @@ use Rattle.signaling.specs.Calls.{Origin, sent, foreign, headRead, boxRe
 use Rattle.signaling.specs.Example.{five, here, madeStatus, FreeEaLoses, BuiltAheadLoses, MadeStatusLoses}
 use Rattle.signaling.proofs.Callable.{hears}
 use Rattle.signaling.proofs.Example.{waits, between, place, answerOf, requestOf, first-closed, Reached, reachedWorld, from, runs, next, read-twice, close-first, answer-second, original, reached-answered, reached-first}
-use Rattle.signaling.proofs.ExampleFrames.{fields, asked, first, second, answer-octets, second-says, made-says, made-octets, made-other, made-source, hears-ea}
+use Rattle.signaling.proofs.ExampleFrames.{fields, asked, first, second, answer-octets, second-says, made-says, made-octets, made-other, made-source, hears-ea, first-length, second-length, request-length}
 use Rattle.signaling.proofs.Facts.{clash}
-use Rattle.signaling.proofs.Making.{sent-whole, closing, knowing, books-it, asking}
+use Rattle.signaling.proofs.Making.{sent-whole, hearing, knowing, books-it, asking}
 
 -- the head reads a frame that closes its batch, wherever the frame comes from
 closed-by : {v : World} {l : Log} {h : Head} {p : Account} (r : Reached v l h p) (bs : List ℕ) → heardAnswer (heardIn (h .id) (readFrame bs)) h ≡ Closed
@@ -88,7 +88,7 @@ not-delivered foreign ne = made-source ne
 -- its answer is known, and the next request closes the batch
 abbrev second-lost : Log
 second-lost =
-    headRead (sent 1) (requestFrame 7 asked false) Closed ∷ requestOf false ∷ boxRead (sent 2) (answerFrame fields second) box.Known
+    headRead (sent 3) (requestFrame 7 asked false) Closed ∷ requestOf 7 false ∷ boxRead (sent 2) (answerFrame fields second) box.Known
     ∷ answerOf second
     ∷ first-closed
 
@@ -101,10 +101,10 @@ lose-second r =
     (λ s b k.
     knowing k (answerFrame fields second) second second-says refl 2
     (omega arith, ap some (sent-whole (answerFrame fields second))) (answer-octets .1) refl))
-    (λ s b k. asking k asked refl))
+    (λ s b k. asking k 7 _ (k .place) asked refl))
     (λ s b k.
-    closing k 1 (requestFrame 7 asked false)
-    (omega arith, ap some (sent-whole (requestFrame 7 asked false))) refl (rw (hears-ea false)))
+    hearing k (sent 3) (requestFrame 7 asked false) Closed (omega arith, ap some (sent-whole (requestFrame 7 asked false))) refl
+    (rw (hears-ea false)))
 
 pub made-status-loses : MadeStatusLoses
 unfolding bookAnswer
@@ -123,7 +123,7 @@ made-status-loses =
       w = reachedWorld r;
       onward = r .onward;
       entries = refl;
-      read = refl;
+      made = rw (first-length, second-length, request-length 7 true, request-length 7 false, request-length 9 false);
       place = r .knows .place;
       left = r .knows .means;
     }

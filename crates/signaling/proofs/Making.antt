@@ -1,12 +1,14 @@
 -- Each call can be made in any state, and what both states mean afterwards.
 -- Assumes nothing.
 use Prim.Native.Nat.{ℕ, _≤_}
+use mathlib.Core.Bool.{false}
 use mathlib.Core.Path.{_≡_, refl, ap, _∙_}
 use mathlib.Core.List.{List, [], _∷_, _++_}
 use mathlib.Core.Option.{some}
 use native.Mathlib.Omega.{arith}
 use lib.ListN.{length, take, drop, replicate}
 use lib.Seq.{take-at}
+use lib.Dec.{eqb}
 use borrow.Author.Tests.{le-leb, eq-eqb}
 use Rattle.octets.proofs.NumberBack.{Octets}
 use Rattle.section.specs.Write.{writeAnswer, overwritten}
@@ -18,18 +20,21 @@ use Rattle.reporter.specs.Layout.{reporterLength, headOf, newBytes, raiseBytes,
 use Rattle.reporter.specs.Rules.{Head, freshHead, newAnswer, raiseAnswer, afterRaise, opened, answerFrame, answerLength, heardIn, heardAnswer, afterRead}
 use Rattle.reporter.specs.declared.AnswerFields.{AnswerFields}
 use Rattle.reporter.specs.declared.NewAnswer.the-variants.{Made}
-use Rattle.reporter.specs.declared.RaiseAnswer.the-variants.{Raised}
-use Rattle.reporter.specs.declared.ReadAnswer.the-variants.{Closed}
+use Rattle.reporter.specs.declared.RaiseAnswer.{RaiseAnswer}
+use Rattle.reporter.specs.declared.ReadAnswer.{ReadAnswer}
+use Rattle.reporter.specs.declared.acknowledge.Heard.the-variants as heard
 use Rattle.collector.specs.Calls as collector
 use Rattle.collector.specs.Layout as layout
-use Rattle.collector.specs.Layout.{collectorLength, boxOf, accountOf, freshBytes, registerBytes}
-use Rattle.collector.specs.Rules.{withBook, withEa, Account, freshAccount, registerAnswer, bookAnswer, readAnswer, requestFrame}
+use Rattle.collector.specs.Layout.{collectorLength, boxOf, accountOf, freshBytes, registerBytes, takeBytes}
+use Rattle.collector.specs.Rules.{withBook, withEa, Account, Same, freshAccount, registerAnswer, afterRegister, heardIn as boxHeard, bookAnswer, readAnswer, readCause, requestFrame}
 use Rattle.collector.specs.declared.ReadAnswer.the-variants as box
 use Rattle.collector.specs.declared.RegisterAnswer.the-variants.{Registered}
 use Rattle.collector.specs.declared.RequestAnswer.the-variants as requesting
 use Rattle.collector.specs.declared.RequestFields.{RequestFields}
-use Rattle.signaling.specs.Calls.{sent, Event, raised, answered, headRead, registered, boxRead, requested, Log, tally, ruled, World, Delivered, Numbers, AnswerSizes, node, Step, raise, answer, headReads, register, boxReads, request}
-use Rattle.signaling.proofs.Callable.{makes, raises, answers, hears, freshes, registers, books, asks}
+use Rattle.collector.specs.declared.TakeAnswer.the-variants as taking
+use Rattle.collector.specs.declared.reading.Heard.the-variants as boxHears
+use Rattle.signaling.specs.Calls.{Origin, sent, Event, raised, answered, headRead, registered, boxRead, requested, taken, hosted, Log, tally, ruled, World, Delivered, Numbers, AnswerSizes, node, Step, raise, answer, headReads, register, boxReads, request, takes, hosts}
+use Rattle.signaling.proofs.Callable.{makes, raises, answers, hears, freshes, registers, books, asks, hands}
 use Rattle.signaling.proofs.Frames.{Says}
 
 abbrev pub world : List ℕ → List ℕ → Log → World
@@ -85,6 +90,7 @@ pub record Started (i : ℕ) : Type 0 where
   pub made : reporter.Makes (node i) Made [] head
   pub fresh : collector.Fresh freshBytes
   pub next : Next i head freshBytes [] (registered i Registered) (freshHead i) freshAccount
+  pub box : Same (boxOf (next .box)) (afterRegister Registered i (boxOf freshBytes))
 
 pub starting : (i : ℕ) → newAnswer i ≡ Made → registerAnswer i (boxOf freshBytes) ≡ Registered → Started i
 starting i ok free =
@@ -106,23 +112,24 @@ starting i ok free =
           place = r .0 .box .accounts i ∙ rw (eq-eqb i i refl);
         };
       };
+      box = r .0 .box;
     }
 
 module _ {i : ℕ} {s b : List ℕ} {l : Log} {h : Head} {p : Account} (k : Knows i s b l h p) where
   -- ---- the head's calls
 
-  pub raising : (e : ErrorEntry) → Numbers e → raiseAnswer e h ≡ Raised → Next i s b l (raised e Raised) (afterRaise Raised e h) p
-  raising e n ok =
-      let q : raiseAnswer e (headOf s) ≡ Raised = rw (k .means) ok in
-      let r = rw q at (raises s e (k .headSize) n) in
+  pub raising : (e : ErrorEntry) (r : RaiseAnswer) → Numbers e → raiseAnswer e h ≡ r → Next i s b l (raised e r) (afterRaise r e h) p
+  raising e r n ok =
+      let q : raiseAnswer e (headOf s) ≡ r = rw (k .means) ok in
+      let c = rw q at (raises s e (k .headSize) n) in
       record {
-        state = raiseBytes Raised e s;
+        state = raiseBytes r e s;
         box = b;
-        step = raise e Raised (raiseBytes Raised e s) n (r .0);
+        step = raise e r (raiseBytes r e s) n (c .0);
         knows = record {
-          headSize = r .1;
+          headSize = c .1;
           boxSize = k .boxSize;
-          means = r .0 .head ∙ rw (k .means);
+          means = c .0 .head ∙ rw (k .means);
           rules = rw (k .rules, ok);
           place = k .place;
         };
@@ -147,20 +154,20 @@ module _ {i : ℕ} {s b : List ℕ} {l : Log} {h : Head} {p : Account} (k : Know
         };
       }
 
-  pub closing : (q : ℕ) (bs : List ℕ) → Delivered 240 (sent q) bs (tally i l .requests) → h .id ≡ i
-      → heardAnswer (heardIn i (readFrame bs)) h ≡ Closed → Next i s b l (headRead (sent q) bs Closed) (afterRead Closed h) p
-  closing q bs given same ok =
-      let c : heardAnswer (heardIn (headOf s .id) (readFrame bs)) (headOf s) ≡ Closed =
+  pub hearing : (o : Origin) (bs : List ℕ) (r : ReadAnswer) → Delivered 240 o bs (tally i l .requests) → h .id ≡ i
+      → heardAnswer (heardIn i (readFrame bs)) h ≡ r → Next i s b l (headRead o bs r) (afterRead r h) p
+  hearing o bs r given same ok =
+      let q : heardAnswer (heardIn (headOf s .id) (readFrame bs)) (headOf s) ≡ r =
       rw (k .means) (ap (λ (n : ℕ). heardAnswer (heardIn n (readFrame bs)) h) same ∙ ok) in
-      let r = rw c at (hears s bs (k .headSize)) in
+      let c = rw q at (hears s bs (k .headSize)) in
       record {
-        state = readBytes Closed s;
+        state = readBytes r s;
         box = b;
-        step = headReads (sent q) bs Closed (readBytes Closed s) given (r .0);
+        step = headReads o bs r (readBytes r s) given (c .0);
         knows = record {
-          headSize = r .1;
+          headSize = c .1;
           boxSize = k .boxSize;
-          means = r .0 .head ∙ rw (k .means);
+          means = c .0 .head ∙ rw (k .means);
           rules = rw (k .rules, ok);
           place = k .place;
         };
@@ -212,15 +219,77 @@ module _ {i : ℕ} {s b : List ℕ} {l : Log} {h : Head} {p : Account} (k : Know
           knows = record { headSize = n .headSize; boxSize = n .boxSize; means = n .means; rules = n .rules; place = n .place };
         }
 
-  pub asking : (f : RequestFields) → length (f .«source_mac» .0) ≡ 6
-      → Next i s b l (requested i (requesting.Written (length (requestFrame i f (p .ea)))) (held (requestFrame i f (p .ea)))) h p
-  asking f six =
-      let a = rw (k .place) at (asks b i f target) in
-      let fits : length (requestFrame i f (p .ea)) ≤ 200 = rw (a .size (p .ea)) (omega arith) in
-      let r = rw (is-written (requestFrame i f (p .ea)) fits, is-held (requestFrame i f (p .ea)) fits) at a in
+  -- a frame that is no StatusResponse
+  pub passing : (o : Origin) (bs : List ℕ) → Delivered i o bs (tally i l .answers) → boxHeard (readFrame bs) ≡ boxHears.Other
+      → Next i s b l (boxRead o bs box.NotStatusResponse) h p
+  unfolding readAnswer
+  passing o bs given other =
+      let e : box.NotStatusResponse ≡ readAnswer bs (boxOf b) = rw other in
       record {
         state = s;
         box = b;
-        step = request i f _ target (held (requestFrame i f (p .ea))) six r;
+        step =
+            boxReads o bs box.NotStatusResponse b given
+            (record { answer = e; cause = ap readCause e; box = record { accounts = λ j. refl; vacant = refl }; bytes = refl });
+        knows = record { headSize = k .headSize; boxSize = k .boxSize; means = k .means; rules = k .rules; place = k .place };
+      }
+
+  -- another head is registered, and has a place of its own
+  pub registering : (j : ℕ) → eqb i j ≡ false → registerAnswer j (boxOf b) ≡ Registered
+      → (n : Next i s b l (registered j Registered) h p) × (accountOf (n .box) j ≡ some freshAccount)
+  registering j away ok =
+      let r = rw ok at (registers b j (k .boxSize)) in (
+        record {
+          state = s;
+          box = registerBytes Registered j b;
+          step = register j Registered (registerBytes Registered j b) (r .0);
+          knows = record {
+            headSize = k .headSize;
+            boxSize = r .1;
+            means = k .means;
+            rules = k .rules;
+            place = r .0 .box .accounts i ∙ rw away (k .place);
+          };
+        },
+        r .0 .box .accounts j ∙ rw (eq-eqb j j refl),
+      )
+
+  pub asking : (j : ℕ) (q : Account) → accountOf b j ≡ some q → (f : RequestFields) → length (f .«source_mac» .0) ≡ 6
+      → Next i s b l (requested j (requesting.Written (length (requestFrame j f (q .ea)))) (held (requestFrame j f (q .ea)))) h p
+  asking j q there f six =
+      let a = rw there at (asks b j f target) in
+      let fits : length (requestFrame j f (q .ea)) ≤ 200 = rw (a .size (q .ea)) (omega arith) in
+      let r = rw (is-written (requestFrame j f (q .ea)) fits, is-held (requestFrame j f (q .ea)) fits) at a in
+      record {
+        state = s;
+        box = b;
+        step = request j f _ target (held (requestFrame j f (q .ea))) six r;
+        knows = record { headSize = k .headSize; boxSize = k .boxSize; means = k .means; rules = k .rules; place = k .place };
+      }
+
+  pub handing : (e : ErrorEntry) (es : List ErrorEntry) → p .book ≡ e ∷ es → Next i s b l (taken i (taking.Taken e)) h (withBook es p)
+  handing e es first =
+      let r = rw (k .place, first) at (hands b i (k .boxSize)) in
+      record {
+        state = s;
+        box = takeBytes (taking.Taken e) i b;
+        step = takes i (taking.Taken e) (takeBytes (taking.Taken e) i b) (r .0);
+        knows = record {
+          headSize = k .headSize;
+          boxSize = r .1;
+          means = k .means;
+          rules = k .rules;
+          place = r .0 .box .accounts i ∙ rw (eq-eqb i i refl, k .place, first);
+        };
+      }
+
+  -- ---- the frames of the box's host
+
+  pub hosting : (bs : List ℕ) → heardIn i (readFrame bs) ≡ heard.Ea (p .ea) → Next i s b l (hosted bs) h p
+  hosting bs tells =
+      record {
+        state = s;
+        box = b;
+        step = hosts bs (λ ea e. rw (k .place) cc);
         knows = record { headSize = k .headSize; boxSize = k .boxSize; means = k .means; rules = k .rules; place = k .place };
       }

@@ -156,7 +156,7 @@ take-bit i j b taking.NothingBooked = refl
 
 -- a Raise that is refused leaves the head
 not-raised : (i : ℕ) (e : ErrorEntry) (r : RaiseAnswer) → Quiet i (raised e r) → (h : Head) → afterRaise r e h ≡ h
-not-raised i e Raised k h = absurd k
+not-raised i e Raised k h = absurd (omega arith)
 not-raised i e EntryInvalid k h = refl
 not-raised i e QueueFull k h = refl
 

@@ -1,4 +1,4 @@
--- What Demand3 and Progress ask for can be met: a list of calls with a loss and a repeat that books two batches, and two exchanges. And
+-- What Demand3 and Progress ask for can be met: a list of all calls with losses, repeats and refusals that books two batches, and two exchanges. And
 -- what they leave out has to be left out, three lists that lose entries: of a frame of the box's host with any EA, of one that was built before
 -- a newer request, and of a StatusResponse under the head's ID that the head did not send.
 -- Assumes nothing.
@@ -7,9 +7,11 @@ use mathlib.Core.Bool.{true, false}
 use mathlib.Core.Path.{_≡_}
 use mathlib.Core.List.{List, [], _∷_, _++_}
 use mathlib.Core.Option.{some}
-use lib.ListN.{length, take}
+use lib.ListN.{take, drop}
 use Rattle.types.specs.declared.error_mode.ErrorEntryMode.{ErrorEntryMode}
-use Rattle.types.specs.declared.error_mode.ErrorEntryMode.the-variants.{ErrorActive, ErrorCleared, EventOccurred}
+use Rattle.types.specs.declared.error_mode.ErrorEntryMode.the-variants.{Terminator, ErrorActive, ErrorCleared, EventOccurred}
+use Rattle.section.specs.declared.WriteAnswer.{WriteAnswer}
+use Rattle.section.specs.declared.WriteAnswer.the-variants as write
 use Rattle.frame.specs.Write.{frameBytes}
 use Rattle.frame.specs.declared.PowerlinkFrame.the-variants.{ASnd}
 use Rattle.codec.specs.Frame.{readFrame}
@@ -20,6 +22,8 @@ use Rattle.reporter.specs.Calls as reporter
 use Rattle.reporter.specs.Layout.{headOf}
 use Rattle.reporter.specs.Rules.{statusFields, answerASnd, heardIn}
 use Rattle.reporter.specs.declared.AnswerFields.{AnswerFields}
+use Rattle.reporter.specs.declared.RaiseAnswer.{RaiseAnswer}
+use Rattle.reporter.specs.declared.RaiseAnswer.the-variants.{Raised, EntryInvalid}
 use Rattle.reporter.specs.declared.ReadAnswer.{ReadAnswer}
 use Rattle.reporter.specs.declared.ReadAnswer.the-variants as head
 use Rattle.reporter.specs.declared.acknowledge.Heard.the-variants as heard
@@ -27,7 +31,13 @@ use Rattle.collector.specs.Calls as collector
 use Rattle.collector.specs.Layout.{accountOf}
 use Rattle.collector.specs.declared.ReadAnswer.{ReadAnswer as BoxReadAnswer}
 use Rattle.collector.specs.declared.ReadAnswer.the-variants as box
-use Rattle.signaling.specs.Calls.{Origin, sent, Event, raised, answered, headRead, registered, boxRead, requested, taken, hosted, Log, tally, accepted, answersSent, requestsSent, isBooked, ruled, World, Delivered, Tells, Step, Run, Drained}
+use Rattle.collector.specs.declared.RegisterAnswer.{RegisterAnswer}
+use Rattle.collector.specs.declared.RegisterAnswer.the-variants.{Registered}
+use Rattle.collector.specs.declared.RequestAnswer.{RequestAnswer}
+use Rattle.collector.specs.declared.RequestAnswer.the-variants as requesting
+use Rattle.collector.specs.declared.TakeAnswer.{TakeAnswer}
+use Rattle.collector.specs.declared.TakeAnswer.the-variants as taking
+use Rattle.signaling.specs.Calls.{Origin, sent, foreign, Event, raised, answered, headRead, registered, boxRead, requested, taken, hosted, Log, tally, accepted, handedOut, isBooked, ruled, World, Delivered, Tells, Step, Run, Drained}
 use Rattle.signaling.specs.Exchanges.{pending, Exchanges, Room}
 
 abbrev pub entry : ErrorEntryMode → ℕ → ErrorEntry
@@ -45,42 +55,84 @@ five =
     entry ErrorActive 0x8161 ∷ entry ErrorCleared 0x8162 ∷ entry EventOccurred 0x8163 ∷ entry ErrorActive 0x8164 ∷ entry ErrorCleared 0x8165
     ∷ []
 
--- what the two were given and said, the oldest first
-pub data Reading : Type 0 where
-  byBox : Origin → BoxReadAnswer → Reading
-  byHead : Origin → ReadAnswer → Reading
+-- the calls and what they answered, without the octets, and the frames of the box's host
+pub data Call : Type 0 where
+  raises : ErrorEntry → RaiseAnswer → Call
+  answers : WriteAnswer → Call
+  byHead : Origin → ReadAnswer → Call
+  registers : ℕ → RegisterAnswer → Call
+  byBox : Origin → BoxReadAnswer → Call
+  requests : ℕ → RequestAnswer → Call
+  takes : ℕ → TakeAnswer → Call
+  hosts : Call
 
-abbrev pub readings : Log → List Reading
-readings [] = []
-readings (raised e r ∷ l) = readings l
-readings (answered r bs ∷ l) = readings l
-readings (headRead o bs r ∷ l) = readings l ++ (byHead o r ∷ [])
-readings (registered j r ∷ l) = readings l
-readings (boxRead o bs r ∷ l) = readings l ++ (byBox o r ∷ [])
-readings (requested j r bs ∷ l) = readings l
-readings (taken j r ∷ l) = readings l
-readings (hosted bs ∷ l) = readings l
+abbrev pub callOf : Event → Call
+callOf (raised e r) = raises e r
+callOf (answered r bs) = answers r
+callOf (headRead o bs r) = byHead o r
+callOf (registered j r) = registers j r
+callOf (boxRead o bs r) = byBox o r
+callOf (requested j r bs) = requests j r
+callOf (taken j r) = takes j r
+callOf (hosted bs) = hosts
 
--- a head with ID 7 and the box
+-- the oldest first
+abbrev pub calls : Log → List Call
+calls [] = []
+calls (x ∷ l) = calls l ++ (callOf x ∷ [])
+
+-- the list of calls between the head with ID 7, a head with ID 9 and the box
+
+-- both are registered, and the box asks the other one: request 0
+abbrev pub atStart : List Call
+atStart = registers 7 Registered ∷ registers 9 Registered ∷ requests 9 (requesting.Written 60) ∷ []
+
+-- an entry of mode 0 is refused; five are waiting
+abbrev pub fiveRaised : List Call
+fiveRaised =
+    raises (entry Terminator 0x8160) EntryInvalid ∷ raises (entry ErrorActive 0x8161) Raised ∷ raises (entry ErrorCleared 0x8162) Raised
+    ∷ raises (entry EventOccurred 0x8163) Raised
+    ∷ raises (entry ErrorActive 0x8164) Raised
+    ∷ raises (entry ErrorCleared 0x8165) Raised
+    ∷ []
+
+-- answers 0 and 1 carry the first four: answer 0 is lost
+abbrev pub answeredTwice : List Call
+answeredTwice = answers (write.Written 132) ∷ answers (write.Written 132) ∷ []
+
+-- a PRes of the other head is no StatusResponse; answer 1 is booked, and its repeat is known
+abbrev pub readTwice : List Call
+readTwice = byBox foreign box.NotStatusResponse ∷ byBox (sent 1) box.Booked ∷ byBox (sent 1) box.Known ∷ []
+
+-- the other head's request and its PRes are ignored; request 1 is lost; request 2 closes the batch, and its repeat closes nothing
+abbrev pub firstClosed : List Call
+firstClosed =
+    byHead (sent 0) head.Ignored ∷ byHead foreign head.Ignored ∷ requests 7 (requesting.Written 60) ∷ requests 7 (requesting.Written 60)
+    ∷ byHead (sent 2) head.Closed
+    ∷ byHead (sent 2) head.Kept
+    ∷ []
+
+-- answer 2 carries the fifth and is booked; a PReq of the box's host, on the line of the requests behind request 2, closes that batch
+abbrev pub secondClosed : List Call
+secondClosed = answers (write.Written 72) ∷ byBox (sent 2) box.Booked ∷ hosts ∷ byHead (sent 3) head.Closed ∷ []
+
+-- the oldest is taken
+abbrev pub oneTaken : List Call
+oneTaken = takes 7 (taking.Taken (entry ErrorActive 0x8161)) ∷ []
+
 pub record LossAndRepeat : Type 0 where
   pub w : World
   pub run : Run 7 w
+  pub made : calls (w .log) ≡ atStart ++ (fiveRaised ++ (answeredTwice ++ (readTwice ++ (firstClosed ++ (secondClosed ++ oneTaken)))))
   pub entries : accepted 7 (w .log) ≡ five
-  pub answers : length (answersSent 7 (w .log)) ≡ 3
-  pub requests : length (requestsSent 7 (w .log)) ≡ 2
-  -- of the three answers the first is lost; the second is read twice, booked and then known; the third is booked; either batch is closed
-  -- by its request
-  pub read : readings (w .log)
-      ≡ byBox (sent 1) box.Booked ∷ byBox (sent 1) box.Known ∷ byHead (sent 0) head.Closed ∷ byBox (sent 2) box.Booked
-      ∷ byHead (sent 1) head.Closed
-      ∷ []
-  -- all is booked, and nothing is left at the head
-  pub place : accountOf (w .box) 7 ≡ some (record { ea = false; book = five })
+  pub handed : handedOut 7 (w .log) ≡ take 1 five
+  -- the others are booked, and nothing is left at the head
+  pub place : accountOf (w .box) 7 ≡ some (record { ea = false; book = drop 1 five })
   pub rest : ruled 7 (w .log) ≡ record { id = 7; en = false; batch = []; waiting = [] }
   pub state : headOf (w .head) ≡ ruled 7 (w .log)
   pub booked : isBooked 7 (w .log) ≡ true
-  -- Takes hand out each once, in order
-  pub drained : Drained 7 (w .box) five
+  -- further Takes hand out each once, in order
+  pub drained : Drained 7 (w .box) (drop 1 five)
 
 -- the same entries are closed by two exchanges
 pub record TwoExchanges : Type 0 where
@@ -151,6 +203,8 @@ pub record MadeStatusLoses : Type 0 where
   pub w : World
   pub onward : Onward 7 (record { head = v .head; box = after; log = v .log }) w
   pub entries : accepted 7 (w .log) ≡ five
-  pub read : readings (w .log) ≡ readings (v .log) ++ (byBox (sent 2) box.Known ∷ byHead (sent 1) head.Closed ∷ [])
+  pub made : calls (w .log)
+      ≡ calls (v .log)
+      ++ (answers (write.Written 72) ∷ byBox (sent 2) box.Known ∷ requests 7 (requesting.Written 60) ∷ byHead (sent 3) head.Closed ∷ [])
   pub place : accountOf (w .box) 7 ≡ some (record { ea = false; book = take 4 five })
   pub left : headOf (w .head) ≡ record { id = 7; en = false; batch = []; waiting = [] }
