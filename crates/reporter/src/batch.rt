@@ -21,7 +21,6 @@ use crate::state::waiting;
 use control::asnd::ASndFrame;
 use error_entry::ErrorEntry;
 use octets::slices::put;
-use octets::slices::tail;
 use records::get;
 use section::WriteAnswer;
 use status_response::entries::serialize_batch;
@@ -101,11 +100,15 @@ fn status_fields(state: &Reporter, fields: AnswerFields) -> StatusFields
 
 // Puts zeros behind `len` octets, up to the smallest payload, and answers how many octets there are then.
 fn fill(len: usize, target: &mut [u8]) -> usize
+    requires { ⌜ 42 ≤ length (now target) ⌝ }
     ensures { λ r. ⌜ (r ≡ len + (42 - len)) × (now (target .exit) ≡ sets (now (target .entry)) len (replicate (42 - len) 0)) ⌝ }
 {
-    let zeros = [0u8; PAYLOAD_MIN];
-    put(target, len, tail(&zeros, len));
-    if len < PAYLOAD_MIN { PAYLOAD_MIN } else { len }
+    let mut at = len;
+    while at < PAYLOAD_MIN {
+        target[at] = 0;
+        at += 1;
+    }
+    at
 }
 
 // Writes an answer's payload, and behind it the zeros up to the smallest frame, if both fit.

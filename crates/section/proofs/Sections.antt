@@ -18,7 +18,7 @@ use Rattle.types.specs.declared.hal.PowerlinkError.the-variants.{BufferTooShort
 use Rattle.section.specs.Write.{padded, writeAnswer, overwritten, Writes}
 use Rattle.section.specs.declared.WriteAnswer.the-variants.{Written, Refused}
 
-pub drop-replicate : (k n a : ℕ) → drop k (replicate n a) ≡ replicate (n - k) a
+drop-replicate : (k n a : ℕ) → drop k (replicate n a) ≡ replicate (n - k) a
 drop-replicate zero n a = simp unary-clauses
 drop-replicate (suc k) zero a = let e : 0 - suc k ≡ 0 = omega arith in rw e
 drop-replicate (suc k) (suc n) a = simp unary-clauses (drop-replicate k n a)

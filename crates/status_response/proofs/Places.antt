@@ -3,11 +3,11 @@
 use Prim.Native.Nat.{ℕ, zero, suc, _+_, _*_, _-_, _/_, _≤_, _<_}
 use mathlib.Core.Path.{_≡_, refl, sym, ap, _∙_}
 use mathlib.Core.Bool.{Bool, true, false}
-use mathlib.Core.List.{List, _++_, append-assoc, append-nil}
+use mathlib.Core.List.{List, _++_, append-assoc}
 use native.Mathlib.Omega.{arith}
 use lib.Dec.{leb, ltb}
-use lib.ListN.{length, take, drop, length-drop, drop-of-length-le}
-use lib.Seq.{sets, length-sets, sets-eq, take-all, drop-drop}
+use lib.ListN.{length, take, drop, length-drop, take-append-drop}
+use lib.Seq.{sets, length-sets, sets-eq, take-all, drop-drop, drop-append-le, length-take-le}
 use borrow.Author.Tests.{ltb-true, ltb-false, leb-true, leb-false, le-leb, lt-leb}
 use borrow.Rule.Slice.PartMut.{midOf, putMid}
 use Rattle.octets.proofs.Sets.{sets-front}
@@ -26,14 +26,17 @@ rest-is t at = take-all (length t - at) (drop at t) (simp length-drop (omega ari
 pub rest-length : (t : List ℕ) (at : ℕ) → length (take (length t - at) (drop at t)) ≡ length t - at
 rest-length t at = ap length (rest-is t at) ∙ length-drop at t
 
--- a write to the front of the rest of a list is a write of the whole
-pub sets-rest : (at : ℕ) (t vs : List ℕ) → at + length vs ≤ length t
-    → putMid at (length t - at) t (sets (midOf at (length t - at) t) 0 vs) ≡ sets t at vs
-sets-rest at t vs h =
-    let rest : midOf at (length t - at) t ≡ drop at t = rest-is t at in
-    let front : sets (drop at t) 0 vs ≡ vs ++ drop (at + length vs) t =
-    sets-front (drop at t) vs (simp length-drop (omega arith)) ∙ rw (drop-drop (length vs) at t) in
-    rw (rest, front, drop-of-length-le (drop at t) {i = length t - at} (simp length-drop (omega arith)), append-nil, sets-eq vs t at h, append-assoc)
+-- a write to the front of a part of a list is a write of the whole
+pub sets-part : (at k : ℕ) (t vs : List ℕ) → at + k ≤ length t → length vs ≤ k → putMid at k t (sets (midOf at k t) 0 vs) ≡ sets t at vs
+sets-part at k t vs h few =
+    let d : List ℕ = drop at t in
+    let m : ℕ = length vs in
+    let part : m ≤ length (take k d) = rw (length-take-le k d (simp length-drop (omega arith))) few in
+    let behind : drop m (take k d) ++ drop k d ≡ drop (at + m) t =
+    sym (drop-append-le m (take k d) (drop k d) part) ∙ ap (drop m) (take-append-drop k d) ∙ drop-drop m at t in
+    ap (λ (l : List ℕ). take at t ++ (l ++ drop k d)) (sets-front (take k d) vs part)
+    ∙ ap (λ (l : List ℕ). take at t ++ l) (append-assoc vs (drop m (take k d)) (drop k d) ∙ ap (λ (l : List ℕ). vs ++ l) behind)
+    ∙ sym (sets-eq vs t at (omega arith) ∙ append-assoc (take at t) vs (drop (at + m) t))
 
 module _ (n len : ℕ) where
   pub fit-short : len < 34 → false ≡ entriesFit n len

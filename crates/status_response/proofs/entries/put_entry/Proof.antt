@@ -1,4 +1,4 @@
--- `entries::put_entry` meets its contract: the rest of the target from the entry's place on is written at its front.
+-- `entries::put_entry` meets its contract: the part of the target that is the entry's is written at its front.
 -- Assumes nothing.
 use mathlib.Core.Path.{ap, _∙_}
 use mathlib.Core.List.{List}
@@ -8,7 +8,7 @@ use lib.ListN.{length}
 use borrow.Author.Needs.{needs}
 use borrow.Rule.Slice.PartMut.{putMid}
 use Rattle.error_entry.specs.Entry.{entryBytes}
-use Rattle.status_response.proofs.Places.{entry-length, sets-rest}
+use Rattle.status_response.proofs.Places.{entry-length, sets-part}
 use Rattle.status_response.proofs.entries.put_entry.Statement.{statement}
 use Rattle.status_response.proofs.entries.put_entry.Tie as tie
 
@@ -18,13 +18,15 @@ returns c =
     let a = p .before .before .before .args in
     let at : ℕ = 14 + 20 * a .i in
     let t : List ℕ = a .target .now in
-    ap (λ (l : List ℕ). putMid at (length t - at) t l) (p .put .ensures)
-    ∙ sets-rest at t (entryBytes (a .e)) (omega (arith, entry-length (a .e)))
+    let k : ℕ = at + 20 - at in
+    ap (λ (l : List ℕ). putMid at k t l) (p .put .ensures)
+    ∙ sets-part at k t (entryBytes (a .e)) (omega arith) (omega (arith, entry-length (a .e)))
 
 pub put-entry-spec : {M : Type 1} → statement M
 put-entry-spec =
     tie.close
     (tie.spec
+    (search needs)
     (search needs)
     (search needs)
     (search needs)
