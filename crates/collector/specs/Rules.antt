@@ -1,7 +1,7 @@
 -- The rules of 01, "The error exchange", for the box: the managing node that collects errors (EPSG DS 301, 6.5).
 -- Assumes nothing.
 use Prim.Native.Nat.{ℕ, _+_, _-_}
-use mathlib.Core.Bool.{Bool, true, false, _&&_, Bool·beq}
+use mathlib.Core.Bool.{Bool, true, false, Bool·beq}
 use mathlib.Core.Path.{_≡_}
 use mathlib.Core.List.{List, [], _∷_, _++_}
 use mathlib.Core.Option.{Option, none, some}
@@ -9,6 +9,7 @@ use lib.ListN.{length, drop}
 use lib.Dec.{leb, ltb, eqb}
 use Rattle.types.specs.Causes.{Cause, row, causeOf}
 use Rattle.types.specs.Codes.{pick, need}
+use Rattle.types.specs.Nodes.{isCnNodeId}
 use Rattle.types.specs.declared.NodeId.{NodeId}
 use Rattle.types.specs.declared.requested_service.RequestedServiceId.the-variants.{StatusRequest}
 use Rattle.types.specs.declared.service.ServiceId.{ServiceId}
@@ -100,7 +101,7 @@ registerVacant none vacant = need (ltb 0 vacant) Full Registered
 
 -- 13: "ID to register not 1 to 239"
 unfoldable pub registerAnswer : ℕ → Box → RegisterAnswer
-registerAnswer i b = need (leb 1 i && leb i 239) IdOutOfRange (registerVacant (b .accounts i) (b .vacant))
+registerAnswer i b = need (isCnNodeId i) IdOutOfRange (registerVacant (b .accounts i) (b .vacant))
 
 -- 01's number for each case: 0 where nothing is refused
 abbrev pub registerCause : RegisterAnswer → Cause

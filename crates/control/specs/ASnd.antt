@@ -1,8 +1,8 @@
 -- Writing an ASnd frame (EPSG DS 301, 4.6.1.1.6).
 -- Assumes nothing.
-use Prim.Native.Nat.{ℕ}
+use Prim.Native.Nat.{ℕ, _+_}
 use mathlib.Core.List.{List, [], _∷_, _++_}
-use Rattle.types.specs.Header.{powerlinkHeader}
+use Rattle.types.specs.Header.{ethLength, powerlinkHeader}
 use Rattle.types.specs.Messages.{messageCode}
 use Rattle.types.specs.Services.{serviceCode}
 use Rattle.types.specs.declared.NodeId.{NodeId}
@@ -21,7 +21,14 @@ newASnd from to target source service =
       frame = record { destination = target; source = source; «service_id» = service };
     }
 
--- the 4 octets of the fields
+-- how many octets stand in front of the payload, in its section and in its frame
+abbrev pub asndFieldsLength : ℕ
+asndFieldsLength = 4
+
+abbrev pub asndPayloadAt : ℕ
+asndPayloadAt = ethLength + asndFieldsLength
+
+-- the octets of the fields
 abbrev pub asndBytes : ASndFrame → List ℕ
 asndBytes f = messageCode message.ASnd ∷ f .destination .0 ∷ f .source .0 ∷ serviceCode (f .«service_id») ∷ []
 

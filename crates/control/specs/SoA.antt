@@ -5,6 +5,7 @@ use mathlib.Core.List.{List, [], _∷_}
 use Rattle.types.specs.Addresses.{multicastSoA}
 use Rattle.types.specs.Header.{powerlinkHeader}
 use Rattle.types.specs.Messages.{messageCode}
+use Rattle.types.specs.Nodes.{managingNode, broadcastNode}
 use Rattle.types.specs.RequestedServices.{requestedCode}
 use Rattle.types.specs.States.{stateCode}
 use Rattle.types.specs.declared.EPLVersion.{EPLVersion}
@@ -18,14 +19,14 @@ use Rattle.control.specs.declared.soa.NewSoAFrame.{NewSoAFrame}
 use Rattle.control.specs.declared.soa.SoAFlags.{SoAFlags}
 use Rattle.control.specs.declared.soa.SoAFrame.{SoAFrame}
 
--- from node 240 to node 255, and to the multicast address of SoA
+-- from the managing node to all nodes, and to the multicast address of SoA
 abbrev pub newSoA : MacAddress → NmtState → SoAFlags → RequestedServiceId → NodeId → EPLVersion → NewSoAFrame
 newSoA from state flags service target version =
     record {
       «eth_header» = powerlinkHeader (record { 0 = multicastSoA }) from;
       frame = record {
-        destination = record { 0 = 255 };
-        source = record { 0 = 240 };
+        destination = record { 0 = broadcastNode };
+        source = record { 0 = managingNode };
         «nmt_state» = state;
         flags = flags;
         «req_service_id» = service;
@@ -34,14 +35,20 @@ newSoA from state flags service target version =
       };
     }
 
--- octet 4: bit 2 ea, bit 1 er
-abbrev pub soaFlags : SoAFlags → ℕ
-soaFlags f = atBit 2 (f .ea) + atBit 1 (f .er)
+-- the bits of octet 4
+abbrev pub eaBit : ℕ
+eaBit = 2
+
+abbrev pub erBit : ℕ
+erBit = 1
+
+abbrev pub soaFlagBits : SoAFlags → ℕ
+soaFlagBits f = atBit eaBit (f .ea) + atBit erBit (f .er)
 
 -- the 9 octets of the fields
 abbrev pub soaBytes : SoAFrame → List ℕ
 soaBytes f =
-    messageCode message.SoA ∷ f .destination .0 ∷ f .source .0 ∷ stateCode (f .«nmt_state») ∷ soaFlags (f .flags) ∷ 0
+    messageCode message.SoA ∷ f .destination .0 ∷ f .source .0 ∷ stateCode (f .«nmt_state») ∷ soaFlagBits (f .flags) ∷ 0
     ∷ requestedCode (f .«req_service_id») ∷ f .«target_node_id» .0 ∷ f .«epl_version» .0 ∷ []
 
 unfoldable pub soaSection : SoAFrame → List ℕ

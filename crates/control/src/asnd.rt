@@ -6,10 +6,16 @@ use section::WriteAnswer;
 use section::write_section;
 use types::C_DLL_MULTICAST_ASND;
 use types::NodeId;
+use types::basic::ETH_LEN;
 use types::basic::EthernetHeader;
 use types::basic::MacAddress;
 use types::message_type::MessageType;
 use types::service::ServiceId;
+
+// How many octets stand in front of the payload, in its section and in its frame.
+pub const FIELDS_LEN: usize = 4;
+
+pub const PAYLOAD_AT: usize = ETH_LEN + FIELDS_LEN;
 
 // The fields in front of the payload, which stands beside them.
 pub struct ASndFrame {
@@ -50,7 +56,7 @@ impl ASndFrame {
     }
 
     // The octets of the fields.
-    pub fn to_bytes(self) -> [u8; 4]
+    pub fn to_bytes(self) -> [u8; FIELDS_LEN]
         ensures { λ r. ⌜ r ≡ asndBytes self ⌝ }
     {
         let service = self.service_id;

@@ -26,6 +26,11 @@ pub struct SoAFlags {
     pub er: bool,
 }
 
+// Their bits in octet 4.
+pub const EA: u8 = 4;
+
+pub const ER: u8 = 2;
+
 pub struct SoAFrame {
     pub destination: NodeId,
     pub source: NodeId,
@@ -102,7 +107,7 @@ fn first_octets(frame: SoAFrame) -> [u8; 8]
         frame.destination.0,
         frame.source.0,
         state.to_u8(),
-        flag(frame.flags.ea, 4) + flag(frame.flags.er, 2),
+        flag(frame.flags.ea, EA) + flag(frame.flags.er, ER),
         0,
         service.to_u8(),
         frame.target_node_id.0,

@@ -29,6 +29,11 @@ pub struct SocFlags {
     pub ps: bool,
 }
 
+// Their bits in octet 4.
+pub const MC: u8 = 0x80;
+
+pub const PS: u8 = 0x40;
+
 pub struct SocFrame {
     pub destination: NodeId,
     pub source: NodeId,
@@ -105,7 +110,7 @@ fn node_octets(frame: SocFrame) -> [u8; 4]
 fn flag_octets(frame: SocFrame) -> [u8; 2]
     ensures { λ r. ⌜ r ≡ take 2 (drop 4 (socBytes frame)) ⌝ }
 {
-    [flag(frame.flags.mc, 0x80) + flag(frame.flags.ps, 0x40), 0]
+    [flag(frame.flags.mc, MC) + flag(frame.flags.ps, PS), 0]
 }
 
 fn time_octets(time: NetTime) -> [u8; 8]

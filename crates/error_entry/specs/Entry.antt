@@ -15,6 +15,10 @@ use Rattle.error_entry.specs.declared.ErrorEntry.{ErrorEntry}
 use Rattle.error_entry.specs.declared.ErrorEntryAnswer.{ErrorEntryAnswer}
 use Rattle.error_entry.specs.declared.ErrorEntryAnswer.the-variants.{Entry, Refused}
 
+-- the octets of an entry
+abbrev pub entryLength : ℕ
+entryLength = 20
+
 -- bit 15 status entry, bit 14 send to queue, bits 13 to 12 mode, bits 11 to 0 profile
 unfoldable pub entryTypeOf : ℕ → EntryType
 entryTypeOf n =
@@ -44,9 +48,9 @@ entryBytes e =
     leBytes 2 (typeNumber (e .«entry_type»)) ++ leBytes 2 (e .«error_code») ++ leBytes 4 (e .timestamp .seconds)
     ++ leBytes 4 (e .timestamp .nanoseconds) ++ leBytes 8 (e .«additional_information»)
 
--- 20 octets are needed
+-- all octets are needed
 unfoldable pub readEntry : List ℕ → ErrorEntryAnswer
-readEntry s = need (leb 20 (length s)) (Refused BufferTooShort) (Entry (entryOf s))
+readEntry s = need (leb entryLength (length s)) (Refused BufferTooShort) (Entry (entryOf s))
 
 -- 01's number for each case: 0 for what is read
 abbrev pub entryCause : ErrorEntryAnswer → Cause

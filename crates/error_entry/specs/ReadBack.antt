@@ -4,7 +4,7 @@ use Prim.Native.Nat.{ℕ, _^_, _≤_, _<_}
 use mathlib.Core.Path.{_≡_}
 use mathlib.Core.List.{List, _++_}
 use lib.ListN.{length, getD, take}
-use Rattle.error_entry.specs.Entry.{entryOf, entryBytes}
+use Rattle.error_entry.specs.Entry.{entryLength, entryOf, entryBytes}
 use Rattle.error_entry.specs.declared.ErrorEntry.{ErrorEntry}
 
 -- the numbers are of their widths
@@ -17,4 +17,4 @@ pub record InRange (e : ErrorEntry) : Type 0 where
 
 pub record EntriesReadBack : Type 0 where
   pub entries : (e : ErrorEntry) (behind : List ℕ) → InRange e → entryOf (entryBytes e ++ behind) ≡ e
-  pub octets : (s : List ℕ) → 20 ≤ length s → ((i : ℕ) → getD s i 0 < 256) → entryBytes (entryOf s) ≡ take 20 s
+  pub octets : (s : List ℕ) → entryLength ≤ length s → ((i : ℕ) → getD s i 0 < 256) → entryBytes (entryOf s) ≡ take entryLength s

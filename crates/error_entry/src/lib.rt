@@ -7,7 +7,7 @@ ghost use Rattle.octets.specs.Numbers.{leAt};
 ghost use Rattle.types.specs.Codes.{pick};
 ghost use Rattle.types.specs.Modes.{modeCode};
 ghost use Rattle.section.specs.Write.{Writes};
-ghost use Rattle.error_entry.specs.Entry.{entryTypeOf, typeNumber, entryOf, entryBytes, readEntry};
+ghost use Rattle.error_entry.specs.Entry.{entryLength, entryTypeOf, typeNumber, entryOf, entryBytes, readEntry};
 use octets::little_endian::put_u16_le;
 use octets::little_endian::put_u32_le;
 use octets::little_endian::put_u64_le;
@@ -16,6 +16,9 @@ use section::WriteAnswer;
 use types::common::NetTime;
 use types::error_mode::ErrorEntryMode;
 use types::hal::PowerlinkError;
+
+// The octets of an entry.
+pub const ENTRY_LEN: usize = 20;
 
 // The type of an entry (EPSG DS 301, Table 96).
 pub struct EntryType {
@@ -81,7 +84,7 @@ impl ErrorEntry {
     pub fn deserialize(buffer: &[u8]) -> ErrorEntryAnswer
         ensures { λ r. ⌜ r ≡ readEntry (now (buffer .entry)) ⌝ }
     {
-        if buffer.len() < 20 {
+        if buffer.len() < ENTRY_LEN {
             return ErrorEntryAnswer::Refused(PowerlinkError::BufferTooShort);
         }
         ErrorEntryAnswer::Entry(entry_at(buffer))
@@ -91,11 +94,11 @@ impl ErrorEntry {
     pub fn serialize(self, target: &mut [u8]) -> WriteAnswer
         ensures { λ r. ⌜ Writes (entryBytes self) r (now (target .entry)) (now (target .exit)) ⌝ }
     {
-        if target.len() < 20 {
+        if target.len() < ENTRY_LEN {
             return WriteAnswer::Refused(PowerlinkError::BufferTooShort);
         }
         self.put(target);
-        WriteAnswer::Written(20)
+        WriteAnswer::Written(ENTRY_LEN)
     }
 
     // Writes the 20 octets to the front of `target`, each field straight to its place. What does not fit is dropped: for
@@ -143,7 +146,7 @@ fn u64_in(s: &[u8], at: usize) -> u64
 
 // The entry that 20 octets are.
 fn entry_in(s: &[u8]) -> ErrorEntry
-    requires { ⌜ 20 ≤ length (now s) ⌝ }
+    requires { ⌜ entryLength ≤ length (now s) ⌝ }
     ensures { λ r. ⌜ r ≡ entryOf (now (s .entry)) ⌝ }
 {
     let entry_type = EntryType::from_u16(u16_in(s, 0));
@@ -162,10 +165,10 @@ fn entry_in(s: &[u8]) -> ErrorEntry
 pub fn entry_at(s: &[u8]) -> ErrorEntry
     ensures { λ r. ⌜ r ≡ entryOf (now (s .entry)) ⌝ }
 {
-    if 20 <= s.len() {
+    if ENTRY_LEN <= s.len() {
         return entry_in(s);
     }
-    let mut padded = [0u8; 20];
+    let mut padded = [0u8; ENTRY_LEN];
     put(&mut padded, 0, s);
     entry_in(&padded)
 }

@@ -5,6 +5,8 @@ ghost use Rattle.types.specs.Causes.{causeNumber};
 ghost use Rattle.section.specs.Write.{writeCause};
 ghost use Rattle.numbers.specs.Answers.{lengthAfter, errorOctet, octetAfter, unnamedAnswer};
 use section::WriteAnswer;
+use types::causes::TOO_SHORT;
+use types::causes::UNKNOWN_MESSAGE;
 use types::hal::PowerlinkError;
 
 // A writer's answer: the number, and the length where octets were written.
@@ -21,32 +23,17 @@ pub fn written_or(answer: WriteAnswer, written: &mut usize) -> u8
     }
 }
 
-// A refusal: the number, and the octet where 01's table returns one.
+// A refusal: the number, and the octet where 01's table returns one, with 4 to 7.
 pub fn refusal(e: PowerlinkError, octet: &mut u8) -> u8
     ensures { λ r. ⌜ r ≡ causeNumber e ⌝ }
     ensures { λ _. ⌜ now (octet .exit) ≡ errorOctet e (now (octet .entry)) ⌝ }
 {
-    match e {
-        PowerlinkError::BufferTooShort => 1,
-        PowerlinkError::InvalidEthernetFrame => 2,
-        PowerlinkError::InvalidPlFrame => 3,
-        PowerlinkError::InvalidMessageType(b) => {
-            *octet = b;
-            4
-        }
-        PowerlinkError::InvalidNmtState(b) => {
-            *octet = b;
-            5
-        }
-        PowerlinkError::InvalidServiceId(b) => {
-            *octet = b;
-            6
-        }
-        PowerlinkError::InvalidRequestedServiceId(b) => {
-            *octet = b;
-            7
-        }
+    let number = e.number();
+    if number < UNKNOWN_MESSAGE {
+        return number;
     }
+    *octet = e.byte();
+    number
 }
 
 // A code that names nothing, where `needed` octets would go into `len`: cause 1 is tested first.
@@ -55,7 +42,7 @@ pub fn unnamed(e: PowerlinkError, needed: usize, len: usize, octet: &mut u8) -> 
     ensures { λ _. ⌜ now (octet .exit) ≡ octetAfter (unnamedAnswer needed e len) (now (octet .entry)) ⌝ }
 {
     if len < needed {
-        return 1;
+        return TOO_SHORT;
     }
     refusal(e, octet)
 }

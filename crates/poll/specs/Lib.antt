@@ -1,2 +1,3 @@
 pub mod PReq
 pub mod PRes
+pub mod Poll

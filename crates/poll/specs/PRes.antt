@@ -6,6 +6,7 @@ use Rattle.octets.specs.Numbers.{leBytes}
 use Rattle.types.specs.Addresses.{multicastPRes}
 use Rattle.types.specs.Header.{powerlinkHeader}
 use Rattle.types.specs.Messages.{messageCode}
+use Rattle.types.specs.Nodes.{broadcastNode}
 use Rattle.types.specs.PollFlags.{pollOctet}
 use Rattle.types.specs.States.{stateCode}
 use Rattle.types.specs.declared.NodeId.{NodeId}
@@ -14,17 +15,18 @@ use Rattle.types.specs.declared.mapping.PDOVersion.{PDOVersion}
 use Rattle.types.specs.declared.message_type.MessageType.the-variants as message
 use Rattle.types.specs.declared.states.NmtState.{NmtState}
 use Rattle.section.specs.Write.{atBit, padded}
+use Rattle.poll.specs.Poll.{msBit, rdBit}
 use Rattle.poll.specs.declared.pres.NewPResFrame.{NewPResFrame}
 use Rattle.poll.specs.declared.pres.PResFlags.{PResFlags}
 use Rattle.poll.specs.declared.pres.PResFrame.{PResFrame}
 
--- to node 255 and the multicast address of PRes; the size is the payload's length n modulo 65,536
+-- to all nodes and the multicast address of PRes; the size is the payload's length n modulo 65,536
 abbrev pub newPRes : MacAddress → NodeId → NmtState → PResFlags → PDOVersion → ℕ → NewPResFrame
 newPRes from source state flags version n =
     record {
       «eth_header» = powerlinkHeader (record { 0 = multicastPRes }) from;
       frame = record {
-        destination = record { 0 = 255 };
+        destination = record { 0 = broadcastNode };
         source = source;
         «nmt_state» = state;
         flags = flags;
@@ -33,11 +35,14 @@ newPRes from source state flags version n =
       };
     }
 
--- octet 4: bit 5 ms, bit 4 en, bit 0 rd
-abbrev pub presFlagBits : PResFlags → ℕ
-presFlagBits f = atBit 5 (f .ms) + atBit 4 (f .en) + atBit 0 (f .rd)
+-- the bits of octet 4: ms, en, rd
+abbrev pub enBit : ℕ
+enBit = 4
 
--- the 10 octets of the fields
+abbrev pub presFlagBits : PResFlags → ℕ
+presFlagBits f = atBit msBit (f .ms) + atBit enBit (f .en) + atBit rdBit (f .rd)
+
+-- the octets of the fields
 abbrev pub presBytes : PResFrame → List ℕ
 presBytes f =
     messageCode message.PRes ∷ f .destination .0 ∷ f .source .0 ∷ stateCode (f .«nmt_state») ∷ presFlagBits (f .flags)

@@ -3,6 +3,9 @@ ghost use mathlib.Core.Path.{_≡_};
 ghost use lib.ListN.{length, take};
 ghost use Rattle.section.specs.Write.{Writes};
 ghost use Rattle.poll.specs.PReq.{newPReq, preqBytes, preqSection};
+use crate::FIELDS_LEN;
+use crate::MS;
+use crate::RD;
 use octets::little_endian::put_u16_le;
 use octets::slices::put;
 use section::WriteAnswer;
@@ -25,6 +28,9 @@ pub struct PReqFlags {
     // Ready: the payload is valid.
     pub rd: bool,
 }
+
+// The bit of EA in octet 4, beside those of MS and RD.
+pub const EA: u8 = 4;
 
 // The fields in front of the payload, which stands beside them.
 pub struct PReqFrame {
@@ -66,10 +72,10 @@ impl PReqFrame {
     }
 
     // The octets of the fields. The size is written as the frame holds it.
-    pub fn to_bytes(self) -> [u8; 10]
+    pub fn to_bytes(self) -> [u8; FIELDS_LEN]
         ensures { λ r. ⌜ r ≡ preqBytes self ⌝ }
     {
-        let mut octets = [0u8; 10];
+        let mut octets = [0u8; FIELDS_LEN];
         put(&mut octets, 0, &first_octets(self));
         put_u16_le(&mut octets, 8, self.payload_size);
         octets
@@ -93,7 +99,7 @@ fn first_octets(frame: PReqFrame) -> [u8; 8]
         frame.destination.0,
         frame.source.0,
         0,
-        flag(flags.ms, 0x20) + flag(flags.ea, 4) + flag(flags.rd, 1),
+        flag(flags.ms, MS) + flag(flags.ea, EA) + flag(flags.rd, RD),
         0,
         frame.pdo_version.0,
         0,

@@ -3,6 +3,9 @@ ghost use mathlib.Core.Path.{_≡_};
 ghost use lib.ListN.{length, take};
 ghost use Rattle.section.specs.Write.{Writes};
 ghost use Rattle.poll.specs.PRes.{newPRes, presBytes, presSection};
+use crate::FIELDS_LEN;
+use crate::MS;
+use crate::RD;
 use octets::little_endian::put_u16_le;
 use octets::slices::put;
 use section::WriteAnswer;
@@ -31,6 +34,9 @@ pub struct PResFlags {
     pub pr: PRFlag,
     pub rs: RSFlag,
 }
+
+// The bit of EN in octet 4, beside those of MS and RD.
+pub const EN: u8 = 0x10;
 
 // The fields in front of the payload, which stands beside them.
 pub struct PResFrame {
@@ -77,10 +83,10 @@ impl PResFrame {
     }
 
     // The octets of the fields. The size is written as the frame holds it.
-    pub fn to_bytes(self) -> [u8; 10]
+    pub fn to_bytes(self) -> [u8; FIELDS_LEN]
         ensures { λ r. ⌜ r ≡ presBytes self ⌝ }
     {
-        let mut octets = [0u8; 10];
+        let mut octets = [0u8; FIELDS_LEN];
         put(&mut octets, 0, &first_octets(self));
         put_u16_le(&mut octets, 8, self.payload_size);
         octets
@@ -107,7 +113,7 @@ fn first_octets(frame: PResFrame) -> [u8; 8]
         frame.destination.0,
         frame.source.0,
         state.to_u8(),
-        flag(flags.ms, 0x20) + flag(flags.en, 0x10) + flag(flags.rd, 1),
+        flag(flags.ms, MS) + flag(flags.en, EN) + flag(flags.rd, RD),
         poll_octet(pr, rs),
         frame.pdo_version.0,
         0,

@@ -5,11 +5,8 @@ use mathlib.Core.List.{List}
 use lib.ListN.{drop}
 use lib.Seq.{sets}
 use Rattle.error_entry.specs.Entry.{entryOf, entryBytes}
+pub use Rattle.error_entry.specs.Entry.{entryLength}
 use Rattle.error_entry.specs.declared.ErrorEntry.{ErrorEntry}
-
--- the octets that one entry takes; a record of a store may have more
-abbrev pub entryLength : ℕ
-entryLength = 20
 
 unfoldable pub recordAt : List ℕ → ℕ → ErrorEntry
 recordAt s at = entryOf (drop at s)

@@ -1,12 +1,10 @@
 // Error entries in lent octets, each at the front of a record: the store of both ends of the error exchange.
 ghost use mathlib.Core.Path.{_≡_};
 ghost use Rattle.records.specs.Records.{recordAt, withRecord};
+pub use error_entry::ENTRY_LEN;
 use error_entry::ErrorEntry;
 use error_entry::entry_at;
 use octets::slices::tail;
-
-// The octets that one entry takes; a record of a store may have more.
-pub const ENTRY_LEN: usize = 20;
 
 // The entry whose record begins at an octet, those past the end counting as 0.
 pub fn get(s: &[u8], at: usize) -> ErrorEntry

@@ -4,10 +4,11 @@ use Prim.Native.Nat.{ℕ, zero, suc, _+_, _*_, _-_}
 use mathlib.Core.Bool.{Bool, true, false, not, _&&_, Bool·beq}
 use mathlib.Core.List.{List, [], _∷_, _++_}
 use lib.ListN.{length, take, drop, replicate}
-use lib.Dec.{leb, ltb, eqb}
+use lib.Dec.{ltb, eqb}
 use Rattle.types.specs.Causes.{Cause, row, causeOf}
 use Rattle.types.specs.Codes.{pick, need}
 use Rattle.types.specs.Header.{ethBytes}
+use Rattle.types.specs.Nodes.{isCnNodeId}
 use Rattle.types.specs.declared.service.ServiceId.the-variants as service
 use Rattle.section.specs.declared.WriteAnswer.{WriteAnswer}
 use Rattle.section.specs.declared.WriteAnswer.the-variants as write
@@ -64,7 +65,7 @@ withEn b h = record { id = h .id; en = b; batch = h .batch; waiting = h .waiting
 
 -- cause 13: the ID of a new head is not 1 to 239
 abbrev pub newAnswer : ℕ → NewAnswer
-newAnswer i = need (leb 1 i && leb i 239) IdOutOfRange Made
+newAnswer i = need (isCnNodeId i) IdOutOfRange Made
 
 -- 01's number for each case: 0 where nothing is refused
 abbrev pub newCause : NewAnswer → Cause

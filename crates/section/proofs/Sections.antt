@@ -15,7 +15,7 @@ use Rattle.octets.proofs.ReadBack.{drop-sets}
 use Rattle.octets.proofs.Sets.{sets-append, sets-front}
 use Rattle.types.specs.Codes.{pick}
 use Rattle.types.specs.declared.hal.PowerlinkError.the-variants.{BufferTooShort}
-use Rattle.section.specs.Write.{padded, writeAnswer, overwritten, Writes}
+use Rattle.section.specs.Write.{minSection, padded, writeAnswer, overwritten, Writes}
 use Rattle.section.specs.declared.WriteAnswer.the-variants.{Written, Refused}
 
 drop-replicate : (k n a : ℕ) → drop k (replicate n a) ≡ replicate (n - k) a
@@ -71,13 +71,13 @@ module _ (n : ℕ) (f h p : List ℕ) where
         split true k = three-copies (sets t (length f) (replicate n 0)) ∙ over-zeros (le-of-lt (ltb-true (length h + length p) n k))
         split false k = three-copies t ∙ ap (sets t 0) (unpadded (ltb-false (length h + length p) n k))
 
-pub padded-length : (h p : List ℕ) → length (padded (h ++ p)) ≡ length h + length p + (46 - (length h + length p))
+pub padded-length : (h p : List ℕ) → length (padded (h ++ p)) ≡ length h + length p + (minSection - (length h + length p))
 unfolding padded
 padded-length h p = simp (length-append, length-replicate)
 
-pub behind-length : (f h p : List ℕ) → length (f ++ padded (h ++ p)) ≡ length f + (length h + length p + (46 - (length h + length p)))
+pub behind-length : (f h p : List ℕ) → length (f ++ padded (h ++ p)) ≡ length f + (length h + length p + (minSection - (length h + length p)))
 unfolding padded
-behind-length f h p = filled-length 46 f h p
+behind-length f h p = filled-length minSection f h p
 
 module _ (bs t : List ℕ) where
   -- a target that is too short stays as it was

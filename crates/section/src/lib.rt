@@ -7,9 +7,15 @@ ghost use lib.ListN.{length, replicate};
 ghost use lib.Seq.{sets};
 ghost use Prim.Native.Nat.{_-_, _≤_};
 ghost use Rattle.types.specs.Codes.{pick};
-ghost use Rattle.section.specs.Write.{padded, Writes};
+ghost use Rattle.section.specs.Write.{minSection, padded, Writes};
 use octets::slices::put;
+use types::basic::ETH_LEN;
 use types::hal::PowerlinkError;
+
+// The smallest section, and with the Ethernet header the smallest frame (IEEE 802.3, 3.2.8).
+pub const MIN_SECTION: usize = 46;
+
+pub const MIN_FRAME: usize = ETH_LEN + MIN_SECTION;
 
 // What writing gives: how many octets were written, or why none was.
 pub enum WriteAnswer {
@@ -62,9 +68,13 @@ pub fn write_behind(front: &[u8], header: &[u8], payload: &[u8], target: &mut [u
 
 // How many zeros follow `used` octets of a section.
 fn padding_after(used: usize) -> usize
-    ensures { λ r. ⌜ r ≡ 46 - used ⌝ }
+    ensures { λ r. ⌜ r ≡ minSection - used ⌝ }
 {
-    if used < 46 { 46 - used } else { 0 }
+    if used < MIN_SECTION {
+        MIN_SECTION - used
+    } else {
+        0
+    }
 }
 
 // Copies both to a target that they fit: the zeros first, and the rest over them.
@@ -82,10 +92,10 @@ fn put_behind(front: &[u8], header: &[u8], payload: &[u8], target: &mut [u8])
 // Clears the smallest section from place `at` on, where `used` octets do not fill it: all of it, since a number of zeros
 // that is known to the compiler takes three stores.
 fn clear(target: &mut [u8], at: usize, used: usize)
-    ensures { λ _. ⌜ now (target .exit) ≡ pick (ltb used 46) (sets (now (target .entry)) at (replicate 46 0)) (now (target .entry)) ⌝ }
+    ensures { λ _. ⌜ now (target .exit) ≡ pick (ltb used minSection) (sets (now (target .entry)) at (replicate minSection 0)) (now (target .entry)) ⌝ }
 {
-    if used < 46 {
-        let zeros = [0u8; 46];
+    if used < MIN_SECTION {
+        let zeros = [0u8; MIN_SECTION];
         put(target, at, &zeros);
     }
 }

@@ -1,13 +1,13 @@
 -- The 14 octets in front of the entries of a StatusResponse (EPSG DS 301, 7.3.3.3.1, Table 136).
 -- Assumes nothing.
-use Prim.Native.Nat.{ℕ, _+_, _/_, _%_}
+use Prim.Native.Nat.{ℕ, _+_}
 use mathlib.Core.List.{List, [], _∷_, _++_}
 use lib.ListN.{length, getD, drop}
 use lib.Dec.{leb}
 use Rattle.octets.specs.Numbers.{bit}
 use Rattle.types.specs.Causes.{Cause, row, causeOf}
 use Rattle.types.specs.Codes.{need}
-use Rattle.types.specs.PollFlags.{priorityIn, pollOctet}
+use Rattle.types.specs.PollFlags.{pollOctet, priorityAt, requestsAt}
 use Rattle.types.specs.States.{stateCode, stateOf}
 use Rattle.types.specs.declared.hal.PowerlinkError.the-variants.{BufferTooShort, InvalidNmtState}
 use Rattle.types.specs.declared.states.NmtState.{NmtState}
@@ -20,6 +20,10 @@ use Rattle.status_response.specs.declared.fields.DeserializedStatus.{Des
 use Rattle.status_response.specs.declared.fields.StatusAnswer.{StatusAnswer}
 use Rattle.status_response.specs.declared.fields.StatusAnswer.the-variants.{Status, Refused}
 use Rattle.status_response.specs.declared.fields.StatusFields.{StatusFields}
+
+-- the octets in front
+abbrev pub frontLength : ℕ
+frontLength = 14
 
 -- the bits of EN and EC in octet 0, as 01 has them (docs/DIFFERENCES.md: others read bits 4 and 3)
 abbrev pub enBit : ℕ
@@ -34,8 +38,8 @@ fieldsOf s state =
     record {
       «en_flag» = bit enBit (getD s 0 0);
       «ec_flag» = bit ecBit (getD s 0 0);
-      pr = priorityIn (getD s 1 0 / 8);
-      rs = record { 0 = getD s 1 0 % 8 };
+      pr = priorityAt (getD s 1 0);
+      rs = requestsAt (getD s 1 0);
       «nmt_state» = state;
     }
 
@@ -43,9 +47,9 @@ abbrev pub statusByState : List ℕ → NmtStateAnswer → StatusAnswer
 statusByState s (Unknown b) = Refused (InvalidNmtState b)
 statusByState s (Known state) = Status (fieldsOf s state)
 
--- 14 octets are needed, then a state
+-- all octets are needed, then a state
 unfoldable pub readFields : List ℕ → StatusAnswer
-readFields s = need (leb 14 (length s)) (Refused BufferTooShort) (statusByState s (stateOf (getD s 2 0)))
+readFields s = need (leb frontLength (length s)) (Refused BufferTooShort) (statusByState s (stateOf (getD s 2 0)))
 
 -- 01's number and values for each case: 0 for what is read
 abbrev pub statusCause : StatusAnswer → Cause

@@ -11,8 +11,10 @@ use Rattle.types.specs.declared.error_mode.ErrorEntryMode.the-variants.{Termina
 use Rattle.types.specs.declared.hal.PowerlinkError.the-variants.{BufferTooShort}
 use Rattle.section.specs.declared.WriteAnswer.{WriteAnswer}
 use Rattle.section.specs.declared.WriteAnswer.the-variants.{Written, Refused}
-use Rattle.error_entry.specs.Entry.{entryBytes}
+use Rattle.error_entry.specs.Entry.{entryLength, entryBytes}
 use Rattle.error_entry.specs.declared.ErrorEntry.{ErrorEntry}
+use Rattle.status_response.specs.Fields.{frontLength}
+use Rattle.status_response.specs.Steps.{statusLength}
 
 -- what counts as an entry past the end of a list
 abbrev pub noEntry : ErrorEntry
@@ -28,22 +30,26 @@ noEntry =
 abbrev pub entryAtPlace : List ErrorEntry → ℕ → ErrorEntry
 entryAtPlace es i = getD es i noEntry
 
--- whether n entries and the terminator fit behind the 14 octets in front
+-- where the entry after the first i stands
+abbrev pub entryPlace : ℕ → ℕ
+entryPlace i = frontLength + entryLength * i
+
+-- whether n entries and the terminator fit behind what stands in front
 unfoldable pub entriesFit : ℕ → ℕ → Bool
-entriesFit n len = leb (34 + 20 * n) len
+entriesFit n len = leb (statusLength n) len
 
 -- the answer: the length of n entries and the terminator with what stands in front, or 01's cause 1
 abbrev pub statusAnswer : ℕ → ℕ → WriteAnswer
-statusAnswer n len = pick (entriesFit n len) (Written (34 + 20 * n)) (Refused BufferTooShort)
+statusAnswer n len = pick (entriesFit n len) (Written (statusLength n)) (Refused BufferTooShort)
 
 -- the target once the first n entries are put, each at its place
 abbrev pub entriesPut : List ErrorEntry → List ℕ → ℕ → List ℕ
 entriesPut es t zero = t
-entriesPut es t (suc i) = sets (entriesPut es t i) (14 + 20 * i) (entryBytes (entryAtPlace es i))
+entriesPut es t (suc i) = sets (entriesPut es t i) (entryPlace i) (entryBytes (entryAtPlace es i))
 
 -- the target once the terminator is put behind n entries, if it fits
 abbrev pub terminated : ℕ → List ℕ → List ℕ
-terminated n t = pick (entriesFit n (length t)) (sets t (14 + 20 * n) (replicate 20 0)) t
+terminated n t = pick (entriesFit n (length t)) (sets t (entryPlace n) (replicate entryLength 0)) t
 
 -- the target once what stands in front is put, where the list behind it was written
 abbrev pub headPut : WriteAnswer → List ℕ → List ℕ → List ℕ

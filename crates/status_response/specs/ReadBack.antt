@@ -7,7 +7,7 @@ use lib.ListN.{length, drop}
 use Rattle.error_entry.specs.ReadBack.{InRange}
 use Rattle.error_entry.specs.declared.ErrorEntry.{ErrorEntry}
 use Rattle.status_response.specs.BitField.{fieldOf}
-use Rattle.status_response.specs.Fields.{headBytes, readFields}
+use Rattle.status_response.specs.Fields.{frontLength, headBytes, readFields}
 use Rattle.status_response.specs.Steps.{statusBytes, statusEntries, stepAt, unlessTerminator}
 use Rattle.status_response.specs.declared.bit_field.StaticErrorBitField.{StaticErrorBitField}
 use Rattle.status_response.specs.declared.fields.StatusAnswer.the-variants.{Status}
@@ -37,8 +37,8 @@ EachInRange (e ∷ es) = InRange e × EachInRange es
 
 -- Octets behind the terminator change nothing: a target keeps what it held there, and the smallest section is padded.
 pub record StatusReadsBack : Type 0 where
-  -- the steps from offset 14 on find the entries of a payload, and end by themselves: any more steps find nothing more
-  pub steps : (n : ℕ) (s : List ℕ) → length s ≤ n → walked n s 14 ≡ statusEntries s
+  -- the steps from the front's end on find the entries of a payload, and end by themselves: any more steps find nothing more
+  pub steps : (n : ℕ) (s : List ℕ) → length s ≤ n → walked n s frontLength ≡ statusEntries s
   -- above 7 rs counts as 7
   pub fields : (f : StatusFields) (field : StaticErrorBitField) (es : List ErrorEntry) (behind : List ℕ) → f .rs .0 ≤ 7
       → readFields (statusBytes (headBytes f field) es ++ behind) ≡ Status f

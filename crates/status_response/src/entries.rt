@@ -1,63 +1,68 @@
 // Writing a StatusResponse: its entries come as a lent slice of records.
 ghost use mathlib.Core.Path.{_≡_};
-ghost use Prim.Native.Nat.{_+_, _*_, _≤_};
+ghost use Prim.Native.Nat.{_≤_};
 ghost use lib.ListN.{length, take, replicate};
 ghost use lib.Seq.{sets};
 ghost use Rattle.section.specs.Write.{Writes};
-ghost use Rattle.error_entry.specs.Entry.{entryBytes};
-ghost use Rattle.status_response.specs.Fields.{headBytes};
-ghost use Rattle.status_response.specs.Parts.{batchCount, entriesFit, entriesPut, headPut, statusAnswer, terminated};
-ghost use Rattle.status_response.specs.Steps.{statusBytes};
+ghost use Rattle.error_entry.specs.Entry.{entryLength, entryBytes};
+ghost use Rattle.status_response.specs.Fields.{frontLength, headBytes};
+ghost use Rattle.status_response.specs.Parts.{batchCount, entriesFit, entriesPut, entryPlace, headPut, statusAnswer, terminated};
+ghost use Rattle.status_response.specs.Steps.{statusBytes, statusLength};
 use crate::bit_field::StaticErrorBitField;
+use crate::fields::FRONT_LEN;
 use crate::fields::StatusFields;
+use error_entry::ENTRY_LEN;
 use error_entry::ErrorEntry;
 use octets::slices::put;
 use section::WriteAnswer;
 use types::hal::PowerlinkError;
 
-// Whether `n` entries and the terminator fit into `len` octets, behind the 14 in front.
-fn fits(n: usize, len: usize) -> bool
+// The smallest payload: what stands in front, and the terminator.
+pub(crate) const EMPTY_LEN: usize = FRONT_LEN + ENTRY_LEN;
+
+// Whether `n` entries and the terminator fit into `len` octets, behind what stands in front.
+pub(crate) fn fits(n: usize, len: usize) -> bool
     ensures { λ r. ⌜ r ≡ entriesFit n len ⌝ }
 {
-    if len < 34 {
+    if len < EMPTY_LEN {
         return false;
     }
-    n <= (len - 34) / 20
+    n <= (len - EMPTY_LEN) / ENTRY_LEN
 }
 
-// Writes the 20 octets of one entry at its place. A part of known length spares a test for each field.
+// Writes the octets of one entry at its place. A part of known length spares a test for each field.
 fn put_entry(e: ErrorEntry, i: usize, target: &mut [u8])
-    requires { ⌜ 34 + 20 * i ≤ length (now target) ⌝ }
-    ensures { λ _. ⌜ now (target .exit) ≡ sets (now (target .entry)) (14 + 20 * i) (entryBytes e) ⌝ }
+    requires { ⌜ statusLength i ≤ length (now target) ⌝ }
+    ensures { λ _. ⌜ now (target .exit) ≡ sets (now (target .entry)) (entryPlace i) (entryBytes e) ⌝ }
 {
-    let at = 14 + 20 * i;
-    e.put(&mut target[at..at + 20]);
+    let at = FRONT_LEN + ENTRY_LEN * i;
+    e.put(&mut target[at..at + ENTRY_LEN]);
 }
 
 // Writes the terminator behind `n` entries.
 fn put_terminator(n: usize, target: &mut [u8])
-    requires { ⌜ 34 + 20 * n ≤ length (now target) ⌝ }
-    ensures { λ _. ⌜ now (target .exit) ≡ sets (now (target .entry)) (14 + 20 * n) (replicate 20 0) ⌝ }
+    requires { ⌜ statusLength n ≤ length (now target) ⌝ }
+    ensures { λ _. ⌜ now (target .exit) ≡ sets (now (target .entry)) (entryPlace n) (replicate entryLength 0) ⌝ }
 {
-    let zeros = [0u8; 20];
-    put(target, 14 + 20 * n, &zeros);
+    let zeros = [0u8; ENTRY_LEN];
+    put(target, FRONT_LEN + ENTRY_LEN * n, &zeros);
 }
 
 // Writes the terminator behind `n` entries, if it fits, and answers for them all.
-fn finish(n: usize, target: &mut [u8]) -> WriteAnswer
+pub(crate) fn finish(n: usize, target: &mut [u8]) -> WriteAnswer
     ensures { λ r. ⌜ (r ≡ statusAnswer n (length (now (target .entry)))) × (now (target .exit) ≡ terminated n (now (target .entry))) ⌝ }
 {
     let len = target.len();
     if fits(n, len) {
         put_terminator(n, target);
-        return WriteAnswer::Written(34 + 20 * n);
+        return WriteAnswer::Written(EMPTY_LEN + ENTRY_LEN * n);
     }
     WriteAnswer::Refused(PowerlinkError::BufferTooShort)
 }
 
 // Writes each entry at its place.
 fn write_entries(entries: &[ErrorEntry], target: &mut [u8])
-    requires { ⌜ 34 + 20 * length (now entries) ≤ length (now target) ⌝ }
+    requires { ⌜ statusLength (length (now entries)) ≤ length (now target) ⌝ }
     ensures { λ _. ⌜ now (target .exit) ≡ entriesPut (now (entries .entry)) (now (target .entry)) (length (now (entries .entry))) ⌝ }
 {
     let n = entries.len();
@@ -68,9 +73,9 @@ fn write_entries(entries: &[ErrorEntry], target: &mut [u8])
     }
 }
 
-// Writes the entries and the terminator behind the first 14 octets of `target`, which stay, if all of them fit.
+// Writes the entries and the terminator behind the front of `target`, which stays, if all of them fit.
 fn write_list(entries: &[ErrorEntry], target: &mut [u8]) -> WriteAnswer
-    ensures { λ r. ⌜ Writes (statusBytes (take 14 (now (target .entry))) (now (entries .entry))) r (now (target .entry)) (now (target .exit)) ⌝ }
+    ensures { λ r. ⌜ Writes (statusBytes (take frontLength (now (target .entry))) (now (entries .entry))) r (now (target .entry)) (now (target .exit)) ⌝ }
 {
     let n = entries.len();
     let len = target.len();
@@ -80,8 +85,8 @@ fn write_list(entries: &[ErrorEntry], target: &mut [u8]) -> WriteAnswer
     finish(n, target)
 }
 
-// Writes the 14 octets in front where the list was written, and hands its answer on.
-fn put_head(
+// Writes what stands in front where the list was written, and hands its answer on.
+pub(crate) fn put_head(
     fields: StatusFields,
     field: StaticErrorBitField,
     answer: WriteAnswer,
@@ -124,7 +129,7 @@ fn batch_count(n: usize) -> usize
 // The first entries of a batch, lent to the writer of a list.
 fn list_batch(batch: [ErrorEntry; 4], n: usize, target: &mut [u8]) -> WriteAnswer
     requires { ⌜ n ≤ 4 ⌝ }
-    ensures { λ r. ⌜ (length batch ≡ 4) × Writes (statusBytes (take 14 (now (target .entry))) (take n batch)) r (now (target .entry)) (now (target .exit)) ⌝ }
+    ensures { λ r. ⌜ (length batch ≡ 4) × Writes (statusBytes (take frontLength (now (target .entry))) (take n batch)) r (now (target .entry)) (now (target .exit)) ⌝ }
 {
     write_list(&batch[..n], target)
 }

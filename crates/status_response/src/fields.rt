@@ -1,8 +1,8 @@
-// The 14 octets in front of the error entries (EPSG DS 301, Table 136).
+// What stands in front of the error entries (EPSG DS 301, Table 136).
 ghost use mathlib.Core.Path.{_≡_};
 ghost use Prim.Native.Nat.{_≤_};
 ghost use lib.ListN.{length};
-ghost use Rattle.status_response.specs.Fields.{fieldsOf, headBytes, readStatus};
+ghost use Rattle.status_response.specs.Fields.{frontLength, fieldsOf, headBytes, readStatus};
 use crate::bit_field::StaticErrorBitField;
 use crate::bit_field::field_at;
 use octets::slices::tail;
@@ -11,8 +11,13 @@ use types::hal::PowerlinkError;
 use types::poll_flags::PRFlag;
 use types::poll_flags::RSFlag;
 use types::poll_flags::poll_octet;
+use types::poll_flags::priority_at;
+use types::poll_flags::requests_at;
 use types::states::NmtState;
 use types::states::NmtStateAnswer;
+
+// The octets in front of the entries.
+pub const FRONT_LEN: usize = 14;
 
 // The bits of EN and EC in octet 0: 5 and 4 (docs/DIFFERENCES.md: others read 4 and 3).
 pub const EN: u8 = 0x20;
@@ -45,7 +50,7 @@ pub struct DeserializedStatus {
 pub fn deserialize(payload: &[u8]) -> DeserializedStatus
     ensures { λ r. ⌜ r ≡ readStatus (now (payload .entry)) ⌝ }
 {
-    if payload.len() < 14 {
+    if payload.len() < FRONT_LEN {
         return DeserializedStatus {
             static_error_bit_field: field_at(tail(payload, 6)),
             answer: StatusAnswer::Refused(PowerlinkError::BufferTooShort),
@@ -66,21 +71,21 @@ pub fn deserialize(payload: &[u8]) -> DeserializedStatus
 
 // The fields of a payload that has passed the tests.
 fn fields(payload: &[u8], nmt_state: NmtState) -> StatusFields
-    requires { ⌜ 14 ≤ length (now payload) ⌝ }
+    requires { ⌜ frontLength ≤ length (now payload) ⌝ }
     ensures { λ r. ⌜ r ≡ fieldsOf (now (payload .entry)) «nmt_state» ⌝ }
 {
     StatusFields {
         en_flag: payload[0] / EN % 2 == 1,
         ec_flag: payload[0] / EC % 2 == 1,
-        pr: PRFlag::from_bits(payload[1] / 8),
-        rs: RSFlag(payload[1] % 8),
+        pr: priority_at(payload[1]),
+        rs: requests_at(payload[1]),
         nmt_state,
     }
 }
 
 impl StatusFields {
-    // The 14 octets, with the error field.
-    pub fn to_bytes(self, field: StaticErrorBitField) -> [u8; 14]
+    // The octets, with the error field.
+    pub fn to_bytes(self, field: StaticErrorBitField) -> [u8; FRONT_LEN]
         ensures { λ r. ⌜ r ≡ headBytes self field ⌝ }
     {
         let pr = self.pr;

@@ -1,6 +1,8 @@
 // The walk over the entries of a payload: it holds the payload's bytes and the offset of the next entry.
 ghost use mathlib.Core.Path.{_≡_};
 ghost use Rattle.status_response.specs.Steps.{stepAt};
+use crate::fields::FRONT_LEN;
+use error_entry::ENTRY_LEN;
 use error_entry::ErrorEntry;
 use error_entry::entry_at;
 use types::error_mode::ErrorEntryMode;
@@ -24,7 +26,7 @@ fn entry_step(payload: &[u8], offset: usize) -> EntryStep
         return EntryStep::End;
     }
     let rest = &payload[offset..];
-    if rest.len() < 20 {
+    if rest.len() < ENTRY_LEN {
         return EntryStep::End;
     }
     let entry = entry_at(rest);
@@ -32,9 +34,9 @@ fn entry_step(payload: &[u8], offset: usize) -> EntryStep
     let mode = entry_type.mode;
     match mode {
         ErrorEntryMode::Terminator => EntryStep::End,
-        ErrorEntryMode::ErrorActive => EntryStep::Entry(entry, offset + 20),
-        ErrorEntryMode::ErrorCleared => EntryStep::Entry(entry, offset + 20),
-        ErrorEntryMode::EventOccurred => EntryStep::Entry(entry, offset + 20),
+        ErrorEntryMode::ErrorActive => EntryStep::Entry(entry, offset + ENTRY_LEN),
+        ErrorEntryMode::ErrorCleared => EntryStep::Entry(entry, offset + ENTRY_LEN),
+        ErrorEntryMode::EventOccurred => EntryStep::Entry(entry, offset + ENTRY_LEN),
     }
 }
 
@@ -44,7 +46,7 @@ pub fn new<'a>(payload: &'a [u8]) -> EntryWalk<'a>
 {
     EntryWalk {
         payload,
-        offset: 14,
+        offset: FRONT_LEN,
     }
 }
 

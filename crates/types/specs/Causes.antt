@@ -3,6 +3,7 @@
 use Prim.Native.Nat.{ℕ}
 use mathlib.Core.List.{List, [], _∷_}
 use lib.ListN.{getD}
+use Rattle.types.specs.CauseNumbers.{tooShort, notPowerlink, invalidFrame, unknownMessage, unknownState, unknownService, unknownRequest}
 use Rattle.types.specs.declared.hal.PowerlinkError.{PowerlinkError}
 use Rattle.types.specs.declared.hal.PowerlinkError.the-variants.{BufferTooShort, InvalidEthernetFrame, InvalidPlFrame, InvalidMessageType, InvalidNmtState, InvalidServiceId, InvalidRequestedServiceId}
 use Rattle.types.specs.declared.message_type.MessageTypeAnswer.{MessageTypeAnswer}
@@ -23,13 +24,13 @@ abbrev pub row : ℕ → List ℕ → Cause
 row n bs = record { number = n; returned = bs }
 
 abbrev pub causeOf : PowerlinkError → Cause
-causeOf BufferTooShort = row 1 []
-causeOf InvalidEthernetFrame = row 2 []
-causeOf InvalidPlFrame = row 3 []
-causeOf (InvalidMessageType b) = row 4 (b ∷ [])
-causeOf (InvalidNmtState b) = row 5 (b ∷ [])
-causeOf (InvalidServiceId b) = row 6 (b ∷ [])
-causeOf (InvalidRequestedServiceId b) = row 7 (b ∷ [])
+causeOf BufferTooShort = row tooShort []
+causeOf InvalidEthernetFrame = row notPowerlink []
+causeOf InvalidPlFrame = row invalidFrame []
+causeOf (InvalidMessageType b) = row unknownMessage (b ∷ [])
+causeOf (InvalidNmtState b) = row unknownState (b ∷ [])
+causeOf (InvalidServiceId b) = row unknownService (b ∷ [])
+causeOf (InvalidRequestedServiceId b) = row unknownRequest (b ∷ [])
 
 abbrev pub causeNumber : PowerlinkError → ℕ
 causeNumber e = causeOf e .number
@@ -38,19 +39,19 @@ causeNumber e = causeOf e .number
 abbrev pub causeByte : PowerlinkError → ℕ
 causeByte e = getD (causeOf e .returned) 0 0
 
--- a code that names nothing is refused with the octet: the row for each table that frames are read with
+-- a code that names nothing is refused with the octet: the row of its error, for each table that frames are read with
 abbrev pub messageCause : MessageTypeAnswer → Cause
 messageCause (message.Known m) = row 0 []
-messageCause (message.Unknown b) = row 4 (b ∷ [])
+messageCause (message.Unknown b) = causeOf (InvalidMessageType b)
 
 abbrev pub stateCause : NmtStateAnswer → Cause
 stateCause (state.Known s) = row 0 []
-stateCause (state.Unknown b) = row 5 (b ∷ [])
+stateCause (state.Unknown b) = causeOf (InvalidNmtState b)
 
 abbrev pub serviceCause : ServiceIdAnswer → Cause
 serviceCause (service.Known s) = row 0 []
-serviceCause (service.Unknown b) = row 6 (b ∷ [])
+serviceCause (service.Unknown b) = causeOf (InvalidServiceId b)
 
 abbrev pub requestedCause : RequestedServiceIdAnswer → Cause
 requestedCause (requested.Known s) = row 0 []
-requestedCause (requested.Unknown b) = row 7 (b ∷ [])
+requestedCause (requested.Unknown b) = causeOf (InvalidRequestedServiceId b)

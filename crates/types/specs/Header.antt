@@ -9,6 +9,10 @@ use Rattle.octets.specs.Numbers.{beAt, beBytes}
 use Rattle.types.specs.declared.basic.EthernetHeader.{EthernetHeader}
 use Rattle.types.specs.declared.basic.MacAddress.{MacAddress}
 
+-- the octets of the header
+abbrev pub ethLength : ℕ
+ethLength = 14
+
 -- the EtherType of POWERLINK
 abbrev pub ethertypeEPL : ℕ
 ethertypeEPL = 0x88AB

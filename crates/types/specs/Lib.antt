@@ -1,9 +1,11 @@
 pub mod Addresses
+pub mod CauseNumbers
 pub mod Causes
 pub mod Codes
 pub mod Header
 pub mod Messages
 pub mod Modes
+pub mod Nodes
 pub mod PollFlags
 pub mod ReadBack
 pub mod RequestedServices

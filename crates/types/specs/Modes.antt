@@ -14,6 +14,13 @@ modeCode ErrorActive = 1
 modeCode ErrorCleared = 2
 modeCode EventOccurred = 3
 
+-- a where the mode is that of an entry, and b where it is the terminator's
+abbrev pub unlessTerminator : {A : Type 0} → ErrorEntryMode → A → A → A
+unlessTerminator Terminator a b = b
+unlessTerminator ErrorActive a b = a
+unlessTerminator ErrorCleared a b = a
+unlessTerminator EventOccurred a b = a
+
 abbrev pub modes : List ErrorEntryMode
 modes = Terminator ∷ ErrorActive ∷ ErrorCleared ∷ EventOccurred ∷ []
 

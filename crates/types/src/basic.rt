@@ -33,7 +33,10 @@ impl MacAddress {
     }
 }
 
-// The 14 octets in front of a frame's section.
+// The octets of an Ethernet header.
+pub const ETH_LEN: usize = 14;
+
+// The octets in front of a frame's section.
 pub struct EthernetHeader {
     pub destination_mac: MacAddress,
     pub source_mac: MacAddress,
@@ -60,8 +63,8 @@ impl EthernetHeader {
         self.ether_type == C_DLL_ETHERTYPE_EPL
     }
 
-    // The 14 octets of the header.
-    pub fn to_bytes(self) -> [u8; 14]
+    // The octets of the header.
+    pub fn to_bytes(self) -> [u8; ETH_LEN]
         ensures { λ r. ⌜ r ≡ ethBytes self ⌝ }
     {
         let d = self.destination_mac.0;

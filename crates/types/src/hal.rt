@@ -1,6 +1,13 @@
 // The errors of reading and writing frames (powerlink-rs: hal.rs).
 ghost use mathlib.Core.Path.{_≡_};
 ghost use Rattle.types.specs.Causes.{causeNumber, causeByte};
+use crate::causes::INVALID_FRAME;
+use crate::causes::NOT_POWERLINK;
+use crate::causes::TOO_SHORT;
+use crate::causes::UNKNOWN_MESSAGE;
+use crate::causes::UNKNOWN_REQUEST;
+use crate::causes::UNKNOWN_SERVICE;
+use crate::causes::UNKNOWN_STATE;
 
 // Why a frame, or a buffer for one, is refused. What stands in brackets is the octet that was found.
 pub enum PowerlinkError {
@@ -19,13 +26,13 @@ impl PowerlinkError {
         ensures { λ r. ⌜ r ≡ causeNumber self ⌝ }
     {
         match self {
-            PowerlinkError::BufferTooShort => 1,
-            PowerlinkError::InvalidEthernetFrame => 2,
-            PowerlinkError::InvalidPlFrame => 3,
-            PowerlinkError::InvalidMessageType(_) => 4,
-            PowerlinkError::InvalidNmtState(_) => 5,
-            PowerlinkError::InvalidServiceId(_) => 6,
-            PowerlinkError::InvalidRequestedServiceId(_) => 7,
+            PowerlinkError::BufferTooShort => TOO_SHORT,
+            PowerlinkError::InvalidEthernetFrame => NOT_POWERLINK,
+            PowerlinkError::InvalidPlFrame => INVALID_FRAME,
+            PowerlinkError::InvalidMessageType(_) => UNKNOWN_MESSAGE,
+            PowerlinkError::InvalidNmtState(_) => UNKNOWN_STATE,
+            PowerlinkError::InvalidServiceId(_) => UNKNOWN_SERVICE,
+            PowerlinkError::InvalidRequestedServiceId(_) => UNKNOWN_REQUEST,
         }
     }
 

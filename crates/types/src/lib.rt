@@ -1,5 +1,9 @@
 // The IDs, versions, times, constants, codes and errors that POWERLINK frames are made of (powerlink-rs: types.rs).
+ghost use mathlib.Core.Path.{_≡_};
+ghost use Rattle.types.specs.Nodes.{isCnNodeId};
+
 pub mod basic;
+pub mod causes;
 pub mod common;
 pub mod error_mode;
 pub mod hal;
@@ -12,6 +16,19 @@ pub mod states;
 
 // A POWERLINK node ID. Any octet is one: what a frame holds is kept as it stands.
 pub struct NodeId(pub u8);
+
+impl NodeId {
+    // Whether it is the ID of a controlled node (01: a head): 1 to 239.
+    pub fn is_cn(self) -> bool
+        ensures { λ r. ⌜ r ≡ isCnNodeId (self .0) ⌝ }
+    {
+        let id = self.0;
+        if id < 1 {
+            return false;
+        }
+        id <= C_ADR_MAX_CN_NODE_ID
+    }
+}
 
 // The version of POWERLINK (EPSG DS 301, Table 112).
 pub struct EPLVersion(pub u8);

@@ -1,6 +1,6 @@
 // The priority and the number of waiting requests that a node shows (EPSG DS 301, 4.2.4.1.2.2 and Appendix 3.2).
 ghost use mathlib.Core.Path.{_≡_};
-ghost use Rattle.types.specs.PollFlags.{priorityCode, priorityOf, priorityIn, requestsToSend, pollOctet};
+ghost use Rattle.types.specs.PollFlags.{priorityCode, priorityOf, priorityIn, requestsToSend, pollOctet, priorityAt, requestsAt};
 
 // The priority of the oldest request, highest first.
 pub enum PRFlag {
@@ -88,9 +88,22 @@ impl RSFlag {
     }
 }
 
-// The octet that holds both flags.
+// The octet that holds both flags: bits 5 to 3 and bits 2 to 0.
 pub fn poll_octet(pr: PRFlag, rs: RSFlag) -> u8
     ensures { λ r. ⌜ r ≡ pollOctet pr (rs .0) ⌝ }
 {
     8 * pr.to_u8() + rs.get()
+}
+
+// And each of them, read from it.
+pub fn priority_at(octet: u8) -> PRFlag
+    ensures { λ r. ⌜ r ≡ priorityAt octet ⌝ }
+{
+    PRFlag::from_bits(octet / 8)
+}
+
+pub fn requests_at(octet: u8) -> RSFlag
+    ensures { λ r. ⌜ r ≡ requestsAt octet ⌝ }
+{
+    RSFlag(octet % 8)
 }

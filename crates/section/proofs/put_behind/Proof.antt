@@ -1,7 +1,7 @@
 -- `section::put_behind` meets its contract.
 -- Assumes nothing.
 use borrow.Author.Needs.{needs}
-use Rattle.section.specs.Write.{padded}
+use Rattle.section.specs.Write.{minSection, padded}
 use Rattle.section.proofs.Sections.{four-copies}
 use Rattle.section.proofs.put_behind.Statement.{statement}
 use Rattle.section.proofs.put_behind.Tie as tie
@@ -16,7 +16,7 @@ returns c =
     let s = z .before .before .before .before .before .before in
     let a = s .args in
     rw (p₃ .put3 .ensures, p₂ .put2 .ensures, p₁ .put .ensures, z .clear .ensures)
-    (four-copies 46 (a .front .now) (a .header .now) (a .payload .now) (a .target .now) (s .pre))
+    (four-copies minSection (a .front .now) (a .header .now) (a .payload .now) (a .target .now) (s .pre))
 
 pub put-behind-spec : {M : Type 1} → statement M
 put-behind-spec =

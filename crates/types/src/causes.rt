@@ -1,0 +1,58 @@
+// The numbers of 01's table of causes, which a refusal returns. The names are those of include/powerlink.h.
+
+// Input or target shorter than needed.
+pub const TOO_SHORT: u8 = 1;
+
+// EtherType not 88AB h.
+pub const NOT_POWERLINK: u8 = 2;
+
+// Section empty, or PRes not to 255.
+pub const INVALID_FRAME: u8 = 3;
+
+// Message type unknown; with its octet, as the next three.
+pub const UNKNOWN_MESSAGE: u8 = 4;
+
+// NMT state unknown.
+pub const UNKNOWN_STATE: u8 = 5;
+
+// Service unknown.
+pub const UNKNOWN_SERVICE: u8 = 6;
+
+// Requested service unknown.
+pub const UNKNOWN_REQUEST: u8 = 7;
+
+// Raised entry of mode 0, or profile above 4,095.
+pub const ENTRY_INVALID: u8 = 8;
+
+// 16 already waiting.
+pub const QUEUE_FULL: u8 = 9;
+
+// Read frame is no StatusResponse.
+pub const NOT_STATUS_RESPONSE: u8 = 10;
+
+// ID not registered.
+pub const NOT_REGISTERED: u8 = 11;
+
+// Fewer free places than batch entries.
+pub const BOOK_FULL: u8 = 12;
+
+// ID to register, or of a new head, not 1 to 239.
+pub const ID_OUT_OF_RANGE: u8 = 13;
+
+// ID registered already.
+pub const ID_REGISTERED: u8 = 14;
+
+// Four registered.
+pub const FOUR_REGISTERED: u8 = 15;
+
+// Nothing booked to take.
+pub const NOTHING_BOOKED: u8 = 16;
+
+// Journal under 5 bytes or mark wrong.
+pub const NOT_A_JOURNAL: u8 = 17;
+
+// Journal version not 1.
+pub const UNKNOWN_VERSION: u8 = 18;
+
+// Record cut, mode 0 or ID not 1 to 239.
+pub const RECORD_INVALID: u8 = 19;
