@@ -18,11 +18,11 @@ use error_entry::ErrorEntryAnswer;
 use numbers::answers::refusal;
 use numbers::answers::unnamed;
 use numbers::answers::written_or;
-use numbers::copied::write_status;
 use numbers::values::entry_values;
 use status_response::bit_field::ErrorFieldAnswer;
 use status_response::bit_field::StaticErrorBitField;
 use status_response::bit_field::field_at;
+use status_response::copied;
 use status_response::fields::EC;
 use status_response::fields::EN;
 use status_response::fields::StatusFields;
@@ -191,7 +191,7 @@ pub extern "C" fn powerlink_serialize_status(
 {
     match NmtState::from_u8(state) {
         NmtStateAnswer::Unknown(b) => {
-            let needed = 34 + 20 * (entries.len() / 20);
+            let needed = copied::payload_len(entries);
             unnamed(
                 PowerlinkError::InvalidNmtState(b),
                 needed,
@@ -207,7 +207,7 @@ pub extern "C" fn powerlink_serialize_status(
                 rs: RSFlag(rs),
                 nmt_state,
             };
-            let answer = write_status(fields, field_at(field), entries, target);
+            let answer = copied::serialize(fields, field_at(field), entries, target);
             written_or(answer, written)
         }
     }

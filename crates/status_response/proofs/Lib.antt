@@ -1,4 +1,5 @@
 pub mod Again
+pub mod CopyLaws
 pub mod Lent
 pub mod Padded
 pub mod Places

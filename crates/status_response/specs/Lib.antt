@@ -1,4 +1,5 @@
 pub mod BitField
+pub mod Copied
 pub mod Fields
 pub mod Parts
 pub mod ReadBack

@@ -7,9 +7,10 @@ use Rattle.powerlink.proofs.status.powerlink_serialize_status.Tie as ti
 
 returns : tie.Need-returns
 returns c =
-    let b = c .before .before .before in
+    let p = c .before .before in
+    let b = p .before .before in
     let f = b .before .before in
-    refuses-coded _ _ _ _ _ _ _ _ (rw (← f .from-u8 .ensures, b .b .given .1)) (c .unnamed .ensures)
+    refuses-coded _ _ _ _ _ _ _ _ (rw (← f .from-u8 .ensures, b .b .given .1, p .payload-len .ensures)) (c .unnamed .ensures)
 
 returns-2 : tie.Need-returns-2
 returns-2 c =
@@ -18,13 +19,12 @@ returns-2 c =
     let p = g .before .before in
     let n = p .before .before in
     let f = n .before .before in
-    writes-coded _ _ _ _ _ _ _ _ _ (rw (← f .from-u8 .ensures, n .nmt-state .given .1, p .from-bits .ensures, g .field-at .ensures)) (s .write-status .ensures) (c .written-or .ensures)
+    writes-coded _ _ _ _ _ _ _ _ _ (rw (← f .from-u8 .ensures, n .nmt-state .given .1, p .from-bits .ensures, g .field-at .ensures)) (s .serialize .ensures) (c .written-or .ensures)
 
 pub powerlink-serialize-status-spec : {M : Type 1} → statement M
 powerlink-serialize-status-spec =
     tie.close
     (tie.spec
-    (search needs)
     (search needs)
     (search needs)
     (search needs)
