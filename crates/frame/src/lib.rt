@@ -1,5 +1,6 @@
 // The five kinds joined, and writing any of them (powerlink-rs: frame/mod.rs).
 ghost use mathlib.Core.Path.{_≡_};
+ghost use mathlib.Core.List.{_++_};
 ghost use Rattle.section.specs.Write.{Writes};
 ghost use Rattle.frame.specs.Write.{frameSection};
 ghost use Rattle.frame.specs.Kinds.{intoSoc, intoPReq, intoPRes, intoSoA, intoASnd};
@@ -12,6 +13,7 @@ use control::soc::SocFrame;
 use poll::preq::PReqFrame;
 use poll::pres::PResFrame;
 use section::WriteAnswer;
+use section::write_behind;
 
 pub enum PowerlinkFrame {
     Soc(SocFrame),
@@ -97,12 +99,24 @@ impl PowerlinkFrame {
     pub fn serialize(self, payload: &[u8], target: &mut [u8]) -> WriteAnswer
         ensures { λ r. ⌜ Writes (frameSection self (now (payload .entry))) r (now (target .entry)) (now (target .exit)) ⌝ }
     {
+        self.serialize_behind(b"", payload, target)
+    }
+
+    // Writes the octets `front` and behind them such a section, if both fit.
+    pub(crate) fn serialize_behind(
+        self,
+        front: &[u8],
+        payload: &[u8],
+        target: &mut [u8],
+    ) -> WriteAnswer
+        ensures { λ r. ⌜ Writes (now (front .entry) ++ frameSection self (now (payload .entry))) r (now (target .entry)) (now (target .exit)) ⌝ }
+    {
         match self {
-            PowerlinkFrame::Soc(f) => f.serialize(target),
-            PowerlinkFrame::PReq(f) => f.serialize(payload, target),
-            PowerlinkFrame::PRes(f) => f.serialize(payload, target),
-            PowerlinkFrame::SoA(f) => f.serialize(target),
-            PowerlinkFrame::ASnd(f) => f.serialize(payload, target),
+            PowerlinkFrame::Soc(f) => write_behind(front, &f.to_bytes(), b"", target),
+            PowerlinkFrame::PReq(f) => write_behind(front, &f.to_bytes(), payload, target),
+            PowerlinkFrame::PRes(f) => write_behind(front, &f.to_bytes(), payload, target),
+            PowerlinkFrame::SoA(f) => write_behind(front, &f.to_bytes(), b"", target),
+            PowerlinkFrame::ASnd(f) => write_behind(front, &f.to_bytes(), payload, target),
         }
     }
 }

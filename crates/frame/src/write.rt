@@ -3,12 +3,10 @@ ghost use Rattle.section.specs.Write.{Writes};
 ghost use Rattle.types.specs.Header.{ethBytes};
 ghost use Rattle.frame.specs.Write.{plHeaderBytes, frameBytes};
 use crate::PowerlinkFrame;
-use octets::slices::put;
 use section::WriteAnswer;
 use section::write;
 use types::NodeId;
 use types::basic::EthernetHeader;
-use types::hal::PowerlinkError;
 use types::message_type::MessageType;
 
 // Writes the 14 octets of an Ethernet header, if they fit.
@@ -40,14 +38,5 @@ pub fn serialize_frame(
 ) -> WriteAnswer
     ensures { λ r. ⌜ Writes (frameBytes «eth_header» frame (now (payload .entry))) r (now (target .entry)) (now (target .exit)) ⌝ }
 {
-    if target.len() < 14 {
-        return WriteAnswer::Refused(PowerlinkError::BufferTooShort);
-    }
-    match frame.serialize(payload, &mut target[14..]) {
-        WriteAnswer::Refused(e) => WriteAnswer::Refused(e),
-        WriteAnswer::Written(n) => {
-            put(target, 0, &eth_header.to_bytes());
-            WriteAnswer::Written(14 + n)
-        }
-    }
+    frame.serialize_behind(&eth_header.to_bytes(), payload, target)
 }

@@ -1,4 +1,2 @@
 pub mod Answers
-pub mod Copied
-pub mod Frames
 pub mod Values

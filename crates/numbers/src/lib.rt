@@ -1,5 +1,3 @@
-// What goes between a library and its callers in C: answers and entries as numbers, whole frames from numbers.
+// What goes between a library and its callers in C: answers and entries as numbers.
 pub mod answers;
-pub mod copied;
-pub mod frames;
 pub mod values;

@@ -1,9 +1,10 @@
 -- The frames, entries and fields that numbers give, and what writing them comes to. pr counts modulo 8, a mode modulo 4.
 -- Assumes nothing.
-use Prim.Native.Nat.{ℕ, _+_, _*_, _/_, max}
+use Prim.Native.Nat.{ℕ, _+_, _/_, max}
 use mathlib.Core.Bool.{Bool}
 use mathlib.Core.List.{List, []}
 use lib.ListN.{length}
+use Rattle.types.specs.Header.{ethLength}
 use Rattle.types.specs.Messages.{messageOf}
 use Rattle.types.specs.Modes.{modeIn}
 use Rattle.types.specs.PollFlags.{priorityIn}
@@ -18,7 +19,8 @@ use Rattle.types.specs.declared.error_mode.ErrorEntryMode.{ErrorEntryMode}
 use Rattle.types.specs.declared.requested_service.RequestedServiceId.{RequestedServiceId}
 use Rattle.types.specs.declared.service.ServiceId.{ServiceId}
 use Rattle.types.specs.declared.states.NmtState.{NmtState}
-use Rattle.control.specs.ASnd.{newASnd, asndSection}
+use Rattle.section.specs.Write.{minSection, minFrame}
+use Rattle.control.specs.ASnd.{newASnd, asndFieldsLength, asndSection}
 use Rattle.control.specs.SoA.{newSoA, soaSection}
 use Rattle.control.specs.SoC.{newSoC}
 use Rattle.control.specs.declared.asnd.ASndFrame.{ASndFrame}
@@ -31,6 +33,7 @@ use Rattle.control.specs.declared.soc.SocFlags.{SocFlags}
 use Rattle.control.specs.declared.soc.SocFrame.{SocFrame}
 use Rattle.poll.specs.PReq.{newPReq}
 use Rattle.poll.specs.PRes.{newPRes, presSection}
+use Rattle.poll.specs.Poll.{pollFieldsLength}
 use Rattle.poll.specs.declared.preq.NewPReqFrame.{NewPReqFrame}
 use Rattle.poll.specs.declared.preq.PReqFlags.{PReqFlags}
 use Rattle.poll.specs.declared.preq.PReqFrame.{PReqFrame}
@@ -39,13 +42,13 @@ use Rattle.poll.specs.declared.pres.PResFlags.{PResFlags}
 use Rattle.poll.specs.declared.pres.PResFrame.{PResFrame}
 use Rattle.frame.specs.Write.{plHeaderBytes, frameBytes}
 use Rattle.frame.specs.declared.PowerlinkFrame.the-variants.{Soc, PReq, PRes, SoA, ASnd}
+use Rattle.error_entry.specs.Entry.{entryLength}
 use Rattle.error_entry.specs.declared.ErrorEntry.{ErrorEntry}
 use Rattle.status_response.specs.BitField.{fieldOf}
+use Rattle.status_response.specs.Copied.{entriesGiven}
 use Rattle.status_response.specs.Fields.{headBytes}
-use Rattle.status_response.specs.Steps.{statusBytes}
+use Rattle.status_response.specs.Steps.{statusBytes, statusLength}
 use Rattle.status_response.specs.declared.fields.StatusFields.{StatusFields}
-use Rattle.numbers.specs.Copied.{entriesGiven}
-use Rattle.numbers.specs.Frames.{socFrame, preqFrame, presFrame, soaFrame, asndFrame}
 use Rattle.powerlink.specs.Writing.{Coded, octets, typed, stated, served, requested}
 
 abbrev pub node : ℕ → NodeId
@@ -120,24 +123,24 @@ asndGiven destination source service =
 
 -- the octets that a section needs, and those of a frame: the fields with the payload, or the smallest size
 abbrev pub sectionNeeds : ℕ → List ℕ → ℕ
-sectionNeeds fields payload = max 46 (fields + length payload)
+sectionNeeds fields payload = max minSection (fields + length payload)
 
 abbrev pub frameNeeds : ℕ → List ℕ → ℕ
-frameNeeds fields payload = max 60 (14 + fields + length payload)
+frameNeeds fields payload = max minFrame (ethLength + fields + length payload)
 
 abbrev pub presWriting : ℕ → ℕ → ℕ → PResFlags → ℕ → ℕ → List ℕ → Coded
 presWriting destination source state flags version size payload =
-    stated (sectionNeeds 10 payload) (stateOf state)
+    stated (sectionNeeds pollFieldsLength payload) (stateOf state)
     (λ s. octets (presSection (presGiven destination source s flags version size) payload))
 
 abbrev pub soaWriting : ℕ → ℕ → ℕ → SoAFlags → ℕ → ℕ → ℕ → Coded
 soaWriting destination source state flags service target version =
-    stated 46 (stateOf state)
-    (λ s. requested 46 (requestedOf service) (λ q. octets (soaSection (soaGiven destination source s flags q target version))))
+    stated minSection (stateOf state)
+    (λ s. requested minSection (requestedOf service) (λ q. octets (soaSection (soaGiven destination source s flags q target version))))
 
 abbrev pub asndWriting : ℕ → ℕ → ℕ → List ℕ → Coded
 asndWriting destination source service payload =
-    served (sectionNeeds 4 payload) (serviceOf service) (λ s. octets (asndSection (asndGiven destination source s) payload))
+    served (sectionNeeds asndFieldsLength payload) (serviceOf service) (λ s. octets (asndSection (asndGiven destination source s) payload))
 
 -- ---- headers
 
@@ -151,28 +154,36 @@ plHeaderWriting message destination source =
 -- ---- whole frames, as each kind's `new` makes them
 
 abbrev pub newSoCFrame : List ℕ → SocFlags → NetTime → ℕ → List ℕ
-newSoCFrame from flags net relative = socFrame (newSoC (mac from) flags net (record { 0 = relative }))
+newSoCFrame from flags net relative =
+    let n = newSoC (mac from) flags net (record { 0 = relative }) in frameBytes (n .«eth_header») (Soc (n .frame)) []
 
 abbrev pub newPReqFrame : List ℕ → List ℕ → ℕ → PReqFlags → ℕ → List ℕ → List ℕ
 newPReqFrame from to target flags version payload =
-    preqFrame (newPReq (mac from) (mac to) (node target) flags (record { 0 = version }) (length payload)) payload
+    let n = newPReq (mac from) (mac to) (node target) flags (record { 0 = version }) (length payload) in
+    frameBytes (n .«eth_header») (PReq (n .frame)) payload
 
 abbrev pub newPResWriting : List ℕ → ℕ → ℕ → PResFlags → ℕ → List ℕ → Coded
 newPResWriting from source state flags version payload =
-    stated (frameNeeds 10 payload) (stateOf state)
-    (λ s. octets (presFrame (newPRes (mac from) (node source) s flags (record { 0 = version }) (length payload)) payload))
+    stated (frameNeeds pollFieldsLength payload) (stateOf state)
+    (λ s.
+    let n = newPRes (mac from) (node source) s flags (record { 0 = version }) (length payload) in
+    octets (frameBytes (n .«eth_header») (PRes (n .frame)) payload))
 
 abbrev pub newSoAWriting : List ℕ → ℕ → SoAFlags → ℕ → ℕ → ℕ → Coded
 newSoAWriting from state flags service target version =
-    stated 60 (stateOf state)
+    stated minFrame (stateOf state)
     (λ s.
-    requested 60 (requestedOf service)
-    (λ q. octets (soaFrame (newSoA (mac from) s flags q (node target) (record { 0 = version })))))
+    requested minFrame (requestedOf service)
+    (λ q.
+    let n = newSoA (mac from) s flags q (node target) (record { 0 = version }) in
+    octets (frameBytes (n .«eth_header») (SoA (n .frame)) [])))
 
 abbrev pub newASndWriting : List ℕ → List ℕ → ℕ → ℕ → ℕ → List ℕ → Coded
 newASndWriting from to target source service payload =
-    served (frameNeeds 4 payload) (serviceOf service)
-    (λ s. octets (asndFrame (newASnd (mac from) (mac to) (node target) (node source) s) payload))
+    served (frameNeeds asndFieldsLength payload) (serviceOf service)
+    (λ s.
+    let n = newASnd (mac from) (mac to) (node target) (node source) s in
+    octets (frameBytes (n .«eth_header») (ASnd (n .frame)) payload))
 
 -- ---- StatusResponse
 
@@ -196,5 +207,5 @@ fieldsGiven en ec pr rs state =
 
 abbrev pub statusWriting : Bool → Bool → ℕ → ℕ → ℕ → List ℕ → List ℕ → Coded
 statusWriting en ec pr rs state field entries =
-    stated (34 + 20 * (length entries / 20)) (stateOf state)
+    stated (statusLength (length entries / entryLength)) (stateOf state)
     (λ s. octets (statusBytes (headBytes (fieldsGiven en ec pr rs s) (fieldOf field)) (entriesGiven entries)))

@@ -1,18 +1,21 @@
 // Writing whole frames, as each kind's `new` makes them.
 ghost use Rattle.powerlink.specs.Given.{time, socFlagsGiven, newSoCFrame, preqFlagsGiven, newPReqFrame, presFlagsGiven, newPResWriting, soaFlagsGiven, newSoAWriting, newASndWriting};
 ghost use Rattle.powerlink.specs.Writing.{WritesTo, WritesCoded};
+use control::asnd;
+use control::asnd::ASndFrame;
 use control::soa::SoAFlags;
+use control::soa::SoAFrame;
 use control::soc::SocFlags;
+use control::soc::SocFrame;
 use numbers::answers::padded_len;
 use numbers::answers::unnamed;
 use numbers::answers::written_or;
-use numbers::frames::write_asnd;
-use numbers::frames::write_preq;
-use numbers::frames::write_pres;
-use numbers::frames::write_soa;
-use numbers::frames::write_soc;
 use poll::preq::PReqFlags;
+use poll::preq::PReqFrame;
 use poll::pres::PResFlags;
+use poll::pres::PResFrame;
+use section::MIN_FRAME;
+use section::write_behind;
 use types::EPLVersion;
 use types::NodeId;
 use types::basic::MacAddress;
@@ -43,7 +46,7 @@ pub extern "C" fn powerlink_new_soc(
 ) -> u8
     ensures { λ r. ⌜ WritesTo (newSoCFrame (now («source_mac» .entry)) (socFlagsGiven mc ps) (time seconds nanoseconds) «relative_time») r (now (target .entry)) (now (target .exit)) (now (written .entry)) (now (written .exit)) ⌝ }
 {
-    let answer = write_soc(
+    let new = SocFrame::new(
         MacAddress(*source_mac),
         SocFlags { mc, ps },
         NetTime {
@@ -51,8 +54,10 @@ pub extern "C" fn powerlink_new_soc(
             nanoseconds,
         },
         RelativeTime(relative_time),
-        target,
     );
+    let eth_header = new.eth_header;
+    let frame = new.frame;
+    let answer = write_behind(&eth_header.to_bytes(), &frame.to_bytes(), b"", target);
     written_or(answer, written)
 }
 
@@ -72,15 +77,17 @@ pub extern "C" fn powerlink_new_preq(
 ) -> u8
     ensures { λ r. ⌜ WritesTo (newPReqFrame (now («source_mac» .entry)) (now («dest_mac» .entry)) «target_node» (preqFlagsGiven ms ea rd) «pdo_version» (now (payload .entry))) r (now (target .entry)) (now (target .exit)) (now (written .entry)) (now (written .exit)) ⌝ }
 {
-    let answer = write_preq(
+    let new = PReqFrame::new(
         MacAddress(*source_mac),
         MacAddress(*dest_mac),
         NodeId(target_node),
         PReqFlags { ms, ea, rd },
         PDOVersion(pdo_version),
         payload,
-        target,
     );
+    let eth_header = new.eth_header;
+    let frame = new.frame;
+    let answer = write_behind(&eth_header.to_bytes(), &frame.to_bytes(), payload, target);
     written_or(answer, written)
 }
 
@@ -105,7 +112,7 @@ pub extern "C" fn powerlink_new_pres(
 {
     match NmtState::from_u8(state) {
         NmtStateAnswer::Unknown(b) => {
-            let needed = padded_len(60, 24 + payload.len());
+            let needed = padded_len(MIN_FRAME, poll::PAYLOAD_AT + payload.len());
             unnamed(
                 PowerlinkError::InvalidNmtState(b),
                 needed,
@@ -114,7 +121,7 @@ pub extern "C" fn powerlink_new_pres(
             )
         }
         NmtStateAnswer::Known(nmt_state) => {
-            let answer = write_pres(
+            let new = PResFrame::new(
                 MacAddress(*source_mac),
                 NodeId(source),
                 nmt_state,
@@ -127,8 +134,10 @@ pub extern "C" fn powerlink_new_pres(
                 },
                 PDOVersion(pdo_version),
                 payload,
-                target,
             );
+            let eth_header = new.eth_header;
+            let frame = new.frame;
+            let answer = write_behind(&eth_header.to_bytes(), &frame.to_bytes(), payload, target);
             written_or(answer, written)
         }
     }
@@ -152,25 +161,32 @@ pub extern "C" fn powerlink_new_soa(
 {
     match NmtState::from_u8(state) {
         NmtStateAnswer::Unknown(b) => {
-            unnamed(PowerlinkError::InvalidNmtState(b), 60, target.len(), octet)
+            unnamed(
+                PowerlinkError::InvalidNmtState(b),
+                MIN_FRAME,
+                target.len(),
+                octet,
+            )
         }
         NmtStateAnswer::Known(nmt_state) => match RequestedServiceId::from_u8(requested_service) {
             RequestedServiceIdAnswer::Unknown(b) => unnamed(
                 PowerlinkError::InvalidRequestedServiceId(b),
-                60,
+                MIN_FRAME,
                 target.len(),
                 octet,
             ),
             RequestedServiceIdAnswer::Known(service) => {
-                let answer = write_soa(
+                let new = SoAFrame::new(
                     MacAddress(*source_mac),
                     nmt_state,
                     SoAFlags { ea, er },
                     service,
                     NodeId(target_node),
                     EPLVersion(epl_version),
-                    target,
                 );
+                let eth_header = new.eth_header;
+                let frame = new.frame;
+                let answer = write_behind(&eth_header.to_bytes(), &frame.to_bytes(), b"", target);
                 written_or(answer, written)
             }
         },
@@ -194,7 +210,7 @@ pub extern "C" fn powerlink_new_asnd(
 {
     match ServiceId::from_u8(service) {
         ServiceIdAnswer::Unknown(b) => {
-            let needed = padded_len(60, 18 + payload.len());
+            let needed = padded_len(MIN_FRAME, asnd::PAYLOAD_AT + payload.len());
             unnamed(
                 PowerlinkError::InvalidServiceId(b),
                 needed,
@@ -203,15 +219,16 @@ pub extern "C" fn powerlink_new_asnd(
             )
         }
         ServiceIdAnswer::Known(service_id) => {
-            let answer = write_asnd(
+            let new = ASndFrame::new(
                 MacAddress(*source_mac),
                 MacAddress(*dest_mac),
                 NodeId(target_node),
                 NodeId(source),
                 service_id,
-                payload,
-                target,
             );
+            let eth_header = new.eth_header;
+            let frame = new.frame;
+            let answer = write_behind(&eth_header.to_bytes(), &frame.to_bytes(), payload, target);
             written_or(answer, written)
         }
     }

@@ -3,6 +3,7 @@ ghost use Rattle.control.specs.SoC.{socSection};
 ghost use Rattle.poll.specs.PReq.{preqSection};
 ghost use Rattle.powerlink.specs.Given.{socGiven, preqFlagsGiven, preqGiven, presFlagsGiven, presWriting, soaFlagsGiven, soaWriting, asndWriting};
 ghost use Rattle.powerlink.specs.Writing.{WritesTo, WritesCoded};
+use control::asnd;
 use control::asnd::ASndFrame;
 use control::soa::SoAFlags;
 use control::soa::SoAFrame;
@@ -15,6 +16,7 @@ use poll::preq::PReqFlags;
 use poll::preq::PReqFrame;
 use poll::pres::PResFlags;
 use poll::pres::PResFrame;
+use section::MIN_SECTION;
 use types::EPLVersion;
 use types::NodeId;
 use types::common::NetTime;
@@ -108,7 +110,7 @@ pub extern "C" fn powerlink_serialize_pres(
 {
     match NmtState::from_u8(state) {
         NmtStateAnswer::Unknown(b) => {
-            let needed = padded_len(46, 10 + payload.len());
+            let needed = padded_len(MIN_SECTION, poll::FIELDS_LEN + payload.len());
             unnamed(
                 PowerlinkError::InvalidNmtState(b),
                 needed,
@@ -156,12 +158,17 @@ pub extern "C" fn powerlink_serialize_soa(
 {
     match NmtState::from_u8(state) {
         NmtStateAnswer::Unknown(b) => {
-            unnamed(PowerlinkError::InvalidNmtState(b), 46, target.len(), octet)
+            unnamed(
+                PowerlinkError::InvalidNmtState(b),
+                MIN_SECTION,
+                target.len(),
+                octet,
+            )
         }
         NmtStateAnswer::Known(nmt_state) => match RequestedServiceId::from_u8(requested_service) {
             RequestedServiceIdAnswer::Unknown(b) => unnamed(
                 PowerlinkError::InvalidRequestedServiceId(b),
-                46,
+                MIN_SECTION,
                 target.len(),
                 octet,
             ),
@@ -197,7 +204,7 @@ pub extern "C" fn powerlink_serialize_asnd(
 {
     match ServiceId::from_u8(service) {
         ServiceIdAnswer::Unknown(b) => {
-            let needed = padded_len(46, 4 + payload.len());
+            let needed = padded_len(MIN_SECTION, asnd::FIELDS_LEN + payload.len());
             unnamed(
                 PowerlinkError::InvalidServiceId(b),
                 needed,

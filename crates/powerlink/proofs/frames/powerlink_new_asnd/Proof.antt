@@ -1,6 +1,8 @@
 -- `frames::powerlink_new_asnd` meets its contract.
 -- Assumes nothing.
 use borrow.Author.Needs.{needs}
+use Rattle.control.specs.ASnd.{asndSection}
+use Rattle.frame.specs.Write.{frameBytes}
 use Rattle.powerlink.proofs.Writers.{writes-coded, refuses-coded}
 use Rattle.powerlink.proofs.frames.powerlink_new_asnd.Statement.{statement}
 use Rattle.powerlink.proofs.frames.powerlink_new_asnd.Tie as tie
@@ -13,16 +15,26 @@ returns c =
     refuses-coded _ _ _ _ _ _ _ _ (rw (← f .from-u8 .ensures, b .b .given .1, p .padded-len .ensures)) (c .unnamed .ensures)
 
 returns-2 : tie.Need-returns-2
+unfolding frameBytes asndSection
 returns-2 c =
-    let s = c .before .before .before .before in
-    let n = s .before .before .before .before .before in
-    let f = n .before .before in
-    writes-coded _ _ _ _ _ _ _ _ _ (rw (← f .from-u8 .ensures, n .service-id .given .1)) (s .write-asnd .ensures) (c .written-or .ensures)
+    let w = c .before .before .before .before in
+    let f = w .before .before .before in
+    let h = f .before .before in
+    let n = h .before .before .before in
+    let s = n .before .before .before .before in
+    let r = s .before .before in
+    writes-coded _ _ _ _ _ _ _ _ _ (rw (← r .from-u8 .ensures, s .service-id .given .1))
+    (rw (f .to-bytes2 .ensures, h .to-bytes .ensures, n .new .ensures) at (w .write-behind .ensures)) (c .written-or .ensures)
 
 pub powerlink-new-asnd-spec : {M : Type 1} → statement M
 powerlink-new-asnd-spec =
     tie.close
     (tie.spec
+    (search needs)
+    (search needs)
+    (search needs)
+    (search needs)
+    (search needs)
     (search needs)
     (search needs)
     (search needs)

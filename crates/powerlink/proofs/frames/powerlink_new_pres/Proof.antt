@@ -1,6 +1,8 @@
 -- `frames::powerlink_new_pres` meets its contract.
 -- Assumes nothing.
 use borrow.Author.Needs.{needs}
+use Rattle.poll.specs.PRes.{presSection}
+use Rattle.frame.specs.Write.{frameBytes}
 use Rattle.powerlink.proofs.Writers.{writes-coded, refuses-coded}
 use Rattle.powerlink.proofs.frames.powerlink_new_pres.Statement.{statement}
 use Rattle.powerlink.proofs.frames.powerlink_new_pres.Tie as tie
@@ -13,17 +15,27 @@ returns c =
     refuses-coded _ _ _ _ _ _ _ _ (rw (← f .from-u8 .ensures, b .b .given .1, p .padded-len .ensures)) (c .unnamed .ensures)
 
 returns-2 : tie.Need-returns-2
+unfolding frameBytes presSection
 returns-2 c =
-    let s = c .before .before .before .before in
-    let p = s .before .before in
-    let n = p .before .before .before in
-    let f = n .before .before in
-    writes-coded _ _ _ _ _ _ _ _ _ (rw (← f .from-u8 .ensures, n .nmt-state .given .1, p .from-bits .ensures)) (s .write-pres .ensures) (c .written-or .ensures)
+    let w = c .before .before .before .before in
+    let f = w .before .before .before in
+    let h = f .before .before in
+    let n = h .before .before .before in
+    let p = n .before in
+    let s = p .before .before .before in
+    let r = s .before .before in
+    writes-coded _ _ _ _ _ _ _ _ _ (rw (← r .from-u8 .ensures, s .nmt-state .given .1, p .from-bits .ensures))
+    (rw (f .to-bytes2 .ensures, h .to-bytes .ensures, n .new .ensures) at (w .write-behind .ensures)) (c .written-or .ensures)
 
 pub powerlink-new-pres-spec : {M : Type 1} → statement M
 powerlink-new-pres-spec =
     tie.close
     (tie.spec
+    (search needs)
+    (search needs)
+    (search needs)
+    (search needs)
+    (search needs)
     (search needs)
     (search needs)
     (search needs)

@@ -1,6 +1,8 @@
 -- `frames::powerlink_new_soa` meets its contract.
 -- Assumes nothing.
 use borrow.Author.Needs.{needs}
+use Rattle.control.specs.SoA.{soaSection}
+use Rattle.frame.specs.Write.{frameBytes}
 use Rattle.powerlink.proofs.Writers.{writes-coded, refuses-coded}
 use Rattle.powerlink.proofs.frames.powerlink_new_soa.Statement.{statement}
 use Rattle.powerlink.proofs.frames.powerlink_new_soa.Tie as tie
@@ -20,18 +22,29 @@ returns-2 c =
     refuses-coded _ _ _ _ _ _ _ _ (rw (← f .from-u8 .ensures, n .nmt-state .given .1, ← g .from-u82 .ensures, b .b2 .given .1)) (c .unnamed2 .ensures)
 
 returns-3 : tie.Need-returns-3
+unfolding frameBytes soaSection
 returns-3 c =
-    let s = c .before .before .before .before in
-    let q = s .before .before .before .before in
+    let w = c .before .before .before .before in
+    let f = w .before .before .before .before in
+    let h = f .before .before in
+    let n = h .before .before .before in
+    let q = n .before .before .before in
     let g = q .before .before in
-    let n = g .before .before in
-    let f = n .before .before in
-    writes-coded _ _ _ _ _ _ _ _ _ (rw (← f .from-u8 .ensures, n .nmt-state .given .1, ← g .from-u82 .ensures, q .service .given .1)) (s .write-soa .ensures) (c .written-or .ensures)
+    let s = g .before .before in
+    let r = s .before .before in
+    writes-coded _ _ _ _ _ _ _ _ _ (rw (← r .from-u8 .ensures, s .nmt-state .given .1, ← g .from-u82 .ensures, q .service .given .1))
+    (rw (f .to-bytes2 .ensures, h .to-bytes .ensures, n .new .ensures) at (w .write-behind .ensures)) (c .written-or .ensures)
 
 pub powerlink-new-soa-spec : {M : Type 1} → statement M
 powerlink-new-soa-spec =
     tie.close
     (tie.spec
+    (search needs)
+    (search needs)
+    (search needs)
+    (search needs)
+    (search needs)
+    (search needs)
     (search needs)
     (search needs)
     (search needs)
