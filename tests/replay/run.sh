@@ -1,9 +1,11 @@
 #!/bin/sh
-# That the program `replay` sees a difference, and refuses what is no sample: runs it on changed copies of the sample. In a
-# case of each call and cause every octet that it expects is changed by itself; and each part of a file is broken once.
+# Runs the program `replay` on the cases written from 01 (from_01/), and on changed copies of the sample: that it sees a
+# difference, and refuses what is no sample. In a case of each call and cause every octet that it expects is changed by
+# itself; and each part of a file is broken once.
 set -eu
 replay=${REPLAY:-target/bin/replay}
 sample=crates/replay/stdin
+from_01=tests/replay/from_01
 dir=$(mktemp -d)
 trap 'rm -rf "$dir"' EXIT
 count=0
@@ -27,7 +29,7 @@ octets() {
 
 # The front of a sample with $1 cases.
 front() {
-    octets 80 76 67 49 $(($1 % 256)) $(($1 / 256 % 256)) $(($1 / 65536 % 256)) 0
+    octets 80 76 67 50 $(($1 % 256)) $(($1 / 256 % 256)) $(($1 / 65536 % 256)) 0
 }
 
 # The records of a file of lines.
@@ -38,7 +40,7 @@ lines() {
 
 # A sample of one case, that of call $1 with cause $2, whose octet at $3 is set to $4.
 one() {
-    awk -v call="$1" -v cause="$2" -v at="$3" -v to="$4" '$3 == call && $7 == cause { $(at + 1) = to; print; exit }' "$dir/short" >"$dir/line"
+    awk -v call="$1" -v cause="$2" -v at="$3" -v to="$4" '$25 == call && $27 == cause { $(at + 1) = to; print; exit }' "$dir/short" >"$dir/line"
     { front 1; lines "$dir/line"; } >"$dir/in"
 }
 
@@ -48,20 +50,36 @@ changed() {
     says "call $1 with cause $2, octet $3 set to $4" "$5"
 }
 
-# The octets of the file, as text, one record to a line: $1 is a record's first octet.
-od -An -v -tu1 "$sample" | awk '{
-    for (i = 1; i <= NF; i++) {
-        if (++n <= 8) continue
-        line = line (line == "" ? "" : " ") $i
-        if (++k == 1) len = $i
-        if (k == 2) len += 256 * $i
-        if (k > 2 && k == len) { print line; line = ""; k = 0 }
-    }
-}' >"$dir/records"
+# The octets of a file of records, as text, one record to a line: $1 is a record's first octet.
+records() {
+    od -An -v -tu1 "$1" | awk '{
+        for (i = 1; i <= NF; i++) {
+            if (++n <= 8) continue
+            line = line (line == "" ? "" : " ") $i
+            if (++k > 16 && k <= 20) len += $i * 256 ^ (k - 17)
+            if (k > 20 && k == len) { print line; line = ""; k = len = 0 }
+        }
+    }'
+}
+
+# The cases written from 01, and that their records are those of the text.
+records $from_01/records >"$dir/records"
+written=$(($(wc -l <"$dir/records")))
+cp $from_01/records "$dir/in"
+says 'the cases written from 01' "$written cases agree"
+if command -v python3 >/dev/null; then
+    python3 $from_01/make.py --check
+    python3 $from_01/make.py --long >"$dir/in"
+    says 'those with long payloads' '16 cases agree'
+else
+    echo "replay: that the records are those of $from_01/*.txt, and the cases with long payloads: not looked at, there is no python3"
+fi
+
+records $sample >"$dir/records"
 # A short case of each call and cause, of each kind of frame that is read, and of a step with an entry and without one.
 awk '{
-    at = 19 + 8 * $17
-    k = $3 " " $7 " " ($3 == 1 ? $at : $3 == 7 ? $(at + 64) > 0 : "")
+    at = 31 + 8 * $29
+    k = $25 " " $27 " " ($25 == 1 ? $at : $25 == 7 ? $30 : "")
     if (!(k in line) || NF < size[k]) { size[k] = NF; line[k] = $0 }
 }
 END { for (k in line) print line[k] }' "$dir/records" | sort >"$dir/short"
@@ -70,18 +88,18 @@ END { for (k in line) print line[k] }' "$dir/records" | sort >"$dir/short"
 cases=$(($(wc -l <"$dir/records")))
 few=$(($(wc -l <"$dir/short")))
 cp "$sample" "$dir/in"
-says 'the sample' "$cases cases agree with powerlink-rs"
+says 'the sample' "$cases cases agree"
 { front $few; lines "$dir/short"; } >"$dir/in"
-says 'its short cases' "$few cases agree with powerlink-rs"
+says 'its short cases' "$few cases agree"
 
 # Each expected octet by itself: the cause, `octet`, the values, and what comes out.
 awk '{
-    values = 18 + 8 * $17
-    octets = values + 8 * $18
-    output = octets + $9 + 256 * $10 + $11 + 256 * $12 + $13 + 256 * $14
-    for (at = 6; at < NF; at++) {
-        if (at == 8) at = values
-        if (at == octets) at = output
+    values = 30 + 8 * $29
+    inputs = values + 8 * $30
+    output = $13 + 256 * $14
+    for (at = 26; at < NF; at++) {
+        if (at == 28) at = values
+        if (at == inputs) at = output
         if (at >= NF) break
         kept = $(at + 1)
         $(at + 1) = (kept + 1) % 256
@@ -91,60 +109,62 @@ awk '{
 }' "$dir/short" >"$dir/changed"
 n=$(($(wc -l <"$dir/changed")))
 { front $n; lines "$dir/changed"; } >"$dir/in"
-says 'every expected octet changed' "$n of $n cases differ from powerlink-rs"
+says 'every expected octet changed' "$n of $n cases differ"
 
 # What is said of a difference: the case, the call, what was expected and what came.
-changed 8 0 6 1 '1 of 1 cases differ from powerlink-rs'
-grep -qx 'case 1, serialize_soc  *cause: 1 expected, 0 came' "$dir/out"
-changed 1 0 18 9 '1 of 1 cases differ from powerlink-rs'
-grep -qx 'case 1, deserialize_frame  *value 0: 9 expected, [1-6] came' "$dir/out"
-changed 8 0 74 9 '1 of 1 cases differ from powerlink-rs'
-grep -qx 'case 1, serialize_soc  *octet that comes out, 0: 9 expected, 1 came' "$dir/out"
+changed 8 0 26 1 '1 of 1 cases differ'
+grep -qx 'case 1, serialize_soc  *cause  *0: 1 expected, 0 came' "$dir/out"
+changed 1 0 30 9 '1 of 1 cases differ'
+grep -qx 'case 1, deserialize_frame  *value  *0: 9 expected, [1-6] came' "$dir/out"
+changed 8 0 94 9 '1 of 1 cases differ'
+grep -qx 'case 1, serialize_soc  *output  *0: 9 expected, 1 came' "$dir/out"
 
-# Parts that do not fit.
-changed 8 0 0 17 'refused: case 1 has a strange length'
-changed 8 0 1 17 'refused: case 1 has a strange length'
-changed 8 0 1 1 'refused: case 1 is cut'
-changed 8 0 2 0 'refused: case 1 has an unknown call'
-changed 8 0 2 23 'refused: case 1 has an unknown call'
-for at in 8 9 10 12 14 16 17; do
-    changed 8 0 $at 200 'refused: case 1 does not fit its call'
+# Parts that do not fit: where they begin and end, the target, the call, how many numbers and values there are.
+unfit='refused: cut, or does not fit its call: case'
+for at in 0 4 8 12 16 22 28 29; do
+    changed 8 0 $at 200 "$unfit 1"
 done
-changed 8 0 2 9 'refused: case 1 does not fit its call'
-changed 8 0 5 17 'refused: case 1 does not fit its call'
-# A flag of 2, and an octet above 255.
-changed 8 0 34 2 'refused: case 1 does not fit its call'
-changed 8 0 19 1 'refused: case 1 does not fit its call'
-changed 1 0 4 1 'refused: case 1 does not fit its call'
+for at in 1 5 9 13 17; do
+    changed 8 0 $at 1 "$unfit 1"
+done
+for call in 0 9 23; do
+    changed 8 0 24 $call "$unfit 1"
+done
+# A flag of 2, an octet above 255, and a reader with a target.
+changed 8 0 46 2 "$unfit 1"
+changed 8 0 31 1 "$unfit 1"
+changed 1 0 20 1 "$unfit 1"
 
 # The front, the end and the number of cases.
-none='refused: no PLC1 with a number of cases'
+none='refused: no PLC2 with a number of cases'
 : >"$dir/in"
 says 'an empty file' "$none"
 head -c 7 "$sample" >"$dir/in"
-says 'seven octets' "$none"
-for mark in 'pLC1' 'PlC1' 'PLc1' 'PLC2'; do
+says 'seven octets' "$unfit 1"
+for mark in 'pLC2' 'PlC2' 'PLc2' 'PLC1'; do
     { printf %s "$mark"; tail -c +5 "$sample"; } >"$dir/in"
     says "the mark $mark" "$none"
 done
 { front 0; lines "$dir/short"; } >"$dir/in"
 says 'no cases' "$none"
 head -c 8 "$sample" >"$dir/in"
-says 'the front alone' 'refused: case 1 is not there'
+says 'the front alone' "$unfit 1"
 head -c 9 "$sample" >"$dir/in"
-says 'one octet of a record' 'refused: case 1 is cut'
+says 'one octet of a record' "$unfit 1"
 size=$(($(wc -c <"$sample")))
 head -c $((size - 1)) "$sample" >"$dir/in"
-says 'one octet short' "refused: case $cases is cut"
+says 'one octet short' "$unfit $cases"
 { cat "$sample"; printf x; } >"$dir/in"
 says 'one octet more' "refused: octets behind case $cases"
 { front $((cases - 1)); tail -c +9 "$sample"; } >"$dir/in"
 says 'a case more than it says' "refused: octets behind case $((cases - 1))"
 { front $((cases + 1)); tail -c +9 "$sample"; } >"$dir/in"
-says 'a case fewer than it says' "refused: case $((cases + 1)) is not there"
+says 'a case fewer than it says' "$unfit $((cases + 1))"
+{ cat "$sample"; head -c 2097152 /dev/zero; } >"$dir/in"
+says 'more than it holds' "$none"
 # A difference in the last case: its cause.
-at=$((size - $(tail -n 1 "$dir/records" | wc -w) + 6))
+at=$((size - $(tail -n 1 "$dir/records" | wc -w) + 26))
 { head -c $at "$sample"; octets 255; tail -c +$((at + 2)) "$sample"; } >"$dir/in"
-says 'the last cause' "1 of $cases cases differ from powerlink-rs"
+says 'the last cause' "1 of $cases cases differ"
 
-echo "replay: $count files are told apart; each of $n expected octets, changed by itself, is a difference"
+echo "replay: $written cases written from 01 agree; $count files are told apart; each of $n expected octets, changed by itself, is a difference"

@@ -4,21 +4,22 @@ use Prim.Native.Nat.{ℕ, _≤_, _<_}
 use mathlib.Core.Path.{_≡_}
 use mathlib.Core.List.{List}
 use lib.ListN.{getD, length}
-use Rattle.replay.specs.Record.{fillOf, valueOf, outputOf, writtenOf}
+use Rattle.replay.specs.Record.{fillOf, causeIn, octetIn, valuesIn, valueOf, outputOf}
 use Rattle.replay.specs.declared.judge.Verdict.{Verdict}
 use Rattle.replay.specs.declared.judge.Verdict.the-variants.{Agrees, Differs}
 
--- k is the first place at which the octets t are not those of e with b behind them, or t's length
-pub record FirstOther (t e : List ℕ) (b k : ℕ) : Type 0 where
-  pub within : k ≤ length t
-  pub before : (i : ℕ) → i < k → getD t i 0 ≡ getD e i b
-  pub here : k < length t → getD t k 0 ≡ getD e k b → ⊥
+-- k is the first place below n at which f and g differ, or n
+pub record FirstOther (n : ℕ) (f g : ℕ → ℕ) (k : ℕ) : Type 0 where
+  pub within : k ≤ n
+  pub before : (i : ℕ) → i < k → f i ≡ g i
+  pub here : k < n → f k ≡ g k → ⊥
 
--- k is the first place at which the 16 values v are not those of the record s, or 16
-pub record FirstValue (s v : List ℕ) (k : ℕ) : Type 0 where
-  pub within : k ≤ 16
-  pub before : (i : ℕ) → i < k → getD v i 0 ≡ valueOf s i
-  pub here : k < 16 → getD v k 0 ≡ valueOf s k → ⊥
+-- the octets t as they came, and as the record has them: its own, and behind those the fill
+abbrev pub FirstOctet : List ℕ → List ℕ → ℕ → ℕ → Type 0
+FirstOctet t e b = FirstOther (length t) (λ i. getD t i 0) (λ i. getD e i b)
+
+abbrev pub FirstValue : List ℕ → List ℕ → ℕ → Type 0
+FirstValue s v = FirstOther (length v) (λ i. getD v i 0) (valueOf s)
 
 -- the octets that came, t, begin as the record says, and those behind are the fill
 pub record SameOutput (s t : List ℕ) : Type 0 where
@@ -27,14 +28,14 @@ pub record SameOutput (s t : List ℕ) : Type 0 where
 
 -- so are the values v
 pub record SameOutcome (s v t : List ℕ) : Type 0 where
-  pub values : (i : ℕ) → i < 16 → getD v i 0 ≡ valueOf s i
+  pub places : valuesIn s ≤ length v
+  pub values : (i : ℕ) → i < length v → getD v i 0 ≡ valueOf s i
   pub output : SameOutput s t
 
--- and so are the cause r, `octet` o and `written` w
-pub record Agreement (s : List ℕ) (r o w : ℕ) (v t : List ℕ) : Type 0 where
-  pub cause : r ≡ getD s 6 0
-  pub octet : o ≡ getD s 7 0
-  pub written : w ≡ writtenOf s
+-- and so are the cause r and `octet` o
+pub record Agreement (s : List ℕ) (r o : ℕ) (v t : List ℕ) : Type 0 where
+  pub cause : r ≡ causeIn s
+  pub octet : o ≡ octetIn s
   pub outcome : SameOutcome s v t
 
 -- a verdict that a fact holds, or two numbers that differ

@@ -1,18 +1,15 @@
--- A record of the sample, as tests/compare/calls/sample.rs lays it out: a case and what powerlink-rs answers to it.
+-- A record of a case and its answer, as tests/compare/calls/sample.rs lays it out.
 -- Assumes nothing.
 use Prim.Native.Nat.{ℕ, _+_, _*_}
-use mathlib.Core.List.{List, [], _∷_}
-use lib.Dec.{eqb, ltb}
+use mathlib.Core.List.{List}
+use lib.Dec.{ltb}
 use lib.ListN.{getD, take, drop}
 use Rattle.octets.specs.Numbers.{leAt}
 use Rattle.types.specs.Codes.{pick}
 
-abbrev pub callOf : List ℕ → ℕ
-callOf s = getD s 2 0
-
 -- what each octet of the target and of every out-parameter is before the call
 abbrev pub fillOf : List ℕ → ℕ
-fillOf s = getD s 3 0
+fillOf s = getD s 25 0
 
 -- 8 octets of the fill
 abbrev pub manyOf : List ℕ → ℕ
@@ -22,48 +19,35 @@ manyOf s = fillOf s * 0x0101010101010101
 
 -- the place of number i
 abbrev pub numberAt : ℕ → ℕ
-numberAt i = 18 + 8 * i
+numberAt i = 30 + 8 * i
 
-abbrev pub lowOctets : List ℕ → List ℕ
-lowOctets s =
-    getD s (numberAt 0) 0 ∷ getD s (numberAt 1) 0 ∷ getD s (numberAt 2) 0 ∷ getD s (numberAt 3) 0 ∷ getD s (numberAt 4) 0
-    ∷ getD s (numberAt 5) 0 ∷ getD s (numberAt 6) 0 ∷ getD s (numberAt 7) 0 ∷ getD s (numberAt 8) 0 ∷ getD s (numberAt 9) 0 ∷ []
+abbrev pub numberOctet : List ℕ → ℕ → ℕ
+numberOctet s i = getD s (numberAt i) 0
 
-abbrev pub valuesAt : List ℕ → ℕ
-valuesAt s = 18 + 8 * getD s 16 0
+-- where part k begins and part k - 1 ends: A, B and C, which go in, and the octets that come out
+abbrev pub markOf : List ℕ → ℕ → ℕ
+markOf s k = leAt 4 (4 * k) s
 
-abbrev pub octetsAt : List ℕ → ℕ
-octetsAt s = valuesAt s + 8 * getD s 17 0
-
--- the lengths of A, B, C and E
-abbrev pub lengthOf : List ℕ → ℕ → ℕ
-lengthOf s k = leAt 2 (8 + 2 * k) s
-
-abbrev pub inputA : List ℕ → List ℕ
-inputA s = take (lengthOf s 0) (drop (octetsAt s) s)
-
-abbrev pub behindA : List ℕ → List ℕ
-behindA s = drop (lengthOf s 0) (drop (octetsAt s) s)
-
-abbrev pub inputB : List ℕ → List ℕ
-inputB s = take (lengthOf s 1) (behindA s)
-
-abbrev pub behindB : List ℕ → List ℕ
-behindB s = drop (lengthOf s 1) (behindA s)
-
-abbrev pub inputC : List ℕ → List ℕ
-inputC s = take (lengthOf s 2) (behindB s)
+abbrev pub partOf : List ℕ → ℕ → List ℕ
+partOf s k = drop (markOf s k) (take (leAt 4 (4 * k + 4) s) s)
 
 -- ---- what comes out
 
+abbrev pub causeIn : List ℕ → ℕ
+causeIn s = getD s 26 0
+
+-- what `octet` is after the call
+abbrev pub octetIn : List ℕ → ℕ
+octetIn s = getD s 27 0
+
+-- how many values the record has
+abbrev pub valuesIn : List ℕ → ℕ
+valuesIn s = getD s 29 0
+
 -- value i, or as before the call where the record has none
 unfoldable pub valueOf : List ℕ → ℕ → ℕ
-valueOf s i = pick (ltb i (getD s 17 0)) (leAt 8 (valuesAt s + 8 * i) s) (manyOf s)
+valueOf s i = pick (ltb i (valuesIn s)) (leAt 8 (numberAt (getD s 28 0) + 8 * i) s) (manyOf s)
 
 -- the octets that come out
 abbrev pub outputOf : List ℕ → List ℕ
-outputOf s = take (lengthOf s 3) (drop (lengthOf s 2) (behindB s))
-
--- the calls from 8 on write: where they are not refused, `written` is how many octets come out
-unfoldable pub writtenOf : List ℕ → ℕ
-writtenOf s = pick (eqb (getD s 6 0) 0) (pick (ltb (callOf s) 8) (manyOf s) (lengthOf s 3)) (manyOf s)
+outputOf s = partOf s 3

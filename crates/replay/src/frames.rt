@@ -1,14 +1,13 @@
 // The calls that write a whole frame. A is the source's address; of PReq and ASnd B is the destination's and C the
 // payload, of PRes B is the payload.
-use crate::judge::Left;
-use crate::record::a;
-use crate::record::b;
-use crate::record::c;
-use crate::record::fill;
+use crate::record::A;
+use crate::record::B;
+use crate::record::C;
+use crate::record::address;
+use crate::record::flag;
 use crate::record::long;
-use crate::record::many;
-use crate::record::octets_in;
-use crate::record::six;
+use crate::record::octet;
+use crate::record::part;
 use crate::record::word;
 use powerlink::frames::powerlink_new_asnd;
 use powerlink::frames::powerlink_new_preq;
@@ -16,133 +15,77 @@ use powerlink::frames::powerlink_new_pres;
 use powerlink::frames::powerlink_new_soa;
 use powerlink::frames::powerlink_new_soc;
 
-fn soc(s: &[u8], target: &mut [u8]) -> Left {
-    let o = octets_in(s);
-    let mut written = many(s) as usize;
-    let source = six(a(s));
-    let cause = powerlink_new_soc(
-        &source,
-        o[0] != 0,
-        o[1] != 0,
+pub fn soc(s: &[u8], target: &mut [u8], written: &mut usize) -> u8 {
+    powerlink_new_soc(
+        &address(s, A),
+        flag(s, 0),
+        flag(s, 1),
         word(s, 2),
         word(s, 3),
         long(s, 4),
         target,
-        &mut written,
-    );
-    Left {
-        cause,
-        octet: fill(s),
-        written: written as u64,
-    }
+        written,
+    )
 }
 
-fn preq(s: &[u8], target: &mut [u8]) -> Left {
-    let o = octets_in(s);
-    let mut written = many(s) as usize;
-    let source = six(a(s));
-    let destination = six(b(s));
-    let cause = powerlink_new_preq(
-        &source,
-        &destination,
-        o[0],
-        o[1] != 0,
-        o[2] != 0,
-        o[3] != 0,
-        o[4],
-        c(s),
+pub fn preq(s: &[u8], target: &mut [u8], written: &mut usize) -> u8 {
+    powerlink_new_preq(
+        &address(s, A),
+        &address(s, B),
+        octet(s, 0),
+        flag(s, 1),
+        flag(s, 2),
+        flag(s, 3),
+        octet(s, 4),
+        part(s, C),
         target,
-        &mut written,
-    );
-    Left {
-        cause,
-        octet: fill(s),
-        written: written as u64,
-    }
+        written,
+    )
 }
 
-fn pres(s: &[u8], target: &mut [u8]) -> Left {
-    let o = octets_in(s);
-    let mut written = many(s) as usize;
-    let mut said = fill(s);
-    let source = six(a(s));
-    let cause = powerlink_new_pres(
-        &source,
-        o[0],
-        o[1],
-        o[2] != 0,
-        o[3] != 0,
-        o[4] != 0,
-        o[5],
-        o[6],
-        o[7],
-        b(s),
+pub fn pres(s: &[u8], target: &mut [u8], written: &mut usize, said: &mut u8) -> u8 {
+    powerlink_new_pres(
+        &address(s, A),
+        octet(s, 0),
+        octet(s, 1),
+        flag(s, 2),
+        flag(s, 3),
+        flag(s, 4),
+        octet(s, 5),
+        octet(s, 6),
+        octet(s, 7),
+        part(s, B),
         target,
-        &mut written,
-        &mut said,
-    );
-    Left {
-        cause,
-        octet: said,
-        written: written as u64,
-    }
+        written,
+        said,
+    )
 }
 
-fn soa(s: &[u8], target: &mut [u8]) -> Left {
-    let o = octets_in(s);
-    let mut written = many(s) as usize;
-    let mut said = fill(s);
-    let source = six(a(s));
-    let cause = powerlink_new_soa(
-        &source,
-        o[0],
-        o[1] != 0,
-        o[2] != 0,
-        o[3],
-        o[4],
-        o[5],
+pub fn soa(s: &[u8], target: &mut [u8], written: &mut usize, said: &mut u8) -> u8 {
+    powerlink_new_soa(
+        &address(s, A),
+        octet(s, 0),
+        flag(s, 1),
+        flag(s, 2),
+        octet(s, 3),
+        octet(s, 4),
+        octet(s, 5),
         target,
-        &mut written,
-        &mut said,
-    );
-    Left {
-        cause,
-        octet: said,
-        written: written as u64,
-    }
+        written,
+        said,
+    )
 }
 
-fn asnd(s: &[u8], target: &mut [u8]) -> Left {
-    let o = octets_in(s);
-    let mut written = many(s) as usize;
-    let mut said = fill(s);
-    let source = six(a(s));
-    let destination = six(b(s));
-    let cause = powerlink_new_asnd(
-        &source,
-        &destination,
-        o[0],
-        o[1],
-        o[2],
-        c(s),
+pub fn asnd(s: &[u8], target: &mut [u8], written: &mut usize, said: &mut u8) -> u8 {
+    powerlink_new_asnd(
+        &address(s, A),
+        &address(s, B),
+        octet(s, 0),
+        octet(s, 1),
+        octet(s, 2),
+        part(s, C),
         target,
-        &mut written,
-        &mut said,
-    );
-    Left {
-        cause,
-        octet: said,
-        written: written as u64,
-    }
-}
-
-// Calls 18 to 22.
-pub fn call(n: u8, s: &[u8], target: &mut [u8]) -> Left {
-    match n {
-        18 => soc(s, target),
-        19 => preq(s, target),
-        20 => pres(s, target),
-        21 => soa(s, target),
-        _ => asnd(s, target),
-    }
+        written,
+        said,
+    )
 }

@@ -2,25 +2,21 @@
 ghost use mathlib.Core.Path.{_≡_};
 ghost use lib.ListN.{getD};
 ghost use Rattle.replay.specs.declared.judge.Verdict.the-variants.{Differs};
-ghost use Rattle.replay.specs.Agreement.{FirstOther, FirstValue, SameOutput, SameOutcome, Agreement, Unless};
+ghost use Rattle.replay.specs.Agreement.{FirstOctet, FirstValue, SameOutput, SameOutcome, Agreement, Unless};
+use crate::record::CAUSE;
+use crate::record::OCTET;
+use crate::record::OUTPUT;
+use crate::record::VALUES;
 use crate::record::fill;
-use crate::record::output;
+use crate::record::part;
 use crate::record::value;
-use crate::record::written;
 use octets::slices::byte_at;
-
-// What a call answers and leaves, beside its values and the octets that come out.
-pub struct Left {
-    pub cause: u8,
-    pub octet: u8,
-    pub written: u64,
-}
 
 pub enum Part {
     Cause,
     Octet,
-    Written,
     Value,
+    Values,
     Output,
     OutputLength,
 }
@@ -54,8 +50,8 @@ fn byte_or(s: &[u8], at: usize, b: u8) -> u8
 }
 
 // The first place at which `came` is not `expected` with `b` behind it, or the length.
-fn first_other(came: &[u8], expected: &[u8], b: u8) -> usize
-    ensures { λ r. ⌜ FirstOther (now (came .entry)) (now (expected .entry)) b r ⌝ }
+fn first_octet(came: &[u8], expected: &[u8], b: u8) -> usize
+    ensures { λ r. ⌜ FirstOctet (now (came .entry)) (now (expected .entry)) b r ⌝ }
 {
     let mut i = 0;
     while i < came.len() {
@@ -67,13 +63,13 @@ fn first_other(came: &[u8], expected: &[u8], b: u8) -> usize
     i
 }
 
-// The first of the 16 values that is not the record's, or 16.
-fn first_value(s: &[u8], values: &[u64; 16]) -> usize
+// The first value that is not the record's, or their number.
+fn first_value(s: &[u8], values: &[u64]) -> usize
     ensures { λ r. ⌜ FirstValue (now (s .entry)) (now (values .entry)) r ⌝ }
 {
     let mut i = 0;
-    while i < 16 {
-        if values[i] != value(s, i as u8) {
+    while i < values.len() {
+        if values[i] != value(s, i) {
             return i;
         }
         i += 1;
@@ -84,17 +80,12 @@ fn first_value(s: &[u8], values: &[u64; 16]) -> usize
 fn same_output(s: &[u8], came: &[u8]) -> Verdict
     ensures { λ r. ⌜ Unless r (SameOutput (now (s .entry)) (now (came .entry))) ⌝ }
 {
-    let expected = output(s);
+    let expected = part(s, OUTPUT);
     if came.len() < expected.len() {
-        return Verdict::Differs {
-            part: Part::OutputLength,
-            at: 0,
-            expected: expected.len() as u64,
-            came: came.len() as u64,
-        };
+        return number(Part::OutputLength, expected.len() as u64, came.len() as u64);
     }
     let b = fill(s);
-    let at = first_other(came, expected, b);
+    let at = first_octet(came, expected, b);
     if at < came.len() {
         return Verdict::Differs {
             part: Part::Output,
@@ -106,36 +97,36 @@ fn same_output(s: &[u8], came: &[u8]) -> Verdict
     Verdict::Agrees
 }
 
-fn same_outcome(s: &[u8], values: &[u64; 16], came: &[u8]) -> Verdict
-    ensures { λ r. ⌜ Unless r (SameOutcome (now (s .entry)) (now (values .entry)) (now (came .entry))) ⌝ }
+fn same_outcome(s: &[u8], values: &[u64], output: &[u8]) -> Verdict
+    ensures { λ r. ⌜ Unless r (SameOutcome (now (s .entry)) (now (values .entry)) (now (output .entry))) ⌝ }
 {
+    let count = byte_at(s, VALUES) as usize;
+    if values.len() < count {
+        return number(Part::Values, count as u64, values.len() as u64);
+    }
     let at = first_value(s, values);
-    if at < 16 {
+    if at < values.len() {
         return Verdict::Differs {
             part: Part::Value,
             at,
-            expected: value(s, at as u8),
+            expected: value(s, at),
             came: values[at],
         };
     }
-    same_output(s, came)
+    same_output(s, output)
 }
 
 // The first difference, or that there is none.
-pub fn judge(s: &[u8], left: Left, values: &[u64; 16], output: &[u8]) -> Verdict
-    ensures { λ r. ⌜ Unless r (Agreement (now (s .entry)) (left .cause) (left .octet) (left .written) (now (values .entry)) (now (output .entry))) ⌝ }
+pub fn judge(s: &[u8], cause: u8, octet: u8, values: &[u64], output: &[u8]) -> Verdict
+    ensures { λ r. ⌜ Unless r (Agreement (now (s .entry)) cause octet (now (values .entry)) (now (output .entry))) ⌝ }
 {
-    let cause = byte_at(s, 6);
-    if left.cause != cause {
-        return number(Part::Cause, cause as u64, left.cause as u64);
+    let expected_cause = byte_at(s, CAUSE);
+    if cause != expected_cause {
+        return number(Part::Cause, expected_cause as u64, cause as u64);
     }
-    let octet = byte_at(s, 7);
-    if left.octet != octet {
-        return number(Part::Octet, octet as u64, left.octet as u64);
-    }
-    let expected = written(s);
-    if left.written != expected {
-        return number(Part::Written, expected, left.written);
+    let expected_octet = byte_at(s, OCTET);
+    if octet != expected_octet {
+        return number(Part::Octet, expected_octet as u64, octet as u64);
     }
     same_outcome(s, values, output)
 }

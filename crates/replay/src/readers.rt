@@ -1,9 +1,14 @@
-// The calls that read: what goes in is A. What comes out besides the values goes into `target`.
-use crate::judge::Left;
-use crate::record::a;
+// The calls that read: what goes in is A. Each out-parameter is the fill before the call.
+use crate::judge::Verdict;
+use crate::judge::judge;
+use crate::record::A;
 use crate::record::fill;
 use crate::record::long;
 use crate::record::many;
+use crate::record::part;
+use octets::big_endian::u16_be;
+use octets::little_endian::u64_le;
+use octets::slices::front;
 use octets::slices::put;
 use powerlink::headers::powerlink_deserialize_eth_header;
 use powerlink::headers::powerlink_deserialize_pl_header;
@@ -13,155 +18,106 @@ use powerlink::status::powerlink_deserialize_error_field;
 use powerlink::status::powerlink_deserialize_status;
 use powerlink::status::powerlink_entry_step;
 
-// An array goes into the output whole: its type says its length.
-fn put_six(output: &mut [u8], at: usize, address: &[u8; 6]) {
-    put(output, at, address);
+// An array is judged whole: its type says its length.
+fn judge_16(s: &[u8], cause: u8, octet: u8, values: &[u64; 16]) -> Verdict {
+    judge(s, cause, octet, values, front(s, 0))
 }
 
-fn put_eight(output: &mut [u8], field: &[u8; 8]) {
-    put(output, 0, field);
+fn judge_3(s: &[u8], cause: u8, octet: u8, values: &[u64; 3]) -> Verdict {
+    judge(s, cause, octet, values, front(s, 0))
 }
 
-fn frame(s: &[u8], values: &mut [u64; 16]) -> Left {
+fn judge_status(s: &[u8], cause: u8, octet: u8, values: &[u64; 5], field: &[u8; 8]) -> Verdict {
+    judge(s, cause, octet, values, field)
+}
+
+fn judge_entry(s: &[u8], cause: u8, values: &[u64; 8], output: &[u8]) -> Verdict {
+    judge(s, cause, fill(s), values, output)
+}
+
+// Where no values come out.
+fn judge_octets(s: &[u8], cause: u8, output: &[u8]) -> Verdict {
+    judge(s, cause, fill(s), &[many(s)], output)
+}
+
+fn judge_field(s: &[u8], cause: u8, field: &[u8; 8]) -> Verdict {
+    judge_octets(s, cause, field)
+}
+
+fn frame(s: &[u8]) -> Verdict {
     let mut octet = fill(s);
-    let cause = powerlink_deserialize_frame(a(s), values, &mut octet);
-    Left {
-        cause,
-        octet,
-        written: many(s),
-    }
+    let mut values = [many(s); 16];
+    let cause = powerlink_deserialize_frame(part(s, A), &mut values, &mut octet);
+    judge_16(s, cause, octet, &values)
 }
 
-// An EtherType that is as before the call counts as a value that is.
-fn eth_header(s: &[u8], values: &mut [u64; 16], target: &mut [u8]) -> Left {
-    let mut destination = [fill(s); 6];
-    let mut source = [fill(s); 6];
-    let before = (fill(s) as u16) * 0x101;
-    let mut ether_type = before;
+// The octets of a header, as a frame has them.
+fn header(destination: &[u8; 6], source: &[u8; 6], ether_type: u16) -> [u8; 14] {
+    let mut octets = [0u8; 14];
+    put(&mut octets, 0, destination);
+    put(&mut octets, 6, source);
+    put(&mut octets, 12, &u16_be(ether_type));
+    octets
+}
+
+fn eth_header(s: &[u8]) -> Verdict {
+    let b = fill(s);
+    let mut destination = [b; 6];
+    let mut source = [b; 6];
+    let mut ether_type = (b as u16) * 0x101;
     let cause = powerlink_deserialize_eth_header(
-        a(s),
+        part(s, A),
         &mut destination,
         &mut source,
         &mut ether_type,
     );
-    put_six(target, 0, &destination);
-    put_six(target, 6, &source);
-    if cause == 0 || ether_type != before {
-        values[0] = ether_type as u64;
-    }
-    Left {
-        cause,
-        octet: fill(s),
-        written: many(s),
-    }
+    judge_octets(s, cause, &header(&destination, &source, ether_type))
 }
 
-fn pl_header(s: &[u8], values: &mut [u64; 16]) -> Left {
+fn pl_header(s: &[u8]) -> Verdict {
     let mut octet = fill(s);
-    let mut three = [many(s); 3];
-    let cause = powerlink_deserialize_pl_header(a(s), &mut three, &mut octet);
-    let rest = many(s);
-    let e = [three[0], three[1], three[2], rest, rest, rest, rest, rest];
-    *values = nine(e, rest, rest);
-    Left {
-        cause,
-        octet,
-        written: many(s),
-    }
+    let mut values = [many(s); 3];
+    let cause = powerlink_deserialize_pl_header(part(s, A), &mut values, &mut octet);
+    judge_3(s, cause, octet, &values)
 }
 
-fn status(s: &[u8], values: &mut [u64; 16], target: &mut [u8]) -> Left {
+fn status(s: &[u8]) -> Verdict {
     let mut octet = fill(s);
+    let mut field = [octet; 8];
+    let mut values = [many(s); 5];
+    let cause = powerlink_deserialize_status(part(s, A), &mut values, &mut field, &mut octet);
+    judge_status(s, cause, octet, &values, &field)
+}
+
+fn error_field(s: &[u8]) -> Verdict {
     let mut field = [fill(s); 8];
-    let mut five = [many(s); 5];
-    let cause = powerlink_deserialize_status(a(s), &mut five, &mut field, &mut octet);
-    put_eight(target, &field);
-    let rest = many(s);
-    let e = [
-        five[0],
-        five[1],
-        five[2],
-        five[3],
-        five[4],
-        rest,
-        rest,
-        rest,
-    ];
-    *values = nine(e, rest, rest);
-    Left {
-        cause,
-        octet,
-        written: many(s),
-    }
+    let cause = powerlink_deserialize_error_field(part(s, A), &mut field);
+    judge_field(s, cause, &field)
 }
 
-fn error_field(s: &[u8], target: &mut [u8]) -> Left {
-    let mut field = [fill(s); 8];
-    let cause = powerlink_deserialize_error_field(a(s), &mut field);
-    put_eight(target, &field);
-    Left {
-        cause,
-        octet: fill(s),
-        written: many(s),
-    }
+fn entry(s: &[u8]) -> Verdict {
+    let mut values = [many(s); 8];
+    let cause = powerlink_deserialize_entry(part(s, A), &mut values);
+    judge_entry(s, cause, &values, front(s, 0))
 }
 
-// The values of an entry, another one, and the rest as before the call.
-fn nine(e: [u64; 8], next: u64, rest: u64) -> [u64; 16] {
-    [
-        e[0],
-        e[1],
-        e[2],
-        e[3],
-        e[4],
-        e[5],
-        e[6],
-        e[7],
-        next,
-        rest,
-        rest,
-        rest,
-        rest,
-        rest,
-        rest,
-        rest,
-    ]
-}
-
-fn entry(s: &[u8], values: &mut [u64; 16]) -> Left {
-    let mut eight = [many(s); 8];
-    let cause = powerlink_deserialize_entry(a(s), &mut eight);
-    *values = nine(eight, many(s), many(s));
-    Left {
-        cause,
-        octet: fill(s),
-        written: many(s),
-    }
-}
-
-// The ninth value is the offset after the entry.
-fn entry_step(s: &[u8], values: &mut [u64; 16]) -> Left {
-    let mut eight = [many(s); 8];
+// The octets that come out are those of `next`.
+fn entry_step(s: &[u8]) -> Verdict {
+    let mut values = [many(s); 8];
     let mut next = many(s) as usize;
-    let offset = long(s, 0) as usize;
-    let cause = powerlink_entry_step(a(s), offset, &mut eight, &mut next);
-    *values = nine(eight, next as u64, many(s));
-    Left {
-        cause,
-        octet: fill(s),
-        written: many(s),
-    }
+    let cause = powerlink_entry_step(part(s, A), long(s, 0) as usize, &mut values, &mut next);
+    judge_entry(s, cause, &values, &u64_le(next as u64))
 }
 
 // Calls 1 to 7.
-pub fn call(n: u8, s: &[u8], values: &mut [u64; 16], target: &mut [u8]) -> Left {
+pub fn read(n: u8, s: &[u8]) -> Verdict {
     match n {
-        1 => frame(s, values),
-        2 => eth_header(s, values, target),
-        3 => pl_header(s, values),
-        4 => status(s, values, target),
-        5 => error_field(s, target),
-        6 => entry(s, values),
-        _ => entry_step(s, values),
+        1 => frame(s),
+        2 => eth_header(s),
+        3 => pl_header(s),
+        4 => status(s),
+        5 => error_field(s),
+        6 => entry(s),
+        _ => entry_step(s),
     }
 }

@@ -1,10 +1,25 @@
 // Whether a record has the shape of its call.
-use crate::record::length;
+use crate::record::A;
+use crate::record::B;
+use crate::record::C;
+use crate::record::CALL;
+use crate::record::END;
+use crate::record::NUMBERS;
+use crate::record::OUTPUT;
+use crate::record::VALUES;
 use crate::record::long;
-use crate::record::octets_at;
-use octets::little_endian::get_u16_le;
+use crate::record::mark;
+use crate::record::part;
+use crate::record::target_len;
+use crate::writers::SPACE;
 use octets::slices::byte_at;
+use octets::slices::front;
 use octets::slices::tail;
+
+// Letters for each call in its row: eleven for its numbers, three for A, B and C.
+const ROW: usize = 14;
+
+const ROW_NUMBERS: usize = 11;
 
 // The most that a number can be: a flag, an octet, or a number of 2, 4 or 8 octets.
 fn limit(kind: u8) -> u64 {
@@ -17,66 +32,66 @@ fn limit(kind: u8) -> u64 {
     }
 }
 
-// Ten letters for each call, from 0, which is none, to 22: its numbers.
-fn numbers(n: u8, s: &[u8]) -> bool {
-    let kinds =
-        b"----------------------------------------------------------------------l---------ooffwwl---oofffoh---ooofffooohoooffooo--ooo-------h---------ooo-------ffohhwwl------------ffooo-----ffwwl-----offfo-----oofffooo--offooo----ooo-------";
-    let row = tail(kinds, 10 * (n as usize));
-    let count = byte_at(s, 16);
+// Whether the record's numbers are those of the row.
+fn numbers(row: &[u8], s: &[u8]) -> bool {
+    let count = byte_at(s, NUMBERS);
     let mut i = 0;
-    while i < 10 {
+    while i < count {
         let kind = byte_at(row, i as usize);
-        if i < count {
-            if kind == b'-' || limit(kind) < long(s, i) {
-                return false;
-            }
-        } else if kind != b'-' {
+        if kind == b'-' || limit(kind) < long(s, i) {
             return false;
         }
         i += 1;
     }
-    true
+    byte_at(row, count as usize) == b'-'
 }
 
 // A slice, an array of 6 or 8 octets, or none.
-fn input(s: &[u8], k: u8, kind: u8) -> bool {
-    let n = length(s, k);
+fn input(kind: u8, octets: &[u8]) -> bool {
     match kind {
         b's' => true,
-        b'6' => n == 6,
-        b'8' => n == 8,
-        _ => n == 0,
+        b'6' => octets.len() == 6,
+        b'8' => octets.len() == 8,
+        _ => octets.len() == 0,
     }
 }
 
-// Three letters for each call: A, B and C.
-fn inputs(n: u8, s: &[u8]) -> bool {
-    let kinds = b"---s--s--s--s--s--s--s-----s--s-----s--66-------8--8s-6--66s6s-6--66s";
-    let row = tail(kinds, 3 * (n as usize));
-    input(s, 0, byte_at(row, 0)) && input(s, 1, byte_at(row, 1)) && input(s, 2, byte_at(row, 2))
+fn inputs(row: &[u8], s: &[u8]) -> bool {
+    input(byte_at(row, 0), part(s, A))
+        && input(byte_at(row, 1), part(s, B))
+        && input(byte_at(row, 2), part(s, C))
 }
 
-// Whether the record's lengths add up to its own.
-fn adds_up(s: &[u8]) -> bool {
-    octets_at(s) + length(s, 0) + length(s, 1) + length(s, 2) + length(s, 3) == s.len()
+// Whether the parts follow each other, from the values to the end.
+fn whole(s: &[u8]) -> bool {
+    let start = 30 + 8 * (byte_at(s, NUMBERS) as usize) + 8 * (byte_at(s, VALUES) as usize);
+    start == mark(s, A)
+        && start <= mark(s, B)
+        && mark(s, B) <= mark(s, C)
+        && mark(s, C) <= mark(s, OUTPUT)
+        && mark(s, OUTPUT) <= mark(s, END)
+        && mark(s, END) == s.len()
 }
 
-// Whether what goes in fits the parameters of call `n`, and the record is as long as its parts. A reader has no target.
-pub fn fits(n: u8, s: &[u8]) -> bool {
-    if n < 8 && get_u16_le(s, 4) != 0 {
-        return false;
+// A reader has no target.
+fn target(n: u8, s: &[u8]) -> bool {
+    if n < 8 {
+        target_len(s) == 0
+    } else {
+        target_len(s) <= SPACE
     }
-    if 10 < byte_at(s, 16) || 16 < byte_at(s, 17) {
-        return false;
-    }
-    adds_up(s) && inputs(n, s) && numbers(n, s)
 }
 
-// The octets that a call can write: its target, or the arrays that a reader fills.
-pub fn room(n: u8, s: &[u8]) -> usize {
-    match n {
-        2 => 12,
-        4 | 5 => 8,
-        _ => get_u16_le(s, 4) as usize,
-    }
+// Whether the record is whole and what goes in fits the parameters of its call, 1 to 22.
+pub fn fits(s: &[u8]) -> bool {
+    let rows =
+        b"-------------------------s-------------s-------------s-------------s-------------s-------------s--l----------s--ooffwwl-------oofffoh----s--ooofffoooh-s--oooffooo------ooo--------s--h----------66-ooo-----------ffohhwwl-----------------8--ffooo------8s-ffwwl------6--offfo------66soofffooo---6s-offooo-----6--ooo--------66s";
+    let n = byte_at(s, CALL);
+    let row = tail(front(rows, ROW * (n as usize) + ROW), ROW * (n as usize));
+    0 < n
+        && n < 23
+        && whole(s)
+        && numbers(row, s)
+        && inputs(tail(row, ROW_NUMBERS), s)
+        && target(n, s)
 }

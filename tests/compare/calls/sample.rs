@@ -1,29 +1,28 @@
 //! A sample of cases with the Rust's answers, for a program that replays it without Rust. Numbers are low octet first.
 //!
-//! The file: 4 octets `PLC1`, then 4 with the number of records, then the records. A record:
+//! The file: 4 octets `PLC2`, then 4 with the number of records, then the records. A record:
 //!
 //! | at | octets | |
 //! |---|---|---|
-//! | 0 | 2 | length of the record, these two counted |
-//! | 2 | 1 | call, 1 to 22 (SHAPES in case.rs, in this order) |
-//! | 3 | 1 | fill: what each octet of the target and of every out-parameter is before the call |
-//! | 4 | 2 | length of the target, 0 for calls that read |
-//! | 6 | 1 | cause |
-//! | 7 | 1 | what `octet` is after the call: the fill, unless the cause is 4 to 7 |
-//! | 8 | 2, 2, 2 | lengths of the octet inputs A, B, C, 0 where the call takes fewer |
-//! | 14 | 2 | length of the octets that come out, E |
-//! | 16 | 1 | how many numbers go in, N, 0 to 10 |
-//! | 17 | 1 | how many values come out, V, 0 to 16 |
-//! | 18 | 8 N | the numbers, in the order of the C function's parameters; flags are 0 or 1 |
-//! | 18 + 8 N | 8 V | the values |
-//! | 18 + 8 N + 8 V | | A, then B, then C, then E |
+//! | 0 | 4, 4, 4, 4 | where A, B, C and E begin |
+//! | 16 | 4 | where E ends: the length of the record |
+//! | 20 | 4 | length of the target, 0 for calls that read |
+//! | 24 | 1 | call, 1 to 22 (SHAPES in case.rs, in this order) |
+//! | 25 | 1 | fill: what each octet of the target and of every out-parameter is before the call |
+//! | 26 | 1 | cause |
+//! | 27 | 1 | what `octet` is after the call: the fill, unless the cause is 4 to 7 |
+//! | 28 | 1 | how many numbers go in, N, 0 to 10 |
+//! | 29 | 1 | how many values come out, V, 0 to 16 |
+//! | 30 | 8 N | the numbers, in the order of the C function's parameters; flags are 0 or 1 |
+//! | 30 + 8 N | 8 V | the values |
+//! | 30 + 8 N + 8 V | | A, then B, then C, then E |
 //!
-//! A, B, C are the arrays and slices that go in, in the order of the C function's parameters. With a cause other than 0,
-//! V and E's length are 0: nothing has changed but `octet`. With cause 0: of a call that writes, V is 0, `written` is E's
-//! length, E are the first octets of the target, and the others are the fill. Of one that reads, the values are those of
-//! the array `values`; for deserialize_eth_header the one value is the EtherType, and E destination and source; for
-//! deserialize_status and deserialize_error_field E is the field; for entry_step the ninth value is `next`, and at the end
-//! of the list the other eight are as before, each octet the fill.
+//! A, B, C are the arrays and slices that go in, in the order of the C function's parameters, empty where the call takes
+//! fewer; E are the octets that come out. With a cause other than 0, V and E's length are 0: nothing has changed but `octet`.
+//! With cause 0: of a call that writes, the one value is `written`, E are the first octets of the target, and the others are
+//! the fill. Of one that reads, the values are those of the array `values`; for deserialize_eth_header E is the header, its
+//! EtherType high octet first; for deserialize_status and deserialize_error_field E is the field; for entry_step E is `next`,
+//! 8 octets, and at the end of the list V is 0.
 use crate::case::*;
 use crate::random::*;
 use crate::theirs::Theirs;
@@ -32,36 +31,48 @@ use std::io::{self, Write};
 
 /// How many random cases of one call with one cause, or of one kind of frame.
 const EACH: usize = 60;
-/// Records and targets are at most this long, so that a program can hold one whole.
+/// Records and targets are at most this long, so that the file stays small.
 const MOST: usize = 4096;
+/// Octets in front of the numbers.
+const HEAD: usize = 30;
+
+/// The values and the octets that come out.
+fn came(case: &Case, out: &Out) -> (Vec<u64>, Vec<u8>) {
+    let shape = case.shape();
+    if out.cause != 0 {
+        return Default::default();
+    }
+    match case.call {
+        ETH => (vec![], [&out.octets[..12], &(out.values[0] as u16).to_be_bytes()[..]].concat()),
+        STEP => {
+            let next = out.values[8];
+            (if next == 0 { vec![] } else { out.values[..8].to_vec() }, next.to_le_bytes().to_vec())
+        }
+        _ if shape.writes.is_some() => (vec![out.written as u64], out.target[..out.written].to_vec()),
+        _ => (out.values[..shape.values].to_vec(), out.octets[..shape.octets].to_vec()),
+    }
+}
 
 fn record(case: &Case, out: &Out) -> Vec<u8> {
     let shape = case.shape();
-    let done = out.cause == 0;
-    let came: &[u8] = match (done, shape.writes) {
-        (false, _) => &[],
-        (true, Some(_)) => &out.target[..out.written],
-        (true, None) => &out.octets[..shape.octets],
-    };
-    let values = if done { shape.values } else { 0 };
-    let mut r = vec![0, 0, case.call as u8, case.fill];
-    let half = |r: &mut Vec<u8>, n: usize| r.extend(u16::try_from(n).unwrap().to_le_bytes());
-    half(&mut r, if shape.writes.is_some() { case.target } else { 0 });
-    r.extend([out.cause, out.octet]);
-    for i in 0..3 {
-        half(&mut r, if i < shape.bytes.len() { case.bytes[i].len() } else { 0 });
+    let numbers = &case.numbers[..shape.numbers.len()];
+    let (values, output) = came(case, out);
+    let mut parts: [&[u8]; 4] = [&[], &[], &[], &output];
+    for (part, octets) in parts.iter_mut().zip(&case.bytes[..shape.bytes.len()]) {
+        *part = octets;
     }
-    half(&mut r, came.len());
-    r.extend([shape.numbers.len() as u8, values as u8]);
-    for n in case.numbers[..shape.numbers.len()].iter().chain(&out.values[..values]) {
-        r.extend(n.to_le_bytes());
+    let mut r = Vec::new();
+    let mut at = HEAD + 8 * (numbers.len() + values.len());
+    let word = |r: &mut Vec<u8>, n: usize| r.extend(u32::try_from(n).unwrap().to_le_bytes());
+    for part in parts {
+        word(&mut r, at);
+        at += part.len();
     }
-    for octets in &case.bytes[..shape.bytes.len()] {
-        r.extend(octets);
-    }
-    r.extend(came);
-    let len = u16::try_from(r.len()).unwrap();
-    r[..2].copy_from_slice(&len.to_le_bytes());
+    word(&mut r, at);
+    word(&mut r, if shape.writes.is_some() { case.target } else { 0 });
+    r.extend([case.call as u8, case.fill, out.cause, out.octet, numbers.len() as u8, values.len() as u8]);
+    r.extend(numbers.iter().chain(&values).flat_map(|n| n.to_le_bytes()));
+    r.extend(parts.concat());
     r
 }
 
@@ -248,9 +259,10 @@ pub fn write(to: &mut impl Write) -> io::Result<()> {
             assert!(held.keys().any(|(c, n, _)| (*c, n) == (call, cause)), "no case of {} with {cause}", shape.name);
         }
     }
-    assert!(records.iter().all(|octets| octets.len() <= MOST && u16::from_le_bytes([octets[4], octets[5]]) as usize <= MOST));
-    records.sort_by_key(|octets| octets[2]);
-    to.write_all(b"PLC1")?;
+    let target = |r: &Vec<u8>| u32::from_le_bytes(r[20..24].try_into().unwrap()) as usize;
+    assert!(records.iter().all(|octets| octets.len() <= MOST && target(octets) <= MOST));
+    records.sort_by_key(|octets| octets[24]);
+    to.write_all(b"PLC2")?;
     to.write_all(&(records.len() as u32).to_le_bytes())?;
     for octets in records {
         to.write_all(&octets)?;

@@ -7,19 +7,22 @@ use Rattle.replay.proofs.record.value.Tie as tie
 
 returns : tie.Need-returns
 returns c =
-    let a = c .before .before .before .before .before .args in
-    value-there (a .s .now) (a .i) _ _ (c .before .before .before .byte-at .ensures) (c .before .before .if1 .taken) (cc)
+    let t = c .before .before in
+    let a = t .before .before .before .args in
+    value-there (a .s .now) (a .i) _ _ (t .before .byte-at .ensures) (t .if1 .taken) (cc)
 
 returns-2 : tie.Need-returns-2
 returns-2 c =
-    let a = c .before .before .before .before .args in
-    value-none (a .s .now) (a .i) _ _ (c .before .before .byte-at .ensures) (c .before .if1 .left) (c .many .ensures)
+    let e = c .before in
+    let a = e .before .before .before .args in
+    value-none (a .s .now) (a .i) _ _ (e .before .byte-at .ensures) (e .if1 .left) (c .many .ensures)
 
 pub value-spec : {M : Type 1} → statement M
 value-spec =
     tie.close
     (tie.spec
     (λ c κs. search needs)
+    (λ c. search needs)
     (λ c κs. search needs)
     (λ c. search needs)
     (λ c. search needs)

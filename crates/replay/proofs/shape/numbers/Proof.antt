@@ -1,4 +1,4 @@
--- `numbers` is safe and ends: what is left of the ten falls.
+-- `numbers` is safe and ends: what is left of them falls.
 -- Assumes nothing.
 use Prim.Native.Nat.{_-_, _≤_}
 use borrow.Author.Needs.{needs}
@@ -6,10 +6,10 @@ use Rattle.replay.proofs.shape.numbers.Statement.{statement}
 use Rattle.replay.proofs.shape.numbers.Tie as tie
 
 abbrev Inv-loop : tie.InvT-loop
-Inv-loop n s row count i₀ i = i ≤ 10
+Inv-loop row s count i₀ i = i ≤ count
 
 abbrev μ-loop : tie.MeasureT-loop
-μ-loop n s row count i₀ i = 10 - i
+μ-loop row s count i₀ i = count - i
 
 pub numbers-spec : {M : Type 1} → statement M
 numbers-spec =
@@ -17,7 +17,6 @@ numbers-spec =
     (tie.spec
     Inv-loop
     μ-loop
-    (search needs)
     (search needs)
     (search needs)
     (search needs)

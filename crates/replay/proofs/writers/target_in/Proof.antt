@@ -3,8 +3,8 @@
 use mathlib.Core.Path.{sym}
 use lib.Seq.{length-take-le}
 use borrow.Author.Needs.{needs}
-use Rattle.replay.proofs.target_in.Statement.{statement}
-use Rattle.replay.proofs.target_in.Tie as tie
+use Rattle.replay.proofs.writers.target_in.Statement.{statement}
+use Rattle.replay.proofs.writers.target_in.Tie as tie
 
 slice-aggregate-result : tie.Need-slice-aggregate-result
 slice-aggregate-result c = sym (length-take-le _ (c .before .before .args .space .now) (c .before .if1 .taken))

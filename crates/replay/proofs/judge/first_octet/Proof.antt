@@ -1,4 +1,4 @@
--- `first_other` meets its contract. The loop's invariant: what lies in front of the place is as expected. The measure is
+-- `first_octet` meets its contract. The loop's invariant: what lies in front of the place is as expected. The measure is
 -- what is left of the octets.
 -- Assumes nothing.
 use Prim.Native.Nat.{ℕ, _-_, _≤_, _<_}
@@ -7,8 +7,8 @@ use lib.ListN.{length, getD}
 use borrow.Author.Count.{below-more}
 use borrow.Author.Needs.{needs}
 use Rattle.replay.proofs.Laws.{other-here, other-none}
-use Rattle.replay.proofs.judge.first_other.Statement.{statement}
-use Rattle.replay.proofs.judge.first_other.Tie as tie
+use Rattle.replay.proofs.judge.first_octet.Statement.{statement}
+use Rattle.replay.proofs.judge.first_octet.Tie as tie
 
 abbrev Inv-loop : tie.InvT-loop
 Inv-loop came expected b i₀ i = (i ≤ length came) × ((k : ℕ) → k < i → getD came k 0 ≡ getD expected k b)
@@ -29,8 +29,8 @@ loop-again c =
 returns-2 : tie.Need-returns-2 Inv-loop μ-loop
 returns-2 c = let l = c .before .loop in other-none (l .inv .0) (l .inv .1) (c .loop-test .left)
 
-pub first-other-spec : {M : Type 1} → statement M
-first-other-spec =
+pub first-octet-spec : {M : Type 1} → statement M
+first-octet-spec =
     tie.close
     (tie.spec
     Inv-loop

@@ -1,0 +1,51 @@
+// The calls that write: their target, and which function each is.
+use crate::frames;
+use crate::judge::Verdict;
+use crate::judge::judge;
+use crate::parts;
+use crate::record::fill;
+use crate::record::many;
+use crate::record::target_len;
+use crate::sections;
+
+// The longest target: more than a frame takes whose payload has 65,536 octets.
+pub const SPACE: usize = 65600;
+
+// The first `len` octets of `space`, or all where it has fewer.
+fn target_in(space: &mut [u8], len: usize) -> &mut [u8] {
+    if len <= space.len() {
+        &mut space[..len]
+    } else {
+        &mut space[..]
+    }
+}
+
+fn call(n: u8, s: &[u8], target: &mut [u8], written: &mut usize, said: &mut u8) -> u8 {
+    match n {
+        8 => sections::soc(s, target, written),
+        9 => sections::preq(s, target, written),
+        10 => sections::pres(s, target, written, said),
+        11 => sections::soa(s, target, written, said),
+        12 => sections::asnd(s, target, written, said),
+        13 => parts::eth_header(s, target, written),
+        14 => parts::pl_header(s, target, written, said),
+        15 => parts::entry(s, target, written),
+        16 => parts::error_field(s, target, written),
+        17 => parts::status(s, target, written, said),
+        18 => frames::soc(s, target, written),
+        19 => frames::preq(s, target, written),
+        20 => frames::pres(s, target, written, said),
+        21 => frames::soa(s, target, written, said),
+        _ => frames::asnd(s, target, written, said),
+    }
+}
+
+// Calls 8 to 22. The one value that comes out is `written`.
+pub fn write(n: u8, s: &[u8]) -> Verdict {
+    let mut space = [fill(s); SPACE];
+    let target = target_in(&mut space, target_len(s));
+    let mut written = many(s) as usize;
+    let mut said = fill(s);
+    let cause = call(n, s, target, &mut written, &mut said);
+    judge(s, cause, said, &[written as u64], target)
+}
