@@ -1,4 +1,4 @@
-//! Lists the code tables of powerlink-rs, octet by octet, then its addresses and IDs, in the form of our program `codes`.
+//! Lists the code tables of powerlink-rs, octet by octet, then its addresses and IDs, in the form in which our program `codes` begins.
 use powerlink_rs::frame::error::ErrorEntryMode;
 use powerlink_rs::PowerlinkError;
 use powerlink_rs::frame::{PRFlag, PowerlinkFrame, RequestedServiceId, ServiceId, StatusResponsePayload, deserialize_frame};
@@ -8,13 +8,12 @@ use std::fmt::Debug;
 
 /// What a table makes of each octet below `end`: the code that is written for the value, and the value's name.
 fn list<T: Copy + Debug>(name: &str, end: u16, read: impl Fn(u8) -> Option<T>, code: impl Fn(T) -> u8) {
-    print!("{name}");
+    println!("{name:<24}code");
     for b in 0..end {
         if let Some(value) = read(b as u8) {
-            print!(" {:02x}={value:?}", code(value));
+            println!("{:<24}{:02x}", format!("{value:?}"), code(value));
         }
     }
-    println!();
 }
 
 /// How many entries the chain of ASnd and StatusResponse finds in a section of `len` octets with service 2, zeros but for
@@ -32,27 +31,31 @@ fn chain(len: usize, octets: &[(usize, u8)]) -> Result<usize, PowerlinkError> {
 }
 
 fn address(name: &str, a: [u8; 6]) {
-    println!("{name} {}", a.map(|b| format!("{b:02x}")).join(" "));
+    println!("{name:<24} {}", a.map(|b| format!("{b:02x}")).join(" "));
+}
+
+fn number(name: &str, n: u64) {
+    println!("{name:<24}{n}");
 }
 
 fn main() {
-    list("message types:", 256, |b| MessageType::try_from(b).ok(), |v| v as u8);
-    list("NMT states:", 256, |b| NmtState::try_from(b).ok(), |v| v as u8);
-    list("services:", 256, |b| ServiceId::try_from(b).ok(), |v| v as u8);
-    list("requested services:", 256, |b| RequestedServiceId::try_from(b).ok(), |v| v as u8);
-    list("priorities:", 8, |b| PRFlag::try_from(b).ok(), |v| v as u8);
-    list("error entry modes:", 256, |b| ErrorEntryMode::try_from(b).ok(), |v| v as u8);
+    list("message types", 256, |b| MessageType::try_from(b).ok(), |v| v as u8);
+    list("NMT states", 256, |b| NmtState::try_from(b).ok(), |v| v as u8);
+    list("services", 256, |b| ServiceId::try_from(b).ok(), |v| v as u8);
+    list("requested services", 256, |b| RequestedServiceId::try_from(b).ok(), |v| v as u8);
+    list("priorities", 8, |b| PRFlag::try_from(b).ok(), |v| v as u8);
+    list("error entry modes", 256, |b| ErrorEntryMode::try_from(b).ok(), |v| v as u8);
 
-    address("SoC address:", types::C_DLL_MULTICAST_SOC);
-    address("PRes address:", types::C_DLL_MULTICAST_PRES);
-    address("SoA address:", types::C_DLL_MULTICAST_SOA);
-    address("ASnd address:", types::C_DLL_MULTICAST_ASND);
-    println!("EtherType: {}", types::C_DLL_ETHERTYPE_EPL);
-    println!("managing node: {}", types::C_ADR_MN_DEF_NODE_ID);
-    println!("last controlled node: {}", types::C_ADR_MAX_CN_NODE_ID);
-    println!("all nodes: {}", types::C_ADR_BROADCAST_NODE_ID);
+    address("SoC address", types::C_DLL_MULTICAST_SOC);
+    address("PRes address", types::C_DLL_MULTICAST_PRES);
+    address("SoA address", types::C_DLL_MULTICAST_SOA);
+    address("ASnd address", types::C_DLL_MULTICAST_ASND);
+    number("EtherType", types::C_DLL_ETHERTYPE_EPL.into());
+    number("managing node", types::C_ADR_MN_DEF_NODE_ID.into());
+    number("last controlled node", types::C_ADR_MAX_CN_NODE_ID.into());
+    number("all nodes", types::C_ADR_BROADCAST_NODE_ID.into());
 
-    // docs/DIFFERENCES.md: ASnd then StatusResponse loses what trimming takes; our `decode` has both payloads untrimmed.
+    // docs/DIFFERENCES.md: ASnd then StatusResponse loses what trimming takes; tests/replay/from_01/reading.txt has both payloads untrimmed.
     assert_eq!(chain(46, &[]), Err(PowerlinkError::BufferTooShort));
     assert_eq!(chain(46, &[(19, 0x10)]), Ok(0));
 

@@ -21,5 +21,5 @@ if [ "${1:-}" = --check ]; then
     echo "sample: $sample is as made from powerlink-rs"
 else
     cat "$new" >"$sample"
-    echo "sample: $sample is written; what \`rt check replay\` then prints of it is to go into crates/replay/stdout"
+    echo "sample: $sample is written; crates/replay/stdout has its number of cases"
 fi

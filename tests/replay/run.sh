@@ -10,10 +10,10 @@ dir=$(mktemp -d)
 trap 'rm -rf "$dir"' EXIT
 count=0
 
-# What replaying $dir/in writes ends in the line $2; `agree` stands in no other line.
+# What replaying $dir/in writes ends in the line $2; `cases` stands in no other line.
 says() {
     "$replay" <"$dir/in" >"$dir/out"
-    if [ "$(tail -n 1 "$dir/out")" != "$2" ] || [ "$(grep -c agree "$dir/out")" != "$(echo "$2" | grep -c agree)" ]; then
+    if [ "$(tail -n 1 "$dir/out")" != "$2" ] || [ "$(grep -c cases "$dir/out")" != "$(echo "$2" | grep -c cases)" ]; then
         echo "replay: $1: the last line is not '$2'"
         tail -n 3 "$dir/out"
         exit 1
@@ -66,11 +66,11 @@ records() {
 records $from_01/records >"$dir/records"
 written=$(($(wc -l <"$dir/records")))
 cp $from_01/records "$dir/in"
-says 'the cases written from 01' "$written cases agree"
+says 'the cases written from 01' "$written cases, 0 differ"
 if command -v python3 >/dev/null; then
     python3 $from_01/make.py --check
     python3 $from_01/make.py --long >"$dir/in"
-    says 'those with long payloads' '16 cases agree'
+    says 'those with long payloads' '16 cases, 0 differ'
 else
     echo "replay: that the records are those of $from_01/*.txt, and the cases with long payloads: not looked at, there is no python3"
 fi
@@ -88,9 +88,9 @@ END { for (k in line) print line[k] }' "$dir/records" | sort >"$dir/short"
 cases=$(($(wc -l <"$dir/records")))
 few=$(($(wc -l <"$dir/short")))
 cp "$sample" "$dir/in"
-says 'the sample' "$cases cases agree"
+says 'the sample' "$cases cases, 0 differ"
 { front $few; lines "$dir/short"; } >"$dir/in"
-says 'its short cases' "$few cases agree"
+says 'its short cases' "$few cases, 0 differ"
 
 # Each expected octet by itself: the cause, `octet`, the values, and what comes out.
 awk '{
@@ -109,14 +109,14 @@ awk '{
 }' "$dir/short" >"$dir/changed"
 n=$(($(wc -l <"$dir/changed")))
 { front $n; lines "$dir/changed"; } >"$dir/in"
-says 'every expected octet changed' "$n of $n cases differ"
+says 'every expected octet changed' "$n cases, $n differ"
 
 # What is said of a difference: the case, the call, what was expected and what came.
-changed 8 0 26 1 '1 of 1 cases differ'
+changed 8 0 26 1 '1 cases, 1 differ'
 grep -qx 'case 1, serialize_soc  *cause  *0: 1 expected, 0 came' "$dir/out"
-changed 1 0 30 9 '1 of 1 cases differ'
+changed 1 0 30 9 '1 cases, 1 differ'
 grep -qx 'case 1, deserialize_frame  *value  *0: 9 expected, [1-6] came' "$dir/out"
-changed 8 0 94 9 '1 of 1 cases differ'
+changed 8 0 94 9 '1 cases, 1 differ'
 grep -qx 'case 1, serialize_soc  *output  *0: 9 expected, 1 came' "$dir/out"
 
 # Parts that do not fit: where they begin and end, the target, the call, how many numbers and values there are.
@@ -165,6 +165,6 @@ says 'more than it holds' "$none"
 # A difference in the last case: its cause.
 at=$((size - $(tail -n 1 "$dir/records" | wc -w) + 26))
 { head -c $at "$sample"; octets 255; tail -c +$((at + 2)) "$sample"; } >"$dir/in"
-says 'the last cause' "1 of $cases cases differ"
+says 'the last cause' "$cases cases, 1 differ"
 
 echo "replay: $written cases written from 01 agree; $count files are told apart; each of $n expected octets, changed by itself, is a difference"

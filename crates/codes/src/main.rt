@@ -1,4 +1,7 @@
-// Lists the code tables, octet by octet, then the addresses and IDs that frames are sent to.
+// Lists the code tables, octet by octet, then the addresses and numbers that frames are made of; then what the functions give
+// that no C function offers. The expected output is written from 01.
+mod batch;
+mod frames;
 mod print;
 mod tables;
 
@@ -6,9 +9,14 @@ use control::asnd::ASndFrame;
 use control::soa::SoAFrame;
 use control::soc::SocFrame;
 use poll::pres::PResFrame;
-use print::address;
+use print::end;
+use print::name;
 use print::number;
+use print::octet;
+use print::octets;
 use print::say;
+use tables::Listed;
+use types::poll_flags::RSFlag;
 
 enum Table {
     Messages,
@@ -19,7 +27,7 @@ enum Table {
     Modes,
 }
 
-fn entry(table: Table, b: u8) {
+fn listed(table: Table, b: u8) -> Listed {
     match table {
         Table::Messages => tables::message(b),
         Table::States => tables::state(b),
@@ -30,31 +38,105 @@ fn entry(table: Table, b: u8) {
     }
 }
 
-fn list(name: &[u8], table: Table) {
-    say(name);
-    for b in 0..256u64 {
-        entry(table, b as u8);
+fn entry(names: &[u8], listed: Listed) {
+    match listed {
+        Listed::Nothing => {}
+        Listed::Value { code, place } => {
+            name(names, place);
+            octet(code);
+            end();
+        }
     }
-    say(b"\n");
 }
 
-fn constants() {
-    address(b"SoC address:", SocFrame::MULTICAST);
-    address(b"PRes address:", PResFrame::MULTICAST);
-    address(b"SoA address:", SoAFrame::MULTICAST);
-    address(b"ASnd address:", ASndFrame::MULTICAST);
-    number(b"EtherType:", types::C_DLL_ETHERTYPE_EPL as u64);
-    number(b"managing node:", types::C_ADR_MN_DEF_NODE_ID as u64);
-    number(b"last controlled node:", types::C_ADR_MAX_CN_NODE_ID as u64);
-    number(b"all nodes:", types::C_ADR_BROADCAST_NODE_ID as u64);
+// The first name is the table's.
+fn list(names: &[u8], table: Table) {
+    name(names, 0);
+    say(b"code\n");
+    for b in 0..256u64 {
+        entry(names, listed(table, b as u8));
+    }
+}
+
+fn lists() {
+    list(
+        b"message types           SoC                     PReq                    PRes                    SoA                     ASnd                    ",
+        Table::Messages,
+    );
+    list(
+        b"NMT states              NmtGsOff                NmtGsInitialising       NmtGsResetApplication   NmtGsResetCommunication NmtGsResetConfiguration NmtNotActive            NmtPreOperational1      NmtPreOperational2      NmtReadyToOperate       NmtOperational          NmtCsStopped            NmtBasicEthernet        ",
+        Table::States,
+    );
+    list(
+        b"services                IdentResponse           StatusResponse          NmtRequest              NmtCommand              Sdo                     NMTPublishTime          NMTPublishNMTState      NMTPublishNodeState     NMTPublishNodeList      NMTPublishEmergNew      NMTPublishHeartbeat     NMTPublishActiveNodes   ",
+        Table::Services,
+    );
+    list(
+        b"requested services      NoService               IdentRequest            StatusRequest           NmtRequestInvite        UnspecifiedInvite       ",
+        Table::RequestedServices,
+    );
+    list(
+        b"priorities              PrioNmtRequest          High3                   High2                   High1                   PrioGenericRequest      Low3                    Low2                    Low1                    ",
+        Table::Priorities,
+    );
+    list(
+        b"error entry modes       Terminator              ErrorActive             ErrorCleared            EventOccurred           ",
+        Table::Modes,
+    );
+}
+
+fn multicast(k: u8) -> [u8; 6] {
+    match k {
+        0 => SocFrame::MULTICAST,
+        1 => PResFrame::MULTICAST,
+        2 => SoAFrame::MULTICAST,
+        _ => ASndFrame::MULTICAST,
+    }
+}
+
+fn addresses(names: &[u8]) {
+    for k in 0..4u8 {
+        name(names, k);
+        octets(&multicast(k));
+        end();
+    }
+}
+
+fn constant(k: u8) -> u64 {
+    match k {
+        0 => types::C_DLL_ETHERTYPE_EPL as u64,
+        1 => types::C_ADR_MN_DEF_NODE_ID as u64,
+        2 => types::C_ADR_MAX_CN_NODE_ID as u64,
+        _ => types::C_ADR_BROADCAST_NODE_ID as u64,
+    }
+}
+
+fn constants(names: &[u8]) {
+    for k in 0..4u8 {
+        name(names, k);
+        number(b"", constant(k));
+        end();
+    }
+}
+
+// How many frames wait, as it is counted: above 7 it is 7.
+fn requests() {
+    for n in 0..10u8 {
+        number(b"rs ", n as u64);
+        number(b": ", RSFlag::new(n).0 as u64);
+        end();
+    }
 }
 
 fn main() {
-    list(b"message types:", Table::Messages);
-    list(b"NMT states:", Table::States);
-    list(b"services:", Table::Services);
-    list(b"requested services:", Table::RequestedServices);
-    list(b"priorities:", Table::Priorities);
-    list(b"error entry modes:", Table::Modes);
-    constants();
+    lists();
+    addresses(
+        b"SoC address             PRes address            SoA address             ASnd address            ",
+    );
+    constants(
+        b"EtherType               managing node           last controlled node    all nodes               ",
+    );
+    requests();
+    frames::all();
+    batch::all();
 }

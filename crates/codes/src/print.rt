@@ -1,34 +1,42 @@
-// Lines of text on standard output.
+// Text, names and numbers on standard output.
 use libc::STDOUT_FILENO;
+use octets::slices::front;
+use octets::slices::tail;
+
+// The width of a name.
+const WIDTH: usize = 24;
 
 pub fn say(text: &[u8]) {
     io::write_all(STDOUT_FILENO, text);
+}
+
+pub fn end() {
+    say(b"\n");
+}
+
+// Name `k` of a list of them.
+pub fn name(names: &[u8], k: u8) {
+    say(front(tail(names, WIDTH * (k as usize)), WIDTH));
 }
 
 pub fn octet(b: u8) {
     io::print_hex(STDOUT_FILENO, b as u64, 2);
 }
 
-// A code and the name of its value, as ` 05=SoA`.
-pub fn entry(code: u8, name: &[u8]) {
-    say(b" ");
-    octet(code);
-    say(b"=");
-    say(name);
-}
-
-pub fn address(name: &[u8], a: [u8; 6]) {
-    say(name);
-    for i in 0..6usize {
+pub fn octets(s: &[u8]) {
+    let mut i = 0;
+    while i < s.len() {
         say(b" ");
-        octet(a[i]);
+        octet(s[i]);
+        i += 1;
     }
-    say(b"\n");
 }
 
-pub fn number(name: &[u8], n: u64) {
-    say(name);
-    say(b" ");
+pub fn number(label: &[u8], n: u64) {
+    say(label);
     io::print_decimal(STDOUT_FILENO, n);
-    say(b"\n");
+}
+
+pub fn flag(label: &[u8], on: bool) {
+    number(label, if on { 1 } else { 0 });
 }

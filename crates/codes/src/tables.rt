@@ -1,6 +1,5 @@
 // What each code table makes of an octet: nothing where it does not know it, and else the code that is written for the
-// value, with the value's name.
-use crate::print::entry;
+// value, with the value's place in the list of names.
 use types::error_mode::ErrorEntryMode;
 use types::error_mode::ErrorEntryModeAnswer;
 use types::message_type::MessageType;
@@ -14,102 +13,125 @@ use types::service::ServiceIdAnswer;
 use types::states::NmtState;
 use types::states::NmtStateAnswer;
 
-pub fn message(b: u8) {
+pub enum Listed {
+    Value { code: u8, place: u8 },
+    Nothing,
+}
+
+pub fn message(b: u8) -> Listed {
     let MessageTypeAnswer::Known(value) = MessageType::from_u8(b) else {
-        return;
+        return Listed::Nothing;
     };
-    let code = value.to_u8();
-    match value {
-        MessageType::SoC => entry(code, b"SoC"),
-        MessageType::PReq => entry(code, b"PReq"),
-        MessageType::PRes => entry(code, b"PRes"),
-        MessageType::SoA => entry(code, b"SoA"),
-        MessageType::ASnd => entry(code, b"ASnd"),
+    let place = match value {
+        MessageType::SoC => 1,
+        MessageType::PReq => 2,
+        MessageType::PRes => 3,
+        MessageType::SoA => 4,
+        MessageType::ASnd => 5,
+    };
+    Listed::Value {
+        code: value.to_u8(),
+        place,
     }
 }
 
-pub fn state(b: u8) {
+pub fn state(b: u8) -> Listed {
     let NmtStateAnswer::Known(value) = NmtState::from_u8(b) else {
-        return;
+        return Listed::Nothing;
     };
-    let code = value.to_u8();
-    match value {
-        NmtState::NmtGsOff => entry(code, b"NmtGsOff"),
-        NmtState::NmtGsInitialising => entry(code, b"NmtGsInitialising"),
-        NmtState::NmtGsResetApplication => entry(code, b"NmtGsResetApplication"),
-        NmtState::NmtGsResetCommunication => entry(code, b"NmtGsResetCommunication"),
-        NmtState::NmtGsResetConfiguration => entry(code, b"NmtGsResetConfiguration"),
-        NmtState::NmtNotActive => entry(code, b"NmtNotActive"),
-        NmtState::NmtPreOperational1 => entry(code, b"NmtPreOperational1"),
-        NmtState::NmtPreOperational2 => entry(code, b"NmtPreOperational2"),
-        NmtState::NmtReadyToOperate => entry(code, b"NmtReadyToOperate"),
-        NmtState::NmtOperational => entry(code, b"NmtOperational"),
-        NmtState::NmtCsStopped => entry(code, b"NmtCsStopped"),
-        NmtState::NmtBasicEthernet => entry(code, b"NmtBasicEthernet"),
+    let place = match value {
+        NmtState::NmtGsOff => 1,
+        NmtState::NmtGsInitialising => 2,
+        NmtState::NmtGsResetApplication => 3,
+        NmtState::NmtGsResetCommunication => 4,
+        NmtState::NmtGsResetConfiguration => 5,
+        NmtState::NmtNotActive => 6,
+        NmtState::NmtPreOperational1 => 7,
+        NmtState::NmtPreOperational2 => 8,
+        NmtState::NmtReadyToOperate => 9,
+        NmtState::NmtOperational => 10,
+        NmtState::NmtCsStopped => 11,
+        NmtState::NmtBasicEthernet => 12,
+    };
+    Listed::Value {
+        code: value.to_u8(),
+        place,
     }
 }
 
-pub fn service(b: u8) {
+pub fn service(b: u8) -> Listed {
     let ServiceIdAnswer::Known(value) = ServiceId::from_u8(b) else {
-        return;
+        return Listed::Nothing;
     };
-    let code = value.to_u8();
-    match value {
-        ServiceId::IdentResponse => entry(code, b"IdentResponse"),
-        ServiceId::StatusResponse => entry(code, b"StatusResponse"),
-        ServiceId::NmtRequest => entry(code, b"NmtRequest"),
-        ServiceId::NmtCommand => entry(code, b"NmtCommand"),
-        ServiceId::Sdo => entry(code, b"Sdo"),
-        ServiceId::NMTPublishTime => entry(code, b"NMTPublishTime"),
-        ServiceId::NMTPublishNMTState => entry(code, b"NMTPublishNMTState"),
-        ServiceId::NMTPublishNodeState => entry(code, b"NMTPublishNodeState"),
-        ServiceId::NMTPublishNodeList => entry(code, b"NMTPublishNodeList"),
-        ServiceId::NMTPublishEmergNew => entry(code, b"NMTPublishEmergNew"),
-        ServiceId::NMTPublishHeartbeat => entry(code, b"NMTPublishHeartbeat"),
-        ServiceId::NMTPublishActiveNodes => entry(code, b"NMTPublishActiveNodes"),
+    let place = match value {
+        ServiceId::IdentResponse => 1,
+        ServiceId::StatusResponse => 2,
+        ServiceId::NmtRequest => 3,
+        ServiceId::NmtCommand => 4,
+        ServiceId::Sdo => 5,
+        ServiceId::NMTPublishTime => 6,
+        ServiceId::NMTPublishNMTState => 7,
+        ServiceId::NMTPublishNodeState => 8,
+        ServiceId::NMTPublishNodeList => 9,
+        ServiceId::NMTPublishEmergNew => 10,
+        ServiceId::NMTPublishHeartbeat => 11,
+        ServiceId::NMTPublishActiveNodes => 12,
+    };
+    Listed::Value {
+        code: value.to_u8(),
+        place,
     }
 }
 
-pub fn requested_service(b: u8) {
+pub fn requested_service(b: u8) -> Listed {
     let RequestedServiceIdAnswer::Known(value) = RequestedServiceId::from_u8(b) else {
-        return;
+        return Listed::Nothing;
     };
-    let code = value.to_u8();
-    match value {
-        RequestedServiceId::NoService => entry(code, b"NoService"),
-        RequestedServiceId::IdentRequest => entry(code, b"IdentRequest"),
-        RequestedServiceId::StatusRequest => entry(code, b"StatusRequest"),
-        RequestedServiceId::NmtRequestInvite => entry(code, b"NmtRequestInvite"),
-        RequestedServiceId::UnspecifiedInvite => entry(code, b"UnspecifiedInvite"),
+    let place = match value {
+        RequestedServiceId::NoService => 1,
+        RequestedServiceId::IdentRequest => 2,
+        RequestedServiceId::StatusRequest => 3,
+        RequestedServiceId::NmtRequestInvite => 4,
+        RequestedServiceId::UnspecifiedInvite => 5,
+    };
+    Listed::Value {
+        code: value.to_u8(),
+        place,
     }
 }
 
-pub fn priority(b: u8) {
+pub fn priority(b: u8) -> Listed {
     let PRFlagAnswer::Known(value) = PRFlag::from_u8(b) else {
-        return;
+        return Listed::Nothing;
     };
-    let code = value.to_u8();
-    match value {
-        PRFlag::PrioNmtRequest => entry(code, b"PrioNmtRequest"),
-        PRFlag::High3 => entry(code, b"High3"),
-        PRFlag::High2 => entry(code, b"High2"),
-        PRFlag::High1 => entry(code, b"High1"),
-        PRFlag::PrioGenericRequest => entry(code, b"PrioGenericRequest"),
-        PRFlag::Low3 => entry(code, b"Low3"),
-        PRFlag::Low2 => entry(code, b"Low2"),
-        PRFlag::Low1 => entry(code, b"Low1"),
+    let place = match value {
+        PRFlag::PrioNmtRequest => 1,
+        PRFlag::High3 => 2,
+        PRFlag::High2 => 3,
+        PRFlag::High1 => 4,
+        PRFlag::PrioGenericRequest => 5,
+        PRFlag::Low3 => 6,
+        PRFlag::Low2 => 7,
+        PRFlag::Low1 => 8,
+    };
+    Listed::Value {
+        code: value.to_u8(),
+        place,
     }
 }
 
-pub fn mode(b: u8) {
+pub fn mode(b: u8) -> Listed {
     let ErrorEntryModeAnswer::Known(value) = ErrorEntryMode::from_u8(b) else {
-        return;
+        return Listed::Nothing;
     };
-    let code = value.to_u8();
-    match value {
-        ErrorEntryMode::Terminator => entry(code, b"Terminator"),
-        ErrorEntryMode::ErrorActive => entry(code, b"ErrorActive"),
-        ErrorEntryMode::ErrorCleared => entry(code, b"ErrorCleared"),
-        ErrorEntryMode::EventOccurred => entry(code, b"EventOccurred"),
+    let place = match value {
+        ErrorEntryMode::Terminator => 1,
+        ErrorEntryMode::ErrorActive => 2,
+        ErrorEntryMode::ErrorCleared => 3,
+        ErrorEntryMode::EventOccurred => 4,
+    };
+    Listed::Value {
+        code: value.to_u8(),
+        place,
     }
 }

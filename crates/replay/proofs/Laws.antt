@@ -8,14 +8,14 @@ use lib.ListN.{getD, length, take, drop, length-take, length-drop}
 use borrow.Author.Tests.{lt-ltb, le-ltb}
 use Rattle.octets.specs.Numbers.{leAt}
 use Rattle.replay.specs.Agreement.{FirstOther, FirstOctet, SameOutput, Unless}
-use Rattle.replay.specs.Record.{fillOf, manyOf, numberAt, valuesIn, valueOf, outputOf}
+use Rattle.replay.specs.Record.{fillOf, manyOf, numberAt, numbersIn, valuesIn, valueOf, outputOf}
 use Rattle.replay.specs.declared.judge.Verdict.{Verdict}
 use Rattle.replay.specs.declared.judge.Verdict.the-variants.{Agrees, Differs}
 
 module _ (s : List ℕ) where
-  pub value-there : (i n r : ℕ) → n ≡ valuesIn s → i < n → r ≡ leAt 8 (numberAt (getD s 28 0) + 8 * i) s → r ≡ valueOf s i
+  pub value-there : (i n m r : ℕ) → n ≡ valuesIn s → i < n → m ≡ numbersIn s → r ≡ leAt 8 (numberAt m + 8 * i) s → r ≡ valueOf s i
   unfolding valueOf
-  value-there i n r en h er = let k : i < valuesIn s = omega arith in rw (lt-ltb i (valuesIn s) k) er
+  value-there i n m r en h em er = let k : i < valuesIn s = omega arith in rw (lt-ltb i (valuesIn s) k) (cc)
 
   pub value-none : (i n r : ℕ) → n ≡ valuesIn s → n ≤ i → r ≡ manyOf s → r ≡ valueOf s i
   unfolding valueOf
@@ -45,6 +45,10 @@ same-output {s} {t} {e} {b} ee eb h f past =
 pub unless : {P Q : Type 0} (r : Verdict) → (P → Q) → Unless r P → Unless r Q
 unless Agrees f p = f p
 unless (Differs part at expected came) f p = p
+
+-- from one place to another
+pub between : (s : List ℕ) {r front : List ℕ} {a e from to : ℕ} → front ≡ take e s → e ≡ to → a ≡ from → r ≡ drop a front → r ≡ drop from (take to s)
+between s ef ee ea er = cc
 
 -- a part of what follows a place is no longer than that
 pub part-length : {r rest : List ℕ} (t : List ℕ) (n at : ℕ) → r ≡ take n rest → rest ≡ drop at t → length r ≤ length t - at

@@ -17,6 +17,10 @@ manyOf s = fillOf s * 0x0101010101010101
 
 -- ---- what goes in
 
+-- how many numbers the record has
+abbrev pub numbersIn : List ℕ → ℕ
+numbersIn s = getD s 28 0
+
 -- the place of number i
 abbrev pub numberAt : ℕ → ℕ
 numberAt i = 30 + 8 * i
@@ -46,7 +50,7 @@ valuesIn s = getD s 29 0
 
 -- value i, or as before the call where the record has none
 unfoldable pub valueOf : List ℕ → ℕ → ℕ
-valueOf s i = pick (ltb i (valuesIn s)) (leAt 8 (numberAt (getD s 28 0) + 8 * i) s) (manyOf s)
+valueOf s i = pick (ltb i (valuesIn s)) (leAt 8 (numberAt (numbersIn s) + 8 * i) s) (manyOf s)
 
 -- the octets that come out
 abbrev pub outputOf : List ℕ → List ℕ

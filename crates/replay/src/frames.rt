@@ -15,7 +15,7 @@ use powerlink::frames::powerlink_new_pres;
 use powerlink::frames::powerlink_new_soa;
 use powerlink::frames::powerlink_new_soc;
 
-pub fn soc(s: &[u8], target: &mut [u8], written: &mut usize) -> u8 {
+fn soc(s: &[u8], target: &mut [u8], written: &mut usize) -> u8 {
     powerlink_new_soc(
         &address(s, A),
         flag(s, 0),
@@ -28,7 +28,7 @@ pub fn soc(s: &[u8], target: &mut [u8], written: &mut usize) -> u8 {
     )
 }
 
-pub fn preq(s: &[u8], target: &mut [u8], written: &mut usize) -> u8 {
+fn preq(s: &[u8], target: &mut [u8], written: &mut usize) -> u8 {
     powerlink_new_preq(
         &address(s, A),
         &address(s, B),
@@ -43,7 +43,7 @@ pub fn preq(s: &[u8], target: &mut [u8], written: &mut usize) -> u8 {
     )
 }
 
-pub fn pres(s: &[u8], target: &mut [u8], written: &mut usize, said: &mut u8) -> u8 {
+fn pres(s: &[u8], target: &mut [u8], written: &mut usize, said: &mut u8) -> u8 {
     powerlink_new_pres(
         &address(s, A),
         octet(s, 0),
@@ -61,7 +61,7 @@ pub fn pres(s: &[u8], target: &mut [u8], written: &mut usize, said: &mut u8) -> 
     )
 }
 
-pub fn soa(s: &[u8], target: &mut [u8], written: &mut usize, said: &mut u8) -> u8 {
+fn soa(s: &[u8], target: &mut [u8], written: &mut usize, said: &mut u8) -> u8 {
     powerlink_new_soa(
         &address(s, A),
         octet(s, 0),
@@ -76,7 +76,7 @@ pub fn soa(s: &[u8], target: &mut [u8], written: &mut usize, said: &mut u8) -> u
     )
 }
 
-pub fn asnd(s: &[u8], target: &mut [u8], written: &mut usize, said: &mut u8) -> u8 {
+fn asnd(s: &[u8], target: &mut [u8], written: &mut usize, said: &mut u8) -> u8 {
     powerlink_new_asnd(
         &address(s, A),
         &address(s, B),
@@ -88,4 +88,15 @@ pub fn asnd(s: &[u8], target: &mut [u8], written: &mut usize, said: &mut u8) -> 
         written,
         said,
     )
+}
+
+// Calls 18 to 22.
+pub fn write(n: u8, s: &[u8], target: &mut [u8], written: &mut usize, said: &mut u8) -> u8 {
+    match n {
+        18 => soc(s, target, written),
+        19 => preq(s, target, written),
+        20 => pres(s, target, written, said),
+        21 => soa(s, target, written, said),
+        _ => asnd(s, target, written, said),
+    }
 }

@@ -83,14 +83,9 @@ fn more(cases: u64) {
 }
 
 fn end(cases: u64, differ: u64) {
-    if 0 < differ {
-        number(b"", differ);
-        number(b" of ", cases);
-        say(b" cases differ\n");
-    } else {
-        number(b"", cases);
-        say(b" cases agree\n");
-    }
+    number(b"", cases);
+    number(b" cases, ", differ);
+    say(b" differ\n");
 }
 
 fn all(text: &[u8], cases: u64) {

@@ -15,15 +15,15 @@ use powerlink::status::powerlink_serialize_entry;
 use powerlink::status::powerlink_serialize_error_field;
 use powerlink::status::powerlink_serialize_status;
 
-pub fn eth_header(s: &[u8], target: &mut [u8], written: &mut usize) -> u8 {
+fn eth_header(s: &[u8], target: &mut [u8], written: &mut usize) -> u8 {
     powerlink_serialize_eth_header(&address(s, A), &address(s, B), half(s, 0), target, written)
 }
 
-pub fn pl_header(s: &[u8], target: &mut [u8], written: &mut usize, said: &mut u8) -> u8 {
+fn pl_header(s: &[u8], target: &mut [u8], written: &mut usize, said: &mut u8) -> u8 {
     powerlink_serialize_pl_header(octet(s, 0), octet(s, 1), octet(s, 2), target, written, said)
 }
 
-pub fn entry(s: &[u8], target: &mut [u8], written: &mut usize) -> u8 {
+fn entry(s: &[u8], target: &mut [u8], written: &mut usize) -> u8 {
     powerlink_serialize_entry(
         flag(s, 0),
         flag(s, 1),
@@ -38,12 +38,12 @@ pub fn entry(s: &[u8], target: &mut [u8], written: &mut usize) -> u8 {
     )
 }
 
-pub fn error_field(s: &[u8], target: &mut [u8], written: &mut usize) -> u8 {
+fn error_field(s: &[u8], target: &mut [u8], written: &mut usize) -> u8 {
     powerlink_serialize_error_field(&field(s, A), target, written)
 }
 
 // B are the entries, 20 octets each.
-pub fn status(s: &[u8], target: &mut [u8], written: &mut usize, said: &mut u8) -> u8 {
+fn status(s: &[u8], target: &mut [u8], written: &mut usize, said: &mut u8) -> u8 {
     powerlink_serialize_status(
         flag(s, 0),
         flag(s, 1),
@@ -56,4 +56,15 @@ pub fn status(s: &[u8], target: &mut [u8], written: &mut usize, said: &mut u8) -
         written,
         said,
     )
+}
+
+// Calls 13 to 17.
+pub fn write(n: u8, s: &[u8], target: &mut [u8], written: &mut usize, said: &mut u8) -> u8 {
+    match n {
+        13 => eth_header(s, target, written),
+        14 => pl_header(s, target, written, said),
+        15 => entry(s, target, written),
+        16 => error_field(s, target, written),
+        _ => status(s, target, written, said),
+    }
 }

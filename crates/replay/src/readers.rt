@@ -6,10 +6,8 @@ use crate::record::fill;
 use crate::record::long;
 use crate::record::many;
 use crate::record::part;
-use octets::big_endian::u16_be;
 use octets::little_endian::u64_le;
 use octets::slices::front;
-use octets::slices::put;
 use powerlink::headers::powerlink_deserialize_eth_header;
 use powerlink::headers::powerlink_deserialize_pl_header;
 use powerlink::reading::powerlink_deserialize_frame;
@@ -17,6 +15,8 @@ use powerlink::status::powerlink_deserialize_entry;
 use powerlink::status::powerlink_deserialize_error_field;
 use powerlink::status::powerlink_deserialize_status;
 use powerlink::status::powerlink_entry_step;
+use types::basic::EthernetHeader;
+use types::basic::MacAddress;
 
 // An array is judged whole: its type says its length.
 fn judge_16(s: &[u8], cause: u8, octet: u8, values: &[u64; 16]) -> Verdict {
@@ -51,15 +51,7 @@ fn frame(s: &[u8]) -> Verdict {
     judge_16(s, cause, octet, &values)
 }
 
-// The octets of a header, as a frame has them.
-fn header(destination: &[u8; 6], source: &[u8; 6], ether_type: u16) -> [u8; 14] {
-    let mut octets = [0u8; 14];
-    put(&mut octets, 0, destination);
-    put(&mut octets, 6, source);
-    put(&mut octets, 12, &u16_be(ether_type));
-    octets
-}
-
+// The octets that come out are those of the header, as a frame has them.
 fn eth_header(s: &[u8]) -> Verdict {
     let b = fill(s);
     let mut destination = [b; 6];
@@ -71,7 +63,12 @@ fn eth_header(s: &[u8]) -> Verdict {
         &mut source,
         &mut ether_type,
     );
-    judge_octets(s, cause, &header(&destination, &source, ether_type))
+    let header = EthernetHeader {
+        destination_mac: MacAddress(destination),
+        source_mac: MacAddress(source),
+        ether_type,
+    };
+    judge_octets(s, cause, &header.to_bytes())
 }
 
 fn pl_header(s: &[u8]) -> Verdict {

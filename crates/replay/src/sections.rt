@@ -12,7 +12,7 @@ use powerlink::writing::powerlink_serialize_pres;
 use powerlink::writing::powerlink_serialize_soa;
 use powerlink::writing::powerlink_serialize_soc;
 
-pub fn soc(s: &[u8], target: &mut [u8], written: &mut usize) -> u8 {
+fn soc(s: &[u8], target: &mut [u8], written: &mut usize) -> u8 {
     powerlink_serialize_soc(
         octet(s, 0),
         octet(s, 1),
@@ -26,7 +26,7 @@ pub fn soc(s: &[u8], target: &mut [u8], written: &mut usize) -> u8 {
     )
 }
 
-pub fn preq(s: &[u8], target: &mut [u8], written: &mut usize) -> u8 {
+fn preq(s: &[u8], target: &mut [u8], written: &mut usize) -> u8 {
     powerlink_serialize_preq(
         octet(s, 0),
         octet(s, 1),
@@ -41,7 +41,7 @@ pub fn preq(s: &[u8], target: &mut [u8], written: &mut usize) -> u8 {
     )
 }
 
-pub fn pres(s: &[u8], target: &mut [u8], written: &mut usize, said: &mut u8) -> u8 {
+fn pres(s: &[u8], target: &mut [u8], written: &mut usize, said: &mut u8) -> u8 {
     powerlink_serialize_pres(
         octet(s, 0),
         octet(s, 1),
@@ -60,7 +60,7 @@ pub fn pres(s: &[u8], target: &mut [u8], written: &mut usize, said: &mut u8) -> 
     )
 }
 
-pub fn soa(s: &[u8], target: &mut [u8], written: &mut usize, said: &mut u8) -> u8 {
+fn soa(s: &[u8], target: &mut [u8], written: &mut usize, said: &mut u8) -> u8 {
     powerlink_serialize_soa(
         octet(s, 0),
         octet(s, 1),
@@ -76,7 +76,7 @@ pub fn soa(s: &[u8], target: &mut [u8], written: &mut usize, said: &mut u8) -> u
     )
 }
 
-pub fn asnd(s: &[u8], target: &mut [u8], written: &mut usize, said: &mut u8) -> u8 {
+fn asnd(s: &[u8], target: &mut [u8], written: &mut usize, said: &mut u8) -> u8 {
     powerlink_serialize_asnd(
         octet(s, 0),
         octet(s, 1),
@@ -86,4 +86,15 @@ pub fn asnd(s: &[u8], target: &mut [u8], written: &mut usize, said: &mut u8) -> 
         written,
         said,
     )
+}
+
+// Calls 8 to 12.
+pub fn write(n: u8, s: &[u8], target: &mut [u8], written: &mut usize, said: &mut u8) -> u8 {
+    match n {
+        8 => soc(s, target, written),
+        9 => preq(s, target, written),
+        10 => pres(s, target, written, said),
+        11 => soa(s, target, written, said),
+        _ => asnd(s, target, written, said),
+    }
 }

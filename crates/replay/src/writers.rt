@@ -22,21 +22,9 @@ fn target_in(space: &mut [u8], len: usize) -> &mut [u8] {
 
 fn call(n: u8, s: &[u8], target: &mut [u8], written: &mut usize, said: &mut u8) -> u8 {
     match n {
-        8 => sections::soc(s, target, written),
-        9 => sections::preq(s, target, written),
-        10 => sections::pres(s, target, written, said),
-        11 => sections::soa(s, target, written, said),
-        12 => sections::asnd(s, target, written, said),
-        13 => parts::eth_header(s, target, written),
-        14 => parts::pl_header(s, target, written, said),
-        15 => parts::entry(s, target, written),
-        16 => parts::error_field(s, target, written),
-        17 => parts::status(s, target, written, said),
-        18 => frames::soc(s, target, written),
-        19 => frames::preq(s, target, written),
-        20 => frames::pres(s, target, written, said),
-        21 => frames::soa(s, target, written, said),
-        _ => frames::asnd(s, target, written, said),
+        8..=12 => sections::write(n, s, target, written, said),
+        13..=17 => parts::write(n, s, target, written, said),
+        _ => frames::write(n, s, target, written, said),
     }
 }
 

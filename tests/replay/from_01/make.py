@@ -122,17 +122,17 @@ def reading(line):
     call = next((n for start, n in (("eth", 2), ("pl", 3), ("status", 4)) if name.startswith(start)), 1)
     if refusal(result):
         return [read(call, refusal(result), source)]
-    words = result.split()
-    if call == 1:
-        return read_frame(source, result)
-    if call == 2:
-        assert words[0::2] == ["eth", "src", "type"][:0] or words[0] == "eth"
-        given = dict(zip(words[1::2], words[2::2]))
-        return [read(2, [0], source, [], bytes.fromhex(given["dst"] + given["src"] + given["type"]))]
-    if call == 3:
-        given = dict(zip(words[1::2], words[2::2]))
-        return [read(3, [0], source, [int(given["type"]), int(given["dst"]), int(given["src"])])]
-    return read_status(source, result)
+    kind, *words = result.split()
+    given = dict(zip(words[::2], words[1::2]))
+    match kind:
+        case "eth":
+            return [read(call, [0], source, [], bytes.fromhex(given["dst"] + given["src"] + given["type"]))]
+        case "pl":
+            return [read(call, [0], source, [int(given[name]) for name in ("type", "dst", "src")])]
+        case "status":
+            return read_status(source, result)
+        case _:
+            return read_frame(source, result)
 
 
 def writing(line, samples):
@@ -142,7 +142,8 @@ def writing(line, samples):
     given = given | dict(zip(words[::2], words[1::2]))
     code, names, parts = WRITERS[call]
     payload = bytes(1 + i % 251 for i in range(int(given.get("payload", 0))))
-    lent = {"payload": payload, "entries": samples["batch"][: 20 * int(given.get("entries", 0))]} if "batch" in samples else {"payload": payload}
+    entries = samples.get("batch", b"")[: 20 * int(given.get("entries", 0))]
+    lent = {"payload": payload, "entries": entries}
     given.setdefault("size", str(len(payload)))
     numbers = [number(name, given[name]) for name in names.split()]
     parts = [lent[p] if p in lent else bytes.fromhex(given[p]) for p in parts.split()]

@@ -1,4 +1,4 @@
--- `list` is safe and ends: the octet is at most 256 at the loop's head, and what is left of the 256 falls.
+-- `list` is safe and ends: what is left of the 256 octets falls.
 -- Assumes nothing.
 use Prim.Native.Nat.{_-_, _≤_}
 use borrow.Author.Needs.{needs}
@@ -6,10 +6,10 @@ use Rattle.codes.proofs.list.Statement.{statement}
 use Rattle.codes.proofs.list.Tie as tie
 
 abbrev Inv-loop : tie.InvT-loop
-Inv-loop name table b₀ t4 b = b ≤ 256
+Inv-loop names table b₀ b = b ≤ 256
 
 abbrev μ-loop : tie.MeasureT-loop
-μ-loop name table b₀ t4 b = 256 - b
+μ-loop names table b₀ b = 256 - b
 
 pub list-spec : {M : Type 1} → statement M
 list-spec =
@@ -17,6 +17,7 @@ list-spec =
     (tie.spec
     Inv-loop
     μ-loop
+    (search needs)
     (search needs)
     (search needs)
     (search needs)

@@ -9,7 +9,7 @@ returns : tie.Need-returns
 returns c =
     let t = c .before .before in
     let a = t .before .before .before .args in
-    value-there (a .s .now) (a .i) _ _ (t .before .byte-at .ensures) (t .if1 .taken) (cc)
+    value-there (a .s .now) (a .i) _ _ _ (t .before .byte-at .ensures) (t .if1 .taken) (c .before .byte-at2 .ensures) (c .get-u64-le .ensures)
 
 returns-2 : tie.Need-returns-2
 returns-2 c =

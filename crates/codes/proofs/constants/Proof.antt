@@ -1,24 +1,22 @@
--- `lines` is safe and ends: the place stays within the text, and what is left of the text falls.
+-- `constants` is safe and ends: what is left of the four falls.
 -- Assumes nothing.
 use Prim.Native.Nat.{_-_, _≤_}
-use lib.ListN.{length}
 use borrow.Author.Needs.{needs}
-use Rattle.decode.proofs.lines.Statement.{statement}
-use Rattle.decode.proofs.lines.Tie as tie
+use Rattle.codes.proofs.constants.Statement.{statement}
+use Rattle.codes.proofs.constants.Tie as tie
 
 abbrev Inv-loop : tie.InvT-loop
-Inv-loop text at₀ at = at ≤ length text
+Inv-loop names k₀ t3 k = k ≤ 4
 
 abbrev μ-loop : tie.MeasureT-loop
-μ-loop text at₀ at = length text - at
+μ-loop names k₀ t3 k = 4 - k
 
-pub lines-spec : {M : Type 1} → statement M
-lines-spec =
+pub constants-spec : {M : Type 1} → statement M
+constants-spec =
     tie.close
     (tie.spec
     Inv-loop
     μ-loop
-    (search needs)
     (search needs)
     (search needs)
     (search needs)

@@ -1,0 +1,64 @@
+// A StatusResponse that was read, written again with a count of five entries: a batch has four, so these are written.
+use crate::print::end;
+use crate::print::number;
+use crate::print::octets;
+use crate::print::say;
+use error_entry::entry_at;
+use octets::slices::tail;
+use section::WriteAnswer;
+use status_response::entries::serialize_batch;
+use status_response::fields::StatusAnswer;
+use status_response::fields::deserialize;
+
+const SPACE: usize = 160;
+
+// Every octet of a target before the call.
+const FILL: u8 = 0xFC;
+
+// The first `len` octets of `space`, or all where it has fewer.
+fn target_in(space: &mut [u8], len: usize) -> &mut [u8] {
+    if len <= space.len() {
+        &mut space[..len]
+    } else {
+        &mut space[..]
+    }
+}
+
+fn outcome(answer: WriteAnswer, target: &[u8]) {
+    number(b"batch of 5, target ", target.len() as u64);
+    match answer {
+        WriteAnswer::Refused(e) => number(b": refused ", e.number() as u64),
+        WriteAnswer::Written(n) => number(b": written ", n as u64),
+    }
+    say(b", target");
+    octets(target);
+    end();
+}
+
+fn write(payload: &[u8], len: usize) {
+    let read = deserialize(payload);
+    let field = read.static_error_bit_field;
+    let answer = read.answer;
+    let StatusAnswer::Status(fields) = answer else {
+        return;
+    };
+    let batch = [
+        entry_at(tail(payload, 14)),
+        entry_at(tail(payload, 34)),
+        entry_at(tail(payload, 54)),
+        entry_at(tail(payload, 74)),
+    ];
+    let mut space = [FILL; SPACE];
+    let target = target_in(&mut space, len);
+    outcome(serialize_batch(fields, field, batch, 5, target), target);
+}
+
+pub fn all() {
+    let payload =
+        b"\x20\x37\xFD\x00\x00\x00\xA1\xB1\xB2\xB3\xB4\xB5\xB6\xB7\xFF\x9F\x78\x56\x01\x02\x03\x04\x05\x06\x07\x08\x09\x0A\x0B\x0C\x0D\x0E\x0F\x10\x01\x70\x01\x00\x02\x00\x00\x00\x03\x00\x00\x00\x04\x00\x00\x00\x00\x00\x00\x00\x05\x00\x06\x00\x07\x00\x00\x00\x08\x00\x00\x00\x09\x00\x00\x00\x00\x00\x00\x00\x23\xE1\xFF\xFE\xFF\xFF\xFF\xFF\x00\x00\x00\x00\xFF\xFF\xFF\xFF\xFF\xFF\xFF\xFF";
+    write(payload, 0);
+    write(payload, 14);
+    write(payload, 113);
+    write(payload, 114);
+    write(payload, 115);
+}
