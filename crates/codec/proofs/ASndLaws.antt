@@ -12,7 +12,6 @@ use Rattle.types.specs.declared.service.ServiceId.{ServiceId}
 use Rattle.types.specs.declared.service.ServiceIdAnswer.{ServiceIdAnswer}
 use Rattle.types.specs.declared.service.ServiceIdAnswer.the-variants.{Known, Unknown}
 use Rattle.codec.specs.ASnd.{asndOf, readASnd}
-use Rattle.codec.specs.Verdicts.{Whole}
 use Rattle.codec.specs.declared.FrameAnswer.the-variants.{Frame, Refused}
 use Rattle.frame.specs.declared.PowerlinkFrame.the-variants.{ASnd}
 
@@ -26,8 +25,8 @@ module _ (s : List ℕ) where
     unfolding readASnd
     asnd-no-service b g = rw (le-leb 4 (length s) long, sym ea ∙ g)
 
-    pub asnd-read : (service : ServiceId) → a ≡ Known service → Whole 4 s (Frame (ASnd (asndOf s service))) (readASnd s)
+    pub asnd-read : (service : ServiceId) → a ≡ Known service → Frame (ASnd (asndOf s service)) ≡ readASnd s
     unfolding readASnd
-    asnd-read service g = record { enough = long; frame = rw (le-leb 4 (length s) long, sym ea ∙ g) }
+    asnd-read service g = rw (le-leb 4 (length s) long, sym ea ∙ g)
 
 pub ruleset asnd-laws = (needs, asnd-no-service, asnd-read)

@@ -11,7 +11,6 @@ use borrow.Author.Tests.{le-leb, lt-leb}
 use Rattle.octets.specs.Numbers.{leAt}
 use Rattle.types.specs.declared.hal.PowerlinkError.the-variants.{BufferTooShort}
 use Rattle.codec.specs.PReq.{preqOf, readPReq}
-use Rattle.codec.specs.Verdicts.{Whole}
 use Rattle.codec.specs.declared.FrameAnswer.the-variants.{Frame, Refused}
 use Rattle.frame.specs.declared.PowerlinkFrame.the-variants.{PReq}
 
@@ -25,8 +24,8 @@ module _ (s : List ℕ) where
     unfolding readPReq
     preq-cut k = rw (le-leb 10 (length s) long, k)
 
-    pub preq-read : (n : ℕ) → n ≡ leAt 2 8 s → leb (leAt 2 8 s) (length s - 10) ≡ true → Whole 10 s (Frame (PReq (preqOf s n))) (readPReq s)
+    pub preq-read : (n : ℕ) → n ≡ leAt 2 8 s → leb (leAt 2 8 s) (length s - 10) ≡ true → Frame (PReq (preqOf s n)) ≡ readPReq s
     unfolding readPReq
-    preq-read n en k = record { enough = long; frame = rw (le-leb 10 (length s) long, k, en) }
+    preq-read n en k = rw (le-leb 10 (length s) long, k, en)
 
 pub ruleset preq-laws = (needs, preq-cut, preq-read)

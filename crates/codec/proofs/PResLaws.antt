@@ -15,7 +15,6 @@ use Rattle.types.specs.declared.states.NmtState.{NmtState}
 use Rattle.types.specs.declared.states.NmtStateAnswer.{NmtStateAnswer}
 use Rattle.types.specs.declared.states.NmtStateAnswer.the-variants.{Known, Unknown}
 use Rattle.codec.specs.PRes.{presOf, readPRes}
-use Rattle.codec.specs.Verdicts.{Whole}
 use Rattle.codec.specs.declared.FrameAnswer.the-variants.{Frame, Refused}
 use Rattle.frame.specs.declared.PowerlinkFrame.the-variants.{PRes}
 
@@ -39,8 +38,8 @@ module _ (s : List ℕ) where
         unfolding readPRes
         pres-cut k = rw (le-leb 10 (length s) long, eq-eqb (getD s 1 0) 255 to, sym ea ∙ es, k)
 
-        pub pres-read : (n : ℕ) → n ≡ leAt 2 8 s → leb (leAt 2 8 s) (length s - 10) ≡ true → Whole 10 s (Frame (PRes (presOf s state n))) (readPRes s)
+        pub pres-read : (n : ℕ) → n ≡ leAt 2 8 s → leb (leAt 2 8 s) (length s - 10) ≡ true → Frame (PRes (presOf s state n)) ≡ readPRes s
         unfolding readPRes
-        pres-read n en k = record { enough = long; frame = rw (le-leb 10 (length s) long, eq-eqb (getD s 1 0) 255 to, sym ea ∙ es, k, en) }
+        pres-read n en k = rw (le-leb 10 (length s) long, eq-eqb (getD s 1 0) 255 to, sym ea ∙ es, k, en)
 
 pub ruleset pres-laws = (needs, pres-not-to-all, pres-no-state, pres-cut, pres-read)

@@ -16,7 +16,6 @@ use Rattle.types.specs.declared.states.NmtState.{NmtState}
 use Rattle.types.specs.declared.states.NmtStateAnswer.{NmtStateAnswer}
 use Rattle.types.specs.declared.states.NmtStateAnswer.the-variants as state
 use Rattle.codec.specs.SoA.{soaOf, readSoA}
-use Rattle.codec.specs.Verdicts.{Whole}
 use Rattle.codec.specs.declared.FrameAnswer.the-variants.{Frame, Refused}
 use Rattle.frame.specs.declared.PowerlinkFrame.the-variants.{SoA}
 
@@ -35,8 +34,8 @@ module _ (s : List ℕ) where
       unfolding readSoA
       soa-no-service b g = rw (le-leb 9 (length s) long, sym ea ∙ es, sym eq ∙ g)
 
-      pub soa-read : (service : RequestedServiceId) → q ≡ Known service → Whole 9 s (Frame (SoA (soaOf s st service))) (readSoA s)
+      pub soa-read : (service : RequestedServiceId) → q ≡ Known service → Frame (SoA (soaOf s st service)) ≡ readSoA s
       unfolding readSoA
-      soa-read service g = record { enough = long; frame = rw (le-leb 9 (length s) long, sym ea ∙ es, sym eq ∙ g) }
+      soa-read service g = rw (le-leb 9 (length s) long, sym ea ∙ es, sym eq ∙ g)
 
 pub ruleset soa-laws = (needs, soa-no-state, soa-no-service, soa-read)

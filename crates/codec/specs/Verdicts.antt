@@ -1,16 +1,17 @@
 -- What the tests of a frame tell of it: `kind_of` of the whole frame, each kind's `judge` of its section.
 -- Assumes nothing.
-use Prim.Native.Nat.{ℕ, _≤_}
-use mathlib.Core.Path.{_≡_}
+use Prim.Native.Nat.{ℕ}
 use mathlib.Core.List.{List}
-use lib.ListN.{length}
+use Rattle.types.specs.declared.common.NetTime.{NetTime}
+use Rattle.types.specs.declared.common.RelativeTime.{RelativeTime}
 use Rattle.types.specs.declared.hal.PowerlinkError.the-variants.{BufferTooShort, InvalidPlFrame, InvalidNmtState, InvalidServiceId, InvalidRequestedServiceId}
-use Rattle.codec.specs.ASnd.{asndOf, readASnd}
+use Rattle.control.specs.declared.soc.SocFrame.{SocFrame}
+use Rattle.codec.specs.ASnd.{asndOf}
 use Rattle.codec.specs.Frame.{byKind}
-use Rattle.codec.specs.PReq.{preqOf, readPReq}
-use Rattle.codec.specs.PRes.{presOf, readPRes}
-use Rattle.codec.specs.SoA.{soaOf, readSoA}
-use Rattle.codec.specs.SoC.{socOf, readSoC}
+use Rattle.codec.specs.PReq.{preqOf}
+use Rattle.codec.specs.PRes.{presOf}
+use Rattle.codec.specs.SoA.{soaOf}
+use Rattle.codec.specs.SoC.{socOf}
 use Rattle.codec.specs.declared.FrameAnswer.{FrameAnswer}
 use Rattle.codec.specs.declared.FrameAnswer.the-variants.{Frame, Refused}
 use Rattle.codec.specs.declared.KindAnswer.{KindAnswer}
@@ -32,32 +33,39 @@ abbrev pub kindAnswer : KindAnswer → List ℕ → FrameAnswer
 kindAnswer (kind.Kind k) s = byKind k s
 kindAnswer (kind.Refused e) s = Refused e
 
--- the fields of a kind lie in the first n octets of s, and are the frame x, which the rules answer
-pub record Whole (n : ℕ) (s : List ℕ) (x a : FrameAnswer) : Type 0 where
-  pub enough : n ≤ length s
-  pub frame : x ≡ a
+-- a SoC with the times given
+abbrev pub socTimed : List ℕ → NetTime → RelativeTime → SocFrame
+socTimed s net relative =
+    record {
+      destination = socOf s .destination;
+      source = socOf s .source;
+      flags = socOf s .flags;
+      «net_time» = net;
+      «relative_time» = relative;
+    }
 
-abbrev pub SocJudged : List ℕ → SocVerdict → Type 0
-SocJudged s soc.Read = Whole 22 s (Frame (Soc (socOf s))) (readSoC s)
-SocJudged s soc.TooShort = Refused BufferTooShort ≡ readSoC s
+-- and what a section s is, by the verdict of its kind
+abbrev pub socAnswer : SocVerdict → List ℕ → FrameAnswer
+socAnswer (soc.Read net relative) s = Frame (Soc (socTimed s net relative))
+socAnswer soc.TooShort s = Refused BufferTooShort
 
-abbrev pub PReqJudged : List ℕ → PReqVerdict → Type 0
-PReqJudged s (preq.Read n) = Whole 10 s (Frame (PReq (preqOf s n))) (readPReq s)
-PReqJudged s preq.TooShort = Refused BufferTooShort ≡ readPReq s
+abbrev pub preqAnswer : PReqVerdict → List ℕ → FrameAnswer
+preqAnswer (preq.Read n) s = Frame (PReq (preqOf s n))
+preqAnswer preq.TooShort s = Refused BufferTooShort
 
-abbrev pub PResJudged : List ℕ → PResVerdict → Type 0
-PResJudged s (pres.Read st n) = Whole 10 s (Frame (PRes (presOf s st n))) (readPRes s)
-PResJudged s pres.TooShort = Refused BufferTooShort ≡ readPRes s
-PResJudged s pres.NotToAll = Refused InvalidPlFrame ≡ readPRes s
-PResJudged s (pres.NoState b) = Refused (InvalidNmtState b) ≡ readPRes s
+abbrev pub presAnswer : PResVerdict → List ℕ → FrameAnswer
+presAnswer (pres.Read st n) s = Frame (PRes (presOf s st n))
+presAnswer pres.TooShort s = Refused BufferTooShort
+presAnswer pres.NotToAll s = Refused InvalidPlFrame
+presAnswer (pres.NoState b) s = Refused (InvalidNmtState b)
 
-abbrev pub SoAJudged : List ℕ → SoAVerdict → Type 0
-SoAJudged s (soa.Read st service) = Whole 9 s (Frame (SoA (soaOf s st service))) (readSoA s)
-SoAJudged s soa.TooShort = Refused BufferTooShort ≡ readSoA s
-SoAJudged s (soa.NoState b) = Refused (InvalidNmtState b) ≡ readSoA s
-SoAJudged s (soa.NoService b) = Refused (InvalidRequestedServiceId b) ≡ readSoA s
+abbrev pub soaAnswer : SoAVerdict → List ℕ → FrameAnswer
+soaAnswer (soa.Read st service) s = Frame (SoA (soaOf s st service))
+soaAnswer soa.TooShort s = Refused BufferTooShort
+soaAnswer (soa.NoState b) s = Refused (InvalidNmtState b)
+soaAnswer (soa.NoService b) s = Refused (InvalidRequestedServiceId b)
 
-abbrev pub ASndJudged : List ℕ → ASndVerdict → Type 0
-ASndJudged s (asnd.Read service) = Whole 4 s (Frame (ASnd (asndOf s service))) (readASnd s)
-ASndJudged s asnd.TooShort = Refused BufferTooShort ≡ readASnd s
-ASndJudged s (asnd.NoService b) = Refused (InvalidServiceId b) ≡ readASnd s
+abbrev pub asndAnswer : ASndVerdict → List ℕ → FrameAnswer
+asndAnswer (asnd.Read service) s = Frame (ASnd (asndOf s service))
+asndAnswer asnd.TooShort s = Refused BufferTooShort
+asndAnswer (asnd.NoService b) s = Refused (InvalidServiceId b)

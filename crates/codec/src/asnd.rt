@@ -1,12 +1,11 @@
 // The rules of reading ASnd.
 ghost use mathlib.Core.Path.{_≡_};
-ghost use Prim.Native.Nat.{_≤_};
-ghost use lib.ListN.{length};
-ghost use Rattle.codec.specs.Verdicts.{ASndJudged};
+ghost use Rattle.codec.specs.Verdicts.{asndAnswer};
 ghost use Rattle.codec.specs.ASnd.{asndOf, readASnd, asndPayloadLength};
 use crate::FrameAnswer;
 use control::asnd::ASndFrame;
 use frame::PowerlinkFrame;
+use octets::slices::byte_at;
 use octets::slices::tail;
 use octets::slices::trimmed_len;
 use types::NodeId;
@@ -22,7 +21,7 @@ pub enum ASndVerdict {
 }
 
 pub fn judge(s: &[u8]) -> ASndVerdict
-    ensures { λ r. ⌜ ASndJudged (now (s .entry)) r ⌝ }
+    ensures { λ r. ⌜ asndAnswer r (now (s .entry)) ≡ readASnd (now (s .entry)) ⌝ }
 {
     if s.len() < 4 {
         return ASndVerdict::TooShort;
@@ -46,20 +45,19 @@ pub(crate) fn deserialize(s: &[u8]) -> FrameAnswer
     }
 }
 
-// The fields of a section that has passed the tests.
+// The fields of a section; octets past its end count as 0.
 pub fn fields(s: &[u8], service_id: ServiceId) -> ASndFrame
-    requires { ⌜ 4 ≤ length (now s) ⌝ }
     ensures { λ r. ⌜ r ≡ asndOf (now (s .entry)) «service_id» ⌝ }
 {
     ASndFrame {
-        destination: NodeId(s[1]),
-        source: NodeId(s[2]),
+        destination: NodeId(byte_at(s, 1)),
+        source: NodeId(byte_at(s, 2)),
         service_id,
     }
 }
 
 // The length of the payload: a section of the smallest size may be padded, so it loses the zeros at its end.
-pub fn payload_len(s: &[u8]) -> usize
+pub(crate) fn payload_len(s: &[u8]) -> usize
     ensures { λ r. ⌜ r ≡ asndPayloadLength (now (s .entry)) ⌝ }
 {
     let p = tail(s, 4);

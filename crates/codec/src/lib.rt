@@ -2,7 +2,7 @@
 // `kind_of` and then the `judge` of the kind, and `read_frame` and any other reading go by their verdicts.
 ghost use mathlib.Core.Path.{_≡_};
 ghost use lib.ListN.{drop};
-ghost use Rattle.codec.specs.Frame.{readFrame, readSection, byKind, placeOf, payloadOf, Reads};
+ghost use Rattle.codec.specs.Frame.{readFrame, readSection, byKind, placeInFrame, placeOf, payloadOf, Reads};
 ghost use Rattle.codec.specs.Verdicts.{kindAnswer};
 
 pub mod asnd;
@@ -150,27 +150,34 @@ fn read_kind(kind: MessageType, s: &[u8]) -> FrameAnswer
     }
 }
 
-// The payload's place in a frame that was read from the section `s`.
+// The payload's place in what was read from the section `s`.
 fn place_of(answer: FrameAnswer, s: &[u8]) -> PayloadPlace
     ensures { λ r. ⌜ r ≡ placeOf answer (now (s .entry)) ⌝ }
 {
     match answer {
         FrameAnswer::Refused(_) => PayloadPlace { start: 0, len: 0 },
-        FrameAnswer::Frame(frame) => match frame {
-            PowerlinkFrame::Soc(_) => PayloadPlace { start: 0, len: 0 },
-            PowerlinkFrame::SoA(_) => PayloadPlace { start: 0, len: 0 },
-            PowerlinkFrame::PReq(f) => PayloadPlace {
-                start: 24,
-                len: f.payload_size as usize,
-            },
-            PowerlinkFrame::PRes(f) => PayloadPlace {
-                start: 24,
-                len: f.payload_size as usize,
-            },
-            PowerlinkFrame::ASnd(_) => PayloadPlace {
-                start: 18,
-                len: asnd::payload_len(s),
-            },
+        FrameAnswer::Frame(frame) => payload_place(frame, s),
+    }
+}
+
+// The payload's place in a frame with the section `s`, counted from the Ethernet header on.
+pub fn payload_place(frame: PowerlinkFrame, s: &[u8]) -> PayloadPlace
+    ensures { λ r. ⌜ r ≡ placeInFrame frame (now (s .entry)) ⌝ }
+{
+    match frame {
+        PowerlinkFrame::Soc(_) => PayloadPlace { start: 0, len: 0 },
+        PowerlinkFrame::SoA(_) => PayloadPlace { start: 0, len: 0 },
+        PowerlinkFrame::PReq(f) => PayloadPlace {
+            start: 24,
+            len: f.payload_size as usize,
+        },
+        PowerlinkFrame::PRes(f) => PayloadPlace {
+            start: 24,
+            len: f.payload_size as usize,
+        },
+        PowerlinkFrame::ASnd(_) => PayloadPlace {
+            start: 18,
+            len: asnd::payload_len(s),
         },
     }
 }

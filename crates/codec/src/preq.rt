@@ -1,12 +1,11 @@
 // The rules of reading PReq.
 ghost use mathlib.Core.Path.{_≡_};
-ghost use Prim.Native.Nat.{_≤_};
-ghost use lib.ListN.{length};
-ghost use Rattle.codec.specs.Verdicts.{PReqJudged};
+ghost use Rattle.codec.specs.Verdicts.{preqAnswer};
 ghost use Rattle.codec.specs.PReq.{preqOf, readPReq};
 use crate::FrameAnswer;
 use frame::PowerlinkFrame;
 use octets::little_endian::get_u16_le;
+use octets::slices::byte_at;
 use poll::preq::PReqFlags;
 use poll::preq::PReqFrame;
 use types::NodeId;
@@ -20,7 +19,7 @@ pub enum PReqVerdict {
 }
 
 pub fn judge(s: &[u8]) -> PReqVerdict
-    ensures { λ r. ⌜ PReqJudged (now (s .entry)) r ⌝ }
+    ensures { λ r. ⌜ preqAnswer r (now (s .entry)) ≡ readPReq (now (s .entry)) ⌝ }
 {
     if s.len() < 10 {
         return PReqVerdict::TooShort;
@@ -43,20 +42,20 @@ pub(crate) fn deserialize(s: &[u8]) -> FrameAnswer
     }
 }
 
-// The fields of a section that has passed the tests.
+// The fields of a section; octets past its end count as 0.
 pub fn fields(s: &[u8], payload_size: u16) -> PReqFrame
-    requires { ⌜ 10 ≤ length (now s) ⌝ }
     ensures { λ r. ⌜ r ≡ preqOf (now (s .entry)) «payload_size» ⌝ }
 {
+    let flags = byte_at(s, 4);
     PReqFrame {
-        destination: NodeId(s[1]),
-        source: NodeId(s[2]),
+        destination: NodeId(byte_at(s, 1)),
+        source: NodeId(byte_at(s, 2)),
         flags: PReqFlags {
-            ms: s[4] / 0x20 % 2 == 1,
-            ea: s[4] / 4 % 2 == 1,
-            rd: s[4] % 2 == 1,
+            ms: flags / 0x20 % 2 == 1,
+            ea: flags / 4 % 2 == 1,
+            rd: flags % 2 == 1,
         },
-        pdo_version: PDOVersion(s[6]),
+        pdo_version: PDOVersion(byte_at(s, 6)),
         payload_size,
     }
 }

@@ -1,12 +1,11 @@
 // The rules of reading PRes.
 ghost use mathlib.Core.Path.{_≡_};
-ghost use Prim.Native.Nat.{_≤_};
-ghost use lib.ListN.{length};
-ghost use Rattle.codec.specs.Verdicts.{PResJudged};
+ghost use Rattle.codec.specs.Verdicts.{presAnswer};
 ghost use Rattle.codec.specs.PRes.{presOf, presFlags, readPRes};
 use crate::FrameAnswer;
 use frame::PowerlinkFrame;
 use octets::little_endian::get_u16_le;
+use octets::slices::byte_at;
 use poll::pres::PResFlags;
 use poll::pres::PResFrame;
 use types::C_ADR_BROADCAST_NODE_ID;
@@ -27,7 +26,7 @@ pub enum PResVerdict {
 }
 
 pub fn judge(s: &[u8]) -> PResVerdict
-    ensures { λ r. ⌜ PResJudged (now (s .entry)) r ⌝ }
+    ensures { λ r. ⌜ presAnswer r (now (s .entry)) ≡ readPRes (now (s .entry)) ⌝ }
 {
     if s.len() < 10 {
         return PResVerdict::TooShort;
@@ -62,17 +61,16 @@ pub(crate) fn deserialize(s: &[u8]) -> FrameAnswer
     }
 }
 
-// The fields of a section that has passed the tests.
+// The fields of a section; octets past its end count as 0.
 pub fn fields(s: &[u8], nmt_state: NmtState, payload_size: u16) -> PResFrame
-    requires { ⌜ 10 ≤ length (now s) ⌝ }
     ensures { λ r. ⌜ r ≡ presOf (now (s .entry)) «nmt_state» «payload_size» ⌝ }
 {
     PResFrame {
-        destination: NodeId(s[1]),
-        source: NodeId(s[2]),
+        destination: NodeId(byte_at(s, 1)),
+        source: NodeId(byte_at(s, 2)),
         nmt_state,
-        flags: flags_of(s[4], s[5]),
-        pdo_version: PDOVersion(s[6]),
+        flags: flags_of(byte_at(s, 4), byte_at(s, 5)),
+        pdo_version: PDOVersion(byte_at(s, 6)),
         payload_size,
     }
 }

@@ -1,13 +1,12 @@
 // The rules of reading SoA.
 ghost use mathlib.Core.Path.{_≡_};
-ghost use Prim.Native.Nat.{_≤_};
-ghost use lib.ListN.{length};
-ghost use Rattle.codec.specs.Verdicts.{SoAJudged};
+ghost use Rattle.codec.specs.Verdicts.{soaAnswer};
 ghost use Rattle.codec.specs.SoA.{soaOf, readSoA};
 use crate::FrameAnswer;
 use control::soa::SoAFlags;
 use control::soa::SoAFrame;
 use frame::PowerlinkFrame;
+use octets::slices::byte_at;
 use types::EPLVersion;
 use types::NodeId;
 use types::hal::PowerlinkError;
@@ -25,7 +24,7 @@ pub enum SoAVerdict {
 }
 
 pub fn judge(s: &[u8]) -> SoAVerdict
-    ensures { λ r. ⌜ SoAJudged (now (s .entry)) r ⌝ }
+    ensures { λ r. ⌜ soaAnswer r (now (s .entry)) ≡ readSoA (now (s .entry)) ⌝ }
 {
     if s.len() < 9 {
         return SoAVerdict::TooShort;
@@ -55,21 +54,21 @@ pub(crate) fn deserialize(s: &[u8]) -> FrameAnswer
     }
 }
 
-// The fields of a section that has passed the tests.
+// The fields of a section; octets past its end count as 0.
 pub fn fields(s: &[u8], nmt_state: NmtState, req_service_id: RequestedServiceId) -> SoAFrame
-    requires { ⌜ 9 ≤ length (now s) ⌝ }
     ensures { λ r. ⌜ r ≡ soaOf (now (s .entry)) «nmt_state» «req_service_id» ⌝ }
 {
+    let flags = byte_at(s, 4);
     SoAFrame {
-        destination: NodeId(s[1]),
-        source: NodeId(s[2]),
+        destination: NodeId(byte_at(s, 1)),
+        source: NodeId(byte_at(s, 2)),
         nmt_state,
         flags: SoAFlags {
-            ea: s[4] / 4 % 2 == 1,
-            er: s[4] / 2 % 2 == 1,
+            ea: flags / 4 % 2 == 1,
+            er: flags / 2 % 2 == 1,
         },
         req_service_id,
-        target_node_id: NodeId(s[7]),
-        epl_version: EPLVersion(s[8]),
+        target_node_id: NodeId(byte_at(s, 7)),
+        epl_version: EPLVersion(byte_at(s, 8)),
     }
 }

@@ -1,33 +1,36 @@
 // The rules of reading SoC.
 ghost use mathlib.Core.Path.{_≡_};
-ghost use Prim.Native.Nat.{_≤_};
-ghost use lib.ListN.{length};
-ghost use Rattle.codec.specs.Verdicts.{SocJudged};
-ghost use Rattle.codec.specs.SoC.{socOf, readSoC};
+ghost use Rattle.codec.specs.Verdicts.{socAnswer, socTimed};
+ghost use Rattle.codec.specs.SoC.{readSoC};
 use crate::FrameAnswer;
 use control::soc::SocFlags;
 use control::soc::SocFrame;
 use frame::PowerlinkFrame;
 use octets::little_endian::get_u32_le;
 use octets::little_endian::get_u64_le;
+use octets::slices::byte_at;
 use types::NodeId;
 use types::common::NetTime;
 use types::common::RelativeTime;
 use types::hal::PowerlinkError;
 
-// What the tests of a section come to: the codes and the size that its fields are read with, or why it is refused.
+// What the tests of a section come to: its times, which are read where its length is known, or why it is refused.
 pub enum SocVerdict {
-    Read,
+    Read(NetTime, RelativeTime),
     TooShort,
 }
 
 pub fn judge(s: &[u8]) -> SocVerdict
-    ensures { λ r. ⌜ SocJudged (now (s .entry)) r ⌝ }
+    ensures { λ r. ⌜ socAnswer r (now (s .entry)) ≡ readSoC (now (s .entry)) ⌝ }
 {
     if s.len() < 22 {
         return SocVerdict::TooShort;
     }
-    SocVerdict::Read
+    let net_time = NetTime {
+        seconds: get_u32_le(&s[6..10], 0),
+        nanoseconds: get_u32_le(&s[10..14], 0),
+    };
+    SocVerdict::Read(net_time, RelativeTime(get_u64_le(&s[14..22], 0)))
 }
 
 // The frame, or why it is refused.
@@ -35,27 +38,26 @@ pub(crate) fn deserialize(s: &[u8]) -> FrameAnswer
     ensures { λ r. ⌜ r ≡ readSoC (now (s .entry)) ⌝ }
 {
     match judge(s) {
-        SocVerdict::Read => FrameAnswer::Frame(PowerlinkFrame::Soc(fields(s))),
+        SocVerdict::Read(net_time, relative_time) => {
+            FrameAnswer::Frame(PowerlinkFrame::Soc(fields(s, net_time, relative_time)))
+        }
         SocVerdict::TooShort => FrameAnswer::Refused(PowerlinkError::BufferTooShort),
     }
 }
 
-// The fields of a section that has passed the tests. A part of known length is read with no further test.
-pub fn fields(s: &[u8]) -> SocFrame
-    requires { ⌜ 22 ≤ length (now s) ⌝ }
-    ensures { λ r. ⌜ r ≡ socOf (now (s .entry)) ⌝ }
+// The fields of a section; octets past its end count as 0.
+pub fn fields(s: &[u8], net_time: NetTime, relative_time: RelativeTime) -> SocFrame
+    ensures { λ r. ⌜ r ≡ socTimed (now (s .entry)) «net_time» «relative_time» ⌝ }
 {
+    let flags = byte_at(s, 4);
     SocFrame {
-        destination: NodeId(s[1]),
-        source: NodeId(s[2]),
+        destination: NodeId(byte_at(s, 1)),
+        source: NodeId(byte_at(s, 2)),
         flags: SocFlags {
-            mc: s[4] / 0x80 % 2 == 1,
-            ps: s[4] / 0x40 % 2 == 1,
+            mc: flags / 0x80 % 2 == 1,
+            ps: flags / 0x40 % 2 == 1,
         },
-        net_time: NetTime {
-            seconds: get_u32_le(&s[6..10], 0),
-            nanoseconds: get_u32_le(&s[10..14], 0),
-        },
-        relative_time: RelativeTime(get_u64_le(&s[14..22], 0)),
+        net_time,
+        relative_time,
     }
 }

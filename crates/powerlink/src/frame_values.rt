@@ -1,7 +1,7 @@
 // The numbers of each kind of frame, in the order in which include/powerlink.h names them.
 ghost use mathlib.Core.Path.{_≡_};
-ghost use Rattle.codec.specs.Frame.{place};
 ghost use Rattle.numbers.specs.Values.{asNumber, socNumbers, preqNumbers, presNumbers, soaNumbers, asndNumbers};
+use codec::PayloadPlace;
 use control::asnd::ASndFrame;
 use control::soa::SoAFrame;
 use control::soc::SocFrame;
@@ -14,15 +14,15 @@ fn number(on: bool) -> u64
     if on { 1 } else { 0 }
 }
 
-pub(crate) fn soc_values(f: SocFrame) -> [u64; 16]
-    ensures { λ r. ⌜ r ≡ socNumbers f (place 0 0) ⌝ }
+pub(crate) fn soc_values(f: SocFrame, place: PayloadPlace) -> [u64; 16]
+    ensures { λ r. ⌜ r ≡ socNumbers f place ⌝ }
 {
     [
         1,
         f.destination.0 as u64,
         f.source.0 as u64,
-        0,
-        0,
+        place.start as u64,
+        place.len as u64,
         number(f.flags.mc),
         number(f.flags.ps),
         f.net_time.seconds as u64,
@@ -37,15 +37,15 @@ pub(crate) fn soc_values(f: SocFrame) -> [u64; 16]
     ]
 }
 
-pub(crate) fn preq_values(f: PReqFrame) -> [u64; 16]
-    ensures { λ r. ⌜ r ≡ preqNumbers f (place 24 (f .«payload_size»)) ⌝ }
+pub(crate) fn preq_values(f: PReqFrame, place: PayloadPlace) -> [u64; 16]
+    ensures { λ r. ⌜ r ≡ preqNumbers f place ⌝ }
 {
     [
         3,
         f.destination.0 as u64,
         f.source.0 as u64,
-        24,
-        f.payload_size as u64,
+        place.start as u64,
+        place.len as u64,
         number(f.flags.ms),
         number(f.flags.ea),
         number(f.flags.rd),
@@ -60,8 +60,8 @@ pub(crate) fn preq_values(f: PReqFrame) -> [u64; 16]
     ]
 }
 
-pub(crate) fn pres_values(f: PResFrame) -> [u64; 16]
-    ensures { λ r. ⌜ r ≡ presNumbers f (place 24 (f .«payload_size»)) ⌝ }
+pub(crate) fn pres_values(f: PResFrame, place: PayloadPlace) -> [u64; 16]
+    ensures { λ r. ⌜ r ≡ presNumbers f place ⌝ }
 {
     let state = f.nmt_state;
     let flags = f.flags;
@@ -70,8 +70,8 @@ pub(crate) fn pres_values(f: PResFrame) -> [u64; 16]
         4,
         f.destination.0 as u64,
         f.source.0 as u64,
-        24,
-        f.payload_size as u64,
+        place.start as u64,
+        place.len as u64,
         number(f.flags.ms),
         number(f.flags.en),
         number(f.flags.rd),
@@ -86,8 +86,8 @@ pub(crate) fn pres_values(f: PResFrame) -> [u64; 16]
     ]
 }
 
-pub(crate) fn soa_values(f: SoAFrame) -> [u64; 16]
-    ensures { λ r. ⌜ r ≡ soaNumbers f (place 0 0) ⌝ }
+pub(crate) fn soa_values(f: SoAFrame, place: PayloadPlace) -> [u64; 16]
+    ensures { λ r. ⌜ r ≡ soaNumbers f place ⌝ }
 {
     let state = f.nmt_state;
     let service = f.req_service_id;
@@ -95,8 +95,8 @@ pub(crate) fn soa_values(f: SoAFrame) -> [u64; 16]
         5,
         f.destination.0 as u64,
         f.source.0 as u64,
-        0,
-        0,
+        place.start as u64,
+        place.len as u64,
         number(f.flags.ea),
         number(f.flags.er),
         service.to_u8() as u64,
@@ -111,16 +111,16 @@ pub(crate) fn soa_values(f: SoAFrame) -> [u64; 16]
     ]
 }
 
-pub(crate) fn asnd_values(f: ASndFrame, payload_len: usize) -> [u64; 16]
-    ensures { λ r. ⌜ r ≡ asndNumbers f (place 18 «payload_len») ⌝ }
+pub(crate) fn asnd_values(f: ASndFrame, place: PayloadPlace) -> [u64; 16]
+    ensures { λ r. ⌜ r ≡ asndNumbers f place ⌝ }
 {
     let service = f.service_id;
     [
         6,
         f.destination.0 as u64,
         f.source.0 as u64,
-        18,
-        payload_len as u64,
+        place.start as u64,
+        place.len as u64,
         service.to_u8() as u64,
         0,
         0,

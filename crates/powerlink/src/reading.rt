@@ -14,10 +14,12 @@ use crate::frame_values::soc_values;
 use codec::KindAnswer;
 use codec::asnd::ASndVerdict;
 use codec::kind_of;
+use codec::payload_place;
 use codec::preq::PReqVerdict;
 use codec::pres::PResVerdict;
 use codec::soa::SoAVerdict;
 use codec::soc::SocVerdict;
+use frame::PowerlinkFrame;
 use numbers::answers::refusal;
 use octets::slices::tail;
 use types::hal::PowerlinkError;
@@ -55,8 +57,9 @@ fn read_soc(s: &[u8], values: &mut [u64; 16], octet: &mut u8) -> u8
     ensures { λ r. ⌜ SectionRead (readSoC (now (s .entry))) (now (s .entry)) r (now (values .entry)) (now (values .exit)) (now (octet .entry)) (now (octet .exit)) ⌝ }
 {
     match codec::soc::judge(s) {
-        SocVerdict::Read => {
-            *values = soc_values(codec::soc::fields(s));
+        SocVerdict::Read(net_time, relative_time) => {
+            let f = codec::soc::fields(s, net_time, relative_time);
+            *values = soc_values(f, payload_place(PowerlinkFrame::Soc(f), s));
             0
         }
         SocVerdict::TooShort => refusal(PowerlinkError::BufferTooShort, octet),
@@ -68,7 +71,8 @@ fn read_preq(s: &[u8], values: &mut [u64; 16], octet: &mut u8) -> u8
 {
     match codec::preq::judge(s) {
         PReqVerdict::Read(size) => {
-            *values = preq_values(codec::preq::fields(s, size));
+            let f = codec::preq::fields(s, size);
+            *values = preq_values(f, payload_place(PowerlinkFrame::PReq(f), s));
             0
         }
         PReqVerdict::TooShort => refusal(PowerlinkError::BufferTooShort, octet),
@@ -80,7 +84,8 @@ fn read_pres(s: &[u8], values: &mut [u64; 16], octet: &mut u8) -> u8
 {
     match codec::pres::judge(s) {
         PResVerdict::Read(state, size) => {
-            *values = pres_values(codec::pres::fields(s, state, size));
+            let f = codec::pres::fields(s, state, size);
+            *values = pres_values(f, payload_place(PowerlinkFrame::PRes(f), s));
             0
         }
         PResVerdict::TooShort => refusal(PowerlinkError::BufferTooShort, octet),
@@ -94,7 +99,8 @@ fn read_soa(s: &[u8], values: &mut [u64; 16], octet: &mut u8) -> u8
 {
     match codec::soa::judge(s) {
         SoAVerdict::Read(state, service) => {
-            *values = soa_values(codec::soa::fields(s, state, service));
+            let f = codec::soa::fields(s, state, service);
+            *values = soa_values(f, payload_place(PowerlinkFrame::SoA(f), s));
             0
         }
         SoAVerdict::TooShort => refusal(PowerlinkError::BufferTooShort, octet),
@@ -108,7 +114,8 @@ fn read_asnd(s: &[u8], values: &mut [u64; 16], octet: &mut u8) -> u8
 {
     match codec::asnd::judge(s) {
         ASndVerdict::Read(service) => {
-            *values = asnd_values(codec::asnd::fields(s, service), codec::asnd::payload_len(s));
+            let f = codec::asnd::fields(s, service);
+            *values = asnd_values(f, payload_place(PowerlinkFrame::ASnd(f), s));
             0
         }
         ASndVerdict::TooShort => refusal(PowerlinkError::BufferTooShort, octet),

@@ -10,7 +10,7 @@ deserialize-spec =
     (tie.spec
     (search needs)
     (search needs)
-    (λ c κs. (rw (c .before .size .given .1) at (c .before .before .before .judge .ensures)) .enough)
     (search needs)
-    (λ c. rw (c .fields .ensures) ((rw (c .before .before .size .given .1) at (c .before .before .before .before .judge .ensures)) .frame))
+    (search needs)
+    (λ c. rw (c .fields .ensures) (rw (c .before .before .size .given .1) at (c .before .before .before .before .judge .ensures)))
     (λ c. rw (c .enum-told .given .1) at (c .before .before .judge .ensures)))

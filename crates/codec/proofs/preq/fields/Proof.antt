@@ -13,6 +13,4 @@ fields-spec =
     (search needs)
     (search needs)
     (search needs)
-    (search needs)
-    (search needs)
-    (λ c. rw div-one))
+    (λ c. rw div-one (cc)))

@@ -10,11 +10,11 @@ deserialize-spec =
     (tie.spec
     (search needs)
     (search needs)
-    (λ c κs. (rw (c .before .state .given .1) at (c .before .before .before .judge .ensures)) .enough)
     (search needs)
     (search needs)
     (search needs)
-    (λ c. rw (c .fields .ensures) ((rw (c .before .before .state .given .1) at (c .before .before .before .before .judge .ensures)) .frame))
+    (search needs)
+    (λ c. rw (c .fields .ensures) (rw (c .before .before .state .given .1) at (c .before .before .before .before .judge .ensures)))
     (λ c. rw (c .enum-told .given .1) at (c .before .before .judge .ensures))
     (λ c. rw (c .enum-told2 .given .1) at (c .before .before .judge .ensures))
     (λ c. rw (c .before .b .given .1) at (c .before .before .before .judge .ensures)))

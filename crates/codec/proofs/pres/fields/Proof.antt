@@ -14,4 +14,4 @@ fields-spec =
     (search needs)
     (search needs)
     (search needs)
-    (λ c. rw (c .before .flags-of .ensures)))
+    (λ c. cc))

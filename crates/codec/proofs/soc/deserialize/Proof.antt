@@ -10,7 +10,7 @@ deserialize-spec =
     (tie.spec
     (search needs)
     (search needs)
-    (λ c κs. (rw (c .enum-told .given .1) at (c .before .before .judge .ensures)) .enough)
     (search needs)
-    (λ c. rw (c .fields .ensures) ((rw (c .before .enum-told .given .1) at (c .before .before .before .judge .ensures)) .frame))
-    (λ c. rw (c .enum-told2 .given .1) at (c .before .before .judge .ensures)))
+    (search needs)
+    (λ c. rw (c .fields .ensures) (rw (c .before .before .net-time .given .1) at (c .before .before .before .before .judge .ensures)))
+    (λ c. rw (c .enum-told .given .1) at (c .before .before .judge .ensures)))

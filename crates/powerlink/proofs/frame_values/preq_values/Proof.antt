@@ -15,5 +15,4 @@ preq-values-spec =
     (search needs)
     (search needs)
     (search needs)
-    (search needs)
     (λ c. cc))

@@ -20,5 +20,4 @@ pres-values-spec =
     (search needs)
     (search needs)
     (search needs)
-    (search needs)
     (λ c. cc))

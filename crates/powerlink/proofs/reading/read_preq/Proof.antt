@@ -7,14 +7,13 @@ use Rattle.powerlink.proofs.Readers.{section-refused, section-frame}
 use Rattle.powerlink.proofs.reading.read_preq.Statement.{statement}
 use Rattle.powerlink.proofs.reading.read_preq.Tie as tie
 
-fields-requires : tie.Need-fields-requires
-fields-requires c κs = (rw (c .before .size .given .1) at (c .before .before .before .judge .ensures)) .enough
-
 returns : tie.Need-returns
 returns c =
-    let f = c .before in
-    let m = c .before .before .before in
-    section-frame _ _ _ _ _ (PReq (f .fields .result)) (rw (f .fields .ensures) ((rw (m .size .given .1) at (m .before .before .judge .ensures)) .frame)) (c .preq-values .ensures)
+    let p = c .before in
+    let f = p .before in
+    let m = f .before .before in
+    section-frame _ _ _ _ _ (PReq (f .fields .result)) (rw (f .fields .ensures) (rw (m .size .given .1) at (m .before .before .judge .ensures)))
+    (rw (p .payload-place .ensures) at (c .preq-values .ensures))
 
 returns-2 : tie.Need-returns-2
 returns-2 c =
@@ -27,7 +26,8 @@ read-preq-spec =
     (tie.spec
     (search needs)
     (search needs)
-    fields-requires
+    (search needs)
+    (search needs)
     (search needs)
     (search needs)
     (search needs)

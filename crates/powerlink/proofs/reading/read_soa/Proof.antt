@@ -7,14 +7,13 @@ use Rattle.powerlink.proofs.Readers.{section-refused, section-frame}
 use Rattle.powerlink.proofs.reading.read_soa.Statement.{statement}
 use Rattle.powerlink.proofs.reading.read_soa.Tie as tie
 
-fields-requires : tie.Need-fields-requires
-fields-requires c κs = (rw (c .before .state .given .1) at (c .before .before .before .judge .ensures)) .enough
-
 returns : tie.Need-returns
 returns c =
-    let f = c .before in
-    let m = c .before .before .before in
-    section-frame _ _ _ _ _ (SoA (f .fields .result)) (rw (f .fields .ensures) ((rw (m .state .given .1) at (m .before .before .judge .ensures)) .frame)) (c .soa-values .ensures)
+    let p = c .before in
+    let f = p .before in
+    let m = f .before .before in
+    section-frame _ _ _ _ _ (SoA (f .fields .result)) (rw (f .fields .ensures) (rw (m .state .given .1) at (m .before .before .judge .ensures)))
+    (rw (p .payload-place .ensures) at (c .soa-values .ensures))
 
 returns-2 : tie.Need-returns-2
 returns-2 c =
@@ -37,7 +36,8 @@ read-soa-spec =
     (tie.spec
     (search needs)
     (search needs)
-    fields-requires
+    (search needs)
+    (search needs)
     (search needs)
     (search needs)
     (search needs)

@@ -7,19 +7,18 @@ use Rattle.powerlink.proofs.Readers.{section-refused, section-frame}
 use Rattle.powerlink.proofs.reading.read_soc.Statement.{statement}
 use Rattle.powerlink.proofs.reading.read_soc.Tie as tie
 
-fields-requires : tie.Need-fields-requires
-fields-requires c κs = (rw (c .enum-told .given .1) at (c .before .before .judge .ensures)) .enough
-
 returns : tie.Need-returns
 returns c =
-    let f = c .before in
-    let m = c .before .before in
-    section-frame _ _ _ _ _ (Soc (f .fields .result)) (rw (f .fields .ensures) ((rw (m .enum-told .given .1) at (m .before .before .judge .ensures)) .frame)) (c .soc-values .ensures)
+    let p = c .before in
+    let f = p .before in
+    let m = f .before .before in
+    section-frame _ _ _ _ _ (Soc (f .fields .result)) (rw (f .fields .ensures) (rw (m .net-time .given .1) at (m .before .before .judge .ensures)))
+    (rw (p .payload-place .ensures) at (c .soc-values .ensures))
 
 returns-2 : tie.Need-returns-2
 returns-2 c =
     let m = c .before .before in
-    section-refused _ _ _ _ _ _ BufferTooShort (rw (m .enum-told2 .given .1) at (m .before .before .judge .ensures)) (c .refusal .ensures)
+    section-refused _ _ _ _ _ _ BufferTooShort (rw (m .enum-told .given .1) at (m .before .before .judge .ensures)) (c .refusal .ensures)
 
 pub read-soc-spec : {M : Type 1} → statement M
 read-soc-spec =
@@ -27,7 +26,8 @@ read-soc-spec =
     (tie.spec
     (search needs)
     (search needs)
-    fields-requires
+    (search needs)
+    (search needs)
     (search needs)
     (search needs)
     (search needs)
