@@ -21,7 +21,7 @@ use codec::FrameAnswer;
 use codec::read_frame;
 use frame::PowerlinkFrame;
 use status_response::fields::StatusAnswer;
-use status_response::fields::deserialize;
+use status_response::fields::read_fields;
 use types::NodeId;
 use types::hal::PowerlinkError;
 use types::service::ServiceId;
@@ -60,9 +60,7 @@ pub(crate) fn read_status(state: &mut Collector, source: u8, payload: &[u8]) -> 
     if NODES <= k {
         return ReadAnswer::NotRegistered;
     }
-    let status = deserialize(payload);
-    let answer = status.answer;
-    match answer {
+    match read_fields(payload) {
         StatusAnswer::Refused(e) => ReadAnswer::Refused(e),
         StatusAnswer::Status(f) => book(state, k, f.en_flag, payload),
     }

@@ -1,5 +1,5 @@
 // The numbers of an entry, in the order in which include/powerlink.h names them. specs/ defines those of frames and of a
-// StatusResponse's front too: `powerlink` makes these, the front's straight from the octets.
+// StatusResponse's front too: `powerlink` makes these.
 ghost use mathlib.Core.Path.{_≡_};
 ghost use Rattle.numbers.specs.Values.{asNumber, entryNumbers};
 use error_entry::ErrorEntry;

@@ -1,6 +1,4 @@
-mod Coded
 mod Collectors
-mod Fronts
 mod Journals
 mod Readers
 mod Reporters

@@ -1,17 +1,12 @@
 -- What a caller of a reader is told, from what the reader answers.
 -- Assumes nothing.
-use Prim.Native.Nat.{ℕ, _≤_, _<_}
+use Prim.Native.Nat.{ℕ}
 use mathlib.Core.Path.{_≡_, refl, sym, ap, _∙_}
 use mathlib.Core.List.{List, [], _∷_}
-use lib.ListN.{length, getD, drop}
-use borrow.Author.Tests.{le-leb, lt-leb}
+use lib.ListN.{drop}
 use Rattle.types.specs.Causes.{causeNumber}
 use Rattle.types.specs.Messages.{messageCode}
-use Rattle.types.specs.States.{stateOf}
 use Rattle.types.specs.declared.hal.PowerlinkError.{PowerlinkError}
-use Rattle.types.specs.declared.hal.PowerlinkError.the-variants.{BufferTooShort, InvalidNmtState}
-use Rattle.types.specs.declared.states.NmtState.{NmtState}
-use Rattle.types.specs.declared.states.NmtStateAnswer.the-variants.{Known, Unknown}
 use Rattle.frame.specs.declared.PowerlinkFrame.{PowerlinkFrame}
 use Rattle.codec.specs.Frame.{readFrame, deserializeFrame, placeInFrame}
 use Rattle.codec.specs.Headers.{deserializeEthHeader, deserializePlHeader}
@@ -24,12 +19,14 @@ use Rattle.codec.specs.declared.headers.PlHeaderAnswer.the-variants as pl
 use Rattle.error_entry.specs.Entry.{readEntry}
 use Rattle.error_entry.specs.declared.ErrorEntry.{ErrorEntry}
 use Rattle.error_entry.specs.declared.ErrorEntryAnswer.the-variants as entry
-use Rattle.status_response.specs.BitField.{fieldOf, fieldBytes, readField}
-use Rattle.status_response.specs.Fields.{fieldsOf, readFields}
+use Rattle.status_response.specs.BitField.{fieldBytes, readField}
+use Rattle.status_response.specs.Fields.{readStatus}
 use Rattle.status_response.specs.Steps.{stepAt}
 use Rattle.status_response.specs.declared.bit_field.DeserializedErrorField.{DeserializedErrorField}
 use Rattle.status_response.specs.declared.bit_field.ErrorFieldAnswer.the-variants as bits
+use Rattle.status_response.specs.declared.fields.DeserializedStatus.{DeserializedStatus}
 use Rattle.status_response.specs.declared.fields.StatusAnswer.the-variants as status
+use Rattle.status_response.specs.declared.fields.StatusFields.{StatusFields}
 use Rattle.status_response.specs.declared.walk.EntryStep.the-variants as step
 use Rattle.numbers.specs.Answers.{errorOctet}
 use Rattle.numbers.specs.Values.{frameNumbers, statusNumbers, entryNumbers}
@@ -76,25 +73,18 @@ module _ (s : List ℕ) (v : List ℕ) where
       → PlRead s 0 v (m ∷ h .destination .0 ∷ h .source .0 ∷ []) o o
   pl-read o m h q em = record { cause = rw q; values = rw (q, em); octet = rw q }
 
-module _ (s v g : List ℕ) where
-  status-refused : (r o o′ : ℕ) (e : PowerlinkError) → readFields s ≡ status.Refused e → Told e r o o′ → StatusRead s r v v g g o o′
-  status-refused r o o′ e q t = record { cause = t .0 ∙ rw q; values = rw q; field = rw q; octet = t .1 ∙ rw q }
+module _ (s : List ℕ) (d : DeserializedStatus) (w : d ≡ readStatus s) (v g : List ℕ) where
+  pub status-refused : (r o o′ : ℕ) (e : PowerlinkError) → d .answer ≡ status.Refused e → Told e r o o′ → StatusRead s r v v g g o o′
+  status-refused r o o′ e ea t =
+      let q = sym (ap (λ (x : DeserializedStatus). x .answer) w) ∙ ea in
+      record { cause = t .0 ∙ rw q; values = rw q; field = rw q; octet = t .1 ∙ rw q }
 
-  pub status-short : (r o o′ : ℕ) → length s < 14 → Told BufferTooShort r o o′ → StatusRead s r v v g g o o′
-  unfolding readFields
-  status-short r o o′ h t = status-refused r o o′ BufferTooShort (rw (lt-leb 14 (length s) h)) t
-
-  module _ (long : 14 ≤ length s) where
-    pub status-unknown : (r o o′ b : ℕ) → stateOf (getD s 2 0) ≡ Unknown b → Told (InvalidNmtState b) r o o′ → StatusRead s r v v g g o o′
-    unfolding readFields
-    status-unknown r o o′ b q t = status-refused r o o′ (InvalidNmtState b) (rw (le-leb 14 (length s) long, q)) t
-
-    pub status-known : (v′ g′ : List ℕ) (o : ℕ) (k : NmtState) → stateOf (getD s 2 0) ≡ Known k → v′ ≡ statusNumbers (fieldsOf s k)
-        → g′ ≡ fieldBytes (fieldOf (drop 6 s)) → StatusRead s 0 v v′ g g′ o o
-    unfolding readFields
-    status-known v′ g′ o k e ev eg =
-        let q : readFields s ≡ status.Status (fieldsOf s k) = rw (le-leb 14 (length s) long, e) in
-        record { cause = rw q; values = ev ∙ rw q; field = eg ∙ rw q; octet = rw q }
+  pub status-read : (v′ g′ : List ℕ) (o : ℕ) (f : StatusFields) → d .answer ≡ status.Status f → v′ ≡ statusNumbers f
+      → g′ ≡ fieldBytes (d .«static_error_bit_field») → StatusRead s 0 v v′ g g′ o o
+  status-read v′ g′ o f ea ev eg =
+      let q = sym (ap (λ (x : DeserializedStatus). x .answer) w) ∙ ea in
+      let b = ap (λ (x : DeserializedStatus). fieldBytes (x .«static_error_bit_field»)) w in
+      record { cause = rw q; values = ev ∙ rw q; field = eg ∙ b ∙ rw q; octet = rw q }
 
 module _ (s : List ℕ) (d : DeserializedErrorField) (w : d ≡ readField s) (g : List ℕ) where
   pub field-refused : (r : ℕ) (e : PowerlinkError) → d .answer ≡ bits.Refused e → r ≡ causeNumber e → FieldRead s r g g

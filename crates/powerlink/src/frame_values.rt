@@ -1,12 +1,14 @@
-// The numbers of each kind of frame, in the order in which include/powerlink.h names them.
+// The numbers of each kind of frame, and of what stands in front of the entries of a StatusResponse, in the order in which
+// include/powerlink.h names them.
 ghost use mathlib.Core.Path.{_≡_};
-ghost use Rattle.numbers.specs.Values.{asNumber, socNumbers, preqNumbers, presNumbers, soaNumbers, asndNumbers};
+ghost use Rattle.numbers.specs.Values.{asNumber, socNumbers, preqNumbers, presNumbers, soaNumbers, asndNumbers, statusNumbers};
 use codec::PayloadPlace;
 use control::asnd::ASndFrame;
 use control::soa::SoAFrame;
 use control::soc::SocFrame;
 use poll::preq::PReqFrame;
 use poll::pres::PResFrame;
+use status_response::fields::StatusFields;
 
 fn number(on: bool) -> u64
     ensures { λ r. ⌜ r ≡ asNumber on ⌝ }
@@ -132,5 +134,19 @@ pub(crate) fn asnd_values(f: ASndFrame, place: PayloadPlace) -> [u64; 16]
         0,
         0,
         0,
+    ]
+}
+
+pub(crate) fn status_values(f: StatusFields) -> [u64; 5]
+    ensures { λ r. ⌜ r ≡ statusNumbers f ⌝ }
+{
+    let pr = f.pr;
+    let state = f.nmt_state;
+    [
+        number(f.en_flag),
+        number(f.ec_flag),
+        pr.to_u8() as u64,
+        f.rs.0 as u64,
+        state.to_u8() as u64,
     ]
 }

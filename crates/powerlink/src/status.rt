@@ -1,17 +1,10 @@
 // The payload of a StatusResponse: its front, its error field and its entries.
-ghost use mathlib.Core.Path.{_≡_};
-ghost use Prim.Native.Nat.{_≤_};
-ghost use lib.ListN.{length, getD};
-ghost use Rattle.types.specs.States.{stateOf};
-ghost use Rattle.types.specs.declared.states.NmtState.{NmtState};
-ghost use Rattle.types.specs.declared.states.NmtStateAnswer.the-variants.{Known};
 ghost use Rattle.error_entry.specs.Entry.{entryBytes};
 ghost use Rattle.status_response.specs.BitField.{fieldOf, fieldBytes};
-ghost use Rattle.status_response.specs.Fields.{fieldsOf};
-ghost use Rattle.numbers.specs.Values.{statusNumbers};
 ghost use Rattle.powerlink.specs.Given.{time, entryGiven, statusWriting};
 ghost use Rattle.powerlink.specs.Reading.{StatusRead, FieldRead, EntryRead, StepRead};
 ghost use Rattle.powerlink.specs.Writing.{WritesTo, WritesCoded};
+use crate::frame_values::status_values;
 use error_entry::EntryType;
 use error_entry::ErrorEntry;
 use error_entry::ErrorEntryAnswer;
@@ -23,9 +16,9 @@ use status_response::bit_field::ErrorFieldAnswer;
 use status_response::bit_field::StaticErrorBitField;
 use status_response::bit_field::field_at;
 use status_response::copied;
-use status_response::fields::EC;
-use status_response::fields::EN;
+use status_response::fields::StatusAnswer;
 use status_response::fields::StatusFields;
+use status_response::fields::deserialize;
 use status_response::walk::EntryStep;
 use status_response::walk::step_from;
 use types::common::NetTime;
@@ -35,20 +28,6 @@ use types::poll_flags::PRFlag;
 use types::poll_flags::RSFlag;
 use types::states::NmtState;
 use types::states::NmtStateAnswer;
-
-// The numbers of a front whose state is known: en, ec, pr, rs and state. Each is a part of its octet as it stands.
-fn front_values(payload: &[u8]) -> [u64; 5]
-    requires { ⌜ 14 ≤ length (now payload) ⌝ }
-    ensures { λ r. ⌜ ((k : NmtState) → stateOf (getD (now (payload .entry)) 2 0) ≡ Known k → r ≡ statusNumbers (fieldsOf (now (payload .entry)) k)) ⌝ }
-{
-    [
-        (payload[0] / EN % 2) as u64,
-        (payload[0] / EC % 2) as u64,
-        (payload[1] / 8 % 8) as u64,
-        (payload[1] % 8) as u64,
-        payload[2] as u64,
-    ]
-}
 
 // Reads what stands in front of the entries: en, ec, pr, rs and state, and the error field.
 #[no_mangle]
@@ -60,14 +39,13 @@ pub extern "C" fn powerlink_deserialize_status(
 ) -> u8
     ensures { λ r. ⌜ StatusRead (now (payload .entry)) r (now (values .entry)) (now (values .exit)) (now (field .entry)) (now (field .exit)) (now (octet .entry)) (now (octet .exit)) ⌝ }
 {
-    if payload.len() < 14 {
-        return refusal(PowerlinkError::BufferTooShort, octet);
-    }
-    match NmtState::from_u8(payload[2]) {
-        NmtStateAnswer::Unknown(b) => refusal(PowerlinkError::InvalidNmtState(b), octet),
-        NmtStateAnswer::Known(_) => {
-            let bits = field_at(&payload[6..]);
-            *values = front_values(payload);
+    let status = deserialize(payload);
+    let bits = status.static_error_bit_field;
+    let answer = status.answer;
+    match answer {
+        StatusAnswer::Refused(e) => refusal(e, octet),
+        StatusAnswer::Status(f) => {
+            *values = status_values(f);
             *field = bits.to_bytes();
             0
         }

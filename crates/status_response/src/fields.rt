@@ -2,7 +2,7 @@
 ghost use mathlib.Core.Path.{_≡_};
 ghost use Prim.Native.Nat.{_≤_};
 ghost use lib.ListN.{length};
-ghost use Rattle.status_response.specs.Fields.{frontLength, fieldsOf, headBytes, readStatus};
+ghost use Rattle.status_response.specs.Fields.{frontLength, fieldsOf, headBytes, readFields, readStatus};
 use crate::bit_field::StaticErrorBitField;
 use crate::bit_field::field_at;
 use octets::slices::tail;
@@ -50,22 +50,22 @@ pub struct DeserializedStatus {
 pub fn deserialize(payload: &[u8]) -> DeserializedStatus
     ensures { λ r. ⌜ r ≡ readStatus (now (payload .entry)) ⌝ }
 {
-    if payload.len() < FRONT_LEN {
-        return DeserializedStatus {
-            static_error_bit_field: field_at(tail(payload, 6)),
-            answer: StatusAnswer::Refused(PowerlinkError::BufferTooShort),
-        };
+    DeserializedStatus {
+        static_error_bit_field: field_at(tail(payload, 6)),
+        answer: read_fields(payload),
     }
-    let static_error_bit_field = field_at(&payload[6..]);
+}
+
+// The answer alone: for a caller that does not want the error field.
+pub fn read_fields(payload: &[u8]) -> StatusAnswer
+    ensures { λ r. ⌜ r ≡ readFields (now (payload .entry)) ⌝ }
+{
+    if payload.len() < FRONT_LEN {
+        return StatusAnswer::Refused(PowerlinkError::BufferTooShort);
+    }
     match NmtState::from_u8(payload[2]) {
-        NmtStateAnswer::Unknown(b) => DeserializedStatus {
-            static_error_bit_field,
-            answer: StatusAnswer::Refused(PowerlinkError::InvalidNmtState(b)),
-        },
-        NmtStateAnswer::Known(state) => DeserializedStatus {
-            static_error_bit_field,
-            answer: StatusAnswer::Status(fields(payload, state)),
-        },
+        NmtStateAnswer::Unknown(b) => StatusAnswer::Refused(PowerlinkError::InvalidNmtState(b)),
+        NmtStateAnswer::Known(state) => StatusAnswer::Status(fields(payload, state)),
     }
 }
 

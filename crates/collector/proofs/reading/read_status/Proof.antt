@@ -1,9 +1,8 @@
 -- `read_status` meets its contract.
 -- Assumes nothing.
-use mathlib.Core.Path.{sym, ap, _∙_}
+use mathlib.Core.Path.{sym, _∙_}
 use native.Mathlib.Omega.{arith}
 use borrow.Author.Needs.{needs}
-use Rattle.status_response.specs.declared.fields.DeserializedStatus.{DeserializedStatus}
 use Rattle.collector.proofs.CallLaws.{status-unknown, status-refused, status-books}
 use Rattle.collector.proofs.reading.read_status.Statement.{statement}
 use Rattle.collector.proofs.reading.read_status.Tie as tie
@@ -21,7 +20,7 @@ returns-2 c =
     let k = d .before .before in
     let a = k .before .before .before .args in (
       status-refused (a .state .now) (a .source) (a .payload .now) (omega (arith, k .slot .ensures .0)) _
-          (sym (w .answer .given .1) ∙ ap (λ (x : DeserializedStatus). x .answer) (d .deserialize .ensures)),
+          (sym (w .e .given .1) ∙ d .read-fields .ensures),
       k .slot .ensures .2,
     )
 
@@ -31,8 +30,8 @@ returns-3 c =
     let d = w .before .before in
     let k = d .before .before in
     let a = k .before .before .before .args in (
-      status-books (a .state .now) (a .source) (a .payload .now) (omega (arith, k .slot .ensures .0)) (w .answer2 .given .0 .0)
-          (sym (w .answer2 .given .1) ∙ ap (λ (x : DeserializedStatus). x .answer) (d .deserialize .ensures)) (k .slot .result) (k .slot .ensures .0)
+      status-books (a .state .now) (a .source) (a .payload .now) (omega (arith, k .slot .ensures .0)) (w .f .given .0 .0)
+          (sym (w .f .given .1) ∙ d .read-fields .ensures) (k .slot .result) (k .slot .ensures .0)
           _ _ (c .book .ensures),
       k .slot .ensures .2,
     )
