@@ -13,14 +13,13 @@ use Rattle.section.specs.declared.WriteAnswer.{WriteAnswer}
 use Rattle.control.specs.declared.soa.NewSoAFrame.{NewSoAFrame}
 use Rattle.frame.specs.Write.{frameBytes}
 use Rattle.frame.specs.declared.PowerlinkFrame.the-variants.{SoA}
-use Rattle.codec.specs.Frame.{readFrame}
 use Rattle.status_response.specs.Fields.{readFields}
 use Rattle.status_response.specs.Steps.{statusEntries}
 use Rattle.status_response.specs.declared.fields.StatusAnswer.the-variants as status
 use Rattle.status_response.specs.declared.fields.StatusFields.{StatusFields}
 use Rattle.collector.specs.Calls.{Registers, Reads, Requests, Takes, ReadsStatus, Books}
-use Rattle.collector.specs.Layout.{collectorLength, slotOf, accountIn, accountOf, boxOf, registerBytes, readBytes, takeBytes}
-use Rattle.collector.specs.Rules.{heads, registerAnswer, registerCause, heardIn, enIn, statusPayload, bookAnswer, saidIn, accountAnswer, readAnswer, readCause, requestSoA, requestFrame, asRequest, requestWritten, requestAnswer, requestCause, afterRequest, takeAnswer, takeCause}
+use Rattle.collector.specs.Layout.{collectorLength, slotOf, accountIn, accountOf, boxOf, registerBytes, responseBytes, takeBytes}
+use Rattle.collector.specs.Rules.{heads, registerAnswer, registerCause, enIn, statusPayload, bookAnswer, saidIn, accountAnswer, readAnswer, readCause, requestSoA, requestFrame, asRequest, requestWritten, requestAnswer, requestCause, afterRequest, takeAnswer, takeCause, responseIn}
 use Rattle.collector.specs.declared.ReadAnswer.{ReadAnswer}
 use Rattle.collector.specs.declared.ReadAnswer.the-variants.{Refused, NotStatusResponse, NotRegistered}
 use Rattle.collector.specs.declared.RegisterAnswer.{RegisterAnswer}
@@ -53,7 +52,7 @@ takes i r s after size a b =
 -- ---- read
 
 pub reads : (s : List ℕ) → length s ≡ collectorLength → (f : List ℕ) → Octets f → (r : ReadAnswer) (after : List ℕ) → r ≡ readAnswer f (boxOf s)
-    → after ≡ readBytes r f s → Reads f r s after
+    → after ≡ responseBytes r f s → Reads f r s after
 reads s size f octets r after a b = record { answer = a; cause = ap readCause a; box = rw (b, a) (read-means s size f octets); bytes = b }
 
 module _ (s : List ℕ) (source : ℕ) (payload : List ℕ) where
@@ -74,19 +73,19 @@ module _ (s : List ℕ) (source : ℕ) (payload : List ℕ) where
         }
 
 module _ (s f : List ℕ) where
-  pub reads-refused : (e : PowerlinkError) → heard.Refused e ≡ heardIn (readFrame f) → Reads f (Refused e) s s
+  pub reads-refused : (e : PowerlinkError) → heard.Refused e ≡ responseIn f → Reads f (Refused e) s s
   unfolding readAnswer
   reads-refused e is =
       let a : Refused e ≡ readAnswer f (boxOf s) = rw (← is) in
       record { answer = a; cause = ap readCause a; box = same-box (boxOf s); bytes = refl }
 
-  pub reads-other : heard.Other ≡ heardIn (readFrame f) → Reads f NotStatusResponse s s
+  pub reads-other : heard.Other ≡ responseIn f → Reads f NotStatusResponse s s
   unfolding readAnswer
   reads-other is =
       let a : NotStatusResponse ≡ readAnswer f (boxOf s) = rw (← is) in
       record { answer = a; cause = ap readCause a; box = same-box (boxOf s); bytes = refl }
 
-  pub reads-status : length s ≡ collectorLength → Octets f → (source : NodeId) → heard.Status source ≡ heardIn (readFrame f)
+  pub reads-status : length s ≡ collectorLength → Octets f → (source : NodeId) → heard.Status source ≡ responseIn f
       → (payload : List ℕ) → payload ≡ statusPayload f → (r : ReadAnswer) (after : List ℕ) → ReadsStatus (source .0) payload r s after → Reads f r s after
   unfolding readAnswer
   reads-status size octets source is payload from r after b =

@@ -18,14 +18,13 @@ use Rattle.types.specs.Header.{ethBytes}
 use Rattle.section.specs.Write.{padded}
 use Rattle.control.specs.SoA.{soaSection}
 use Rattle.frame.specs.Write.{frameBytes}
-use Rattle.codec.specs.Frame.{readFrame}
 use Rattle.error_entry.specs.declared.ErrorEntry.{ErrorEntry}
 use Rattle.status_response.specs.Fields.{readFields}
 use Rattle.status_response.specs.Steps.{statusEntries}
 use Rattle.status_response.specs.declared.fields.StatusAnswer.{StatusAnswer}
 use Rattle.status_response.specs.declared.fields.StatusAnswer.the-variants as status
-use Rattle.collector.specs.Layout.{nodeAt, collectorLength, block, nodeIn, findOf, slotOf, countIn, bookIn, accountIn, accountOf, vacantOf, boxOf, freshBytes, registerBytes, readBytes, bookingBytes, bookedBytes, takenBytes, takeBytes}
-use Rattle.collector.specs.Rules.{saidIn, Said, heads, bookLength, Account, Box, Same, freshBox, withAccount, registerAnswer, afterRegister, heardIn, enIn, statusPayload, bookAnswer, statusAnswer, heardAnswer, readAnswer, bookedAccount, afterBooking, afterRead, requestFrame, takeAnswer, withoutFirst, afterTake}
+use Rattle.collector.specs.Layout.{nodeAt, collectorLength, block, nodeIn, findOf, slotOf, countIn, bookIn, accountIn, accountOf, vacantOf, boxOf, freshBytes, registerBytes, responseBytes, bookingBytes, bookedBytes, takenBytes, takeBytes}
+use Rattle.collector.specs.Rules.{saidIn, Said, heads, bookLength, Account, Box, Same, freshBox, withAccount, registerAnswer, afterRegister, enIn, statusPayload, bookAnswer, statusAnswer, responseAnswer, readAnswer, bookedAccount, afterBooking, afterResponse, requestFrame, takeAnswer, withoutFirst, afterTake, responseIn, statusIn}
 use Rattle.collector.specs.declared.ReadAnswer.{ReadAnswer}
 use Rattle.collector.specs.declared.ReadAnswer.the-variants.{Booked, Known, Refused, NotStatusResponse, NotRegistered, BookFull}
 use Rattle.collector.specs.declared.RegisterAnswer.{RegisterAnswer}
@@ -164,7 +163,7 @@ module _ (s : List ℕ) (i : ℕ) (known : slotOf s i < heads) (size : length s 
       go false false q = let z : _≡_ {A = ℕ} 0 1 = cc in absurd (omega arith)
 
 module _ (s : List ℕ) (size : length s ≡ collectorLength) (payload : List ℕ) (octets : Octets payload) where
-  booking-means : (h : Heard) → heardAnswer h (saidIn payload) (boxOf s) ≡ Booked
+  booking-means : (h : Heard) → responseAnswer h (saidIn payload) (boxOf s) ≡ Booked
       → Same (boxOf (bookingBytes h (saidIn payload) s)) (afterBooking h (saidIn payload) (boxOf s))
   booking-means (heard.Refused e) q = same-box (boxOf s)
   booking-means heard.Other q = same-box (boxOf s)
@@ -182,12 +181,12 @@ module _ (s : List ℕ) (size : length s ≡ collectorLength) (f : List ℕ) (oc
   payload-octets : Octets (statusPayload f)
   payload-octets i = rw (getD-drop 18 f i 0) (octets (18 + i))
 
-  pub read-means : Same (boxOf (readBytes (readAnswer f (boxOf s)) f s)) (afterRead (readAnswer f (boxOf s)) f (boxOf s))
+  pub read-means : Same (boxOf (responseBytes (readAnswer f (boxOf s)) f s)) (afterResponse (readAnswer f (boxOf s)) f (boxOf s))
   unfolding readAnswer
   read-means = go (readAnswer f (boxOf s)) refl
     where
-      go : (r : ReadAnswer) → readAnswer f (boxOf s) ≡ r → Same (boxOf (readBytes r f s)) (afterRead r f (boxOf s))
-      go Booked q = booking-means s size (statusPayload f) payload-octets (heardIn (readFrame f)) q
+      go : (r : ReadAnswer) → readAnswer f (boxOf s) ≡ r → Same (boxOf (responseBytes r f s)) (afterResponse r f (boxOf s))
+      go Booked q = booking-means s size (statusPayload f) payload-octets (responseIn f) q
       go Known q = same-box (boxOf s)
       go (Refused e) q = same-box (boxOf s)
       go NotStatusResponse q = same-box (boxOf s)
@@ -199,8 +198,8 @@ booking-length (heard.Refused e) said s = refl
 booking-length heard.Other said s = refl
 booking-length (heard.Status source) said s = booked-length s (slotOf s (source .0)) (enIn (said .fields)) (said .entries)
 
-pub read-length : (r : ReadAnswer) (f s : List ℕ) → length (readBytes r f s) ≡ length s
-read-length Booked f s = booking-length (heardIn (readFrame f)) (saidIn (statusPayload f)) s
+pub read-length : (r : ReadAnswer) (f s : List ℕ) → length (responseBytes r f s) ≡ length s
+read-length Booked f s = booking-length (responseIn f) (statusIn f) s
 read-length Known f s = refl
 read-length (Refused e) f s = refl
 read-length NotStatusResponse f s = refl

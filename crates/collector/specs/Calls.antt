@@ -7,8 +7,8 @@ use mathlib.Core.Path.{_≡_}
 use mathlib.Core.List.{List}
 use lib.ListN.{length}
 use Rattle.types.specs.declared.NodeId.{NodeId}
-use Rattle.collector.specs.Layout.{boxOf, accountOf, accountIn, freshBytes, registerBytes, readBytes, bookedBytes, bookingBytes, takeBytes}
-use Rattle.collector.specs.Rules.{freshBox, Same, registerAnswer, registerCause, afterRegister, bookAnswer, accountAnswer, readAnswer, readCause, saidIn, whenBooked, afterRead, flagsAnswer, flagsCause, requestAnswer, requestCause, requestFrame, afterRequest, takeAnswer, takeCause, afterTake}
+use Rattle.collector.specs.Layout.{boxOf, accountOf, accountIn, freshBytes, registerBytes, responseBytes, bookedBytes, bookingBytes, takeBytes}
+use Rattle.collector.specs.Rules.{freshBox, Same, registerAnswer, registerCause, afterRegister, bookAnswer, accountAnswer, readAnswer, readCause, saidIn, whenBooked, afterResponse, flagsAnswer, flagsCause, requestAnswer, requestCause, requestFrame, afterRequest, takeAnswer, takeCause, afterTake}
 use Rattle.collector.specs.declared.FlagsAnswer.{FlagsAnswer}
 use Rattle.collector.specs.declared.ReadAnswer.{ReadAnswer}
 use Rattle.collector.specs.declared.RegisterAnswer.{RegisterAnswer}
@@ -30,8 +30,8 @@ pub record Registers (i : NodeId) (r : RegisterAnswer) (state after : List ℕ) 
 pub record Reads (frame : List ℕ) (r : ReadAnswer) (state after : List ℕ) : Type 0 where
   pub answer : r ≡ readAnswer frame (boxOf state)
   pub cause : readCause r ≡ readCause (readAnswer frame (boxOf state))
-  pub box : Same (boxOf after) (afterRead r frame (boxOf state))
-  pub bytes : after ≡ readBytes r frame state
+  pub box : Same (boxOf after) (afterResponse r frame (boxOf state))
+  pub bytes : after ≡ responseBytes r frame state
 
 -- the state is lent to be read: it stays
 pub record Flags (i : NodeId) (r : FlagsAnswer) (state : List ℕ) : Type 0 where

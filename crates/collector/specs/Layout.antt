@@ -9,11 +9,10 @@ use mathlib.Core.Option.{Option, none, some}
 use lib.ListN.{getD, set, replicate}
 use lib.Dec.{eqb, ltb}
 use Rattle.types.specs.Codes.{pick}
-use Rattle.codec.specs.Frame.{readFrame}
 use Rattle.error_entry.specs.declared.ErrorEntry.{ErrorEntry}
 use Rattle.records.specs.Records.{entryLength, recordAt, withRecord}
 use Rattle.records.specs.Ring.{ring}
-use Rattle.collector.specs.Rules.{heads, bookLength, Account, Box, whenRegistered, heardIn, Said, saidIn, enIn, statusPayload, whenBooked, whenTaken}
+use Rattle.collector.specs.Rules.{heads, bookLength, Account, Box, whenRegistered, Said, enIn, whenBooked, whenTaken, responseIn, statusIn}
 use Rattle.collector.specs.declared.ReadAnswer.{ReadAnswer}
 use Rattle.collector.specs.declared.ReadAnswer.the-variants.{Refused}
 use Rattle.collector.specs.declared.RegisterAnswer.{RegisterAnswer}
@@ -131,8 +130,8 @@ bookingBytes (heard.Refused e) said s = s
 bookingBytes heard.Other said s = s
 bookingBytes (heard.Status source) said s = bookedBytes s (slotOf s (source .0)) (enIn (said .fields)) (said .entries)
 
-abbrev pub readBytes : ReadAnswer → List ℕ → List ℕ → List ℕ
-readBytes r f s = whenBooked r (bookingBytes (heardIn (readFrame f)) (saidIn (statusPayload f)) s) s
+abbrev pub responseBytes : ReadAnswer → List ℕ → List ℕ → List ℕ
+responseBytes r f s = whenBooked r (bookingBytes (responseIn f) (statusIn f) s) s
 
 -- the book's start moves past its first record
 unfoldable pub takenBytes : List ℕ → ℕ → List ℕ

@@ -123,30 +123,34 @@ afterRegister r i b =
 
 -- ---- reading a frame
 
-abbrev pub heardService : ServiceId → NodeId → Heard
-heardService service.IdentResponse source = heard.Other
-heardService service.StatusResponse source = heard.Status source
-heardService service.NmtRequest source = heard.Other
-heardService service.NmtCommand source = heard.Other
-heardService service.Sdo source = heard.Other
-heardService service.NMTPublishTime source = heard.Other
-heardService service.NMTPublishNMTState source = heard.Other
-heardService service.NMTPublishNodeState source = heard.Other
-heardService service.NMTPublishNodeList source = heard.Other
-heardService service.NMTPublishEmergNew source = heard.Other
-heardService service.NMTPublishHeartbeat source = heard.Other
-heardService service.NMTPublishActiveNodes source = heard.Other
+abbrev pub responseOfService : ServiceId → NodeId → Heard
+responseOfService service.IdentResponse source = heard.Other
+responseOfService service.StatusResponse source = heard.Status source
+responseOfService service.NmtRequest source = heard.Other
+responseOfService service.NmtCommand source = heard.Other
+responseOfService service.Sdo source = heard.Other
+responseOfService service.NMTPublishTime source = heard.Other
+responseOfService service.NMTPublishNMTState source = heard.Other
+responseOfService service.NMTPublishNodeState source = heard.Other
+responseOfService service.NMTPublishNodeList source = heard.Other
+responseOfService service.NMTPublishEmergNew source = heard.Other
+responseOfService service.NMTPublishHeartbeat source = heard.Other
+responseOfService service.NMTPublishActiveNodes source = heard.Other
 
-abbrev pub heardFrame : PowerlinkFrame → Heard
-heardFrame (Soc f) = heard.Other
-heardFrame (PReq f) = heard.Other
-heardFrame (PRes f) = heard.Other
-heardFrame (SoA f) = heard.Other
-heardFrame (ASnd f) = heardService (f .«service_id») (f .source)
+abbrev pub responseInFrame : PowerlinkFrame → Heard
+responseInFrame (Soc f) = heard.Other
+responseInFrame (PReq f) = heard.Other
+responseInFrame (PRes f) = heard.Other
+responseInFrame (SoA f) = heard.Other
+responseInFrame (ASnd f) = responseOfService (f .«service_id») (f .source)
 
-abbrev pub heardIn : FrameAnswer → Heard
-heardIn (frame.Refused e) = heard.Refused e
-heardIn (frame.Frame f) = heardFrame f
+abbrev pub responseInAnswer : FrameAnswer → Heard
+responseInAnswer (frame.Refused e) = heard.Refused e
+responseInAnswer (frame.Frame f) = responseInFrame f
+
+-- what the box wants in the octets of a frame: whose StatusResponse it is, that it is another frame, or why they cannot be read ..
+abbrev pub responseIn : List ℕ → Heard
+responseIn f = responseInAnswer (readFrame f)
 
 -- "the box reads it from section byte 4, untrimmed"
 abbrev pub statusPayload : List ℕ → List ℕ
@@ -159,6 +163,10 @@ pub record Said : Type 0 where
 
 abbrev pub saidIn : List ℕ → Said
 saidIn payload = record { fields = readFields payload; entries = statusEntries payload }
+
+-- .. and what that StatusResponse says
+abbrev pub statusIn : List ℕ → Said
+statusIn f = saidIn (statusPayload f)
 
 -- EN, where the fields can be read
 abbrev pub enIn : StatusAnswer → Bool
@@ -180,13 +188,13 @@ accountAnswer said none = NotRegistered
 accountAnswer said (some p) = statusAnswer (said .fields) (said .entries) p
 
 -- "Box order: frame rules, 10, 11, StatusResponse rules (1, 5), known, 12"
-abbrev pub heardAnswer : Heard → Said → Box → ReadAnswer
-heardAnswer (heard.Refused e) said b = Refused e
-heardAnswer heard.Other said b = NotStatusResponse
-heardAnswer (heard.Status source) said b = accountAnswer said (b .accounts (source .0))
+abbrev pub responseAnswer : Heard → Said → Box → ReadAnswer
+responseAnswer (heard.Refused e) said b = Refused e
+responseAnswer heard.Other said b = NotStatusResponse
+responseAnswer (heard.Status source) said b = accountAnswer said (b .accounts (source .0))
 
 unfoldable pub readAnswer : List ℕ → Box → ReadAnswer
-readAnswer f b = heardAnswer (heardIn (readFrame f)) (saidIn (statusPayload f)) b
+readAnswer f b = responseAnswer (responseIn f) (statusIn f) b
 
 abbrev pub readCause : ReadAnswer → Cause
 readCause Booked = row 0 []
@@ -215,8 +223,8 @@ afterBooking heard.Other said b = b
 afterBooking (heard.Status source) said b = withAccount (source .0) (bookedAccount said (b .accounts (source .0))) b
 
 -- only what is booked changes anything
-abbrev pub afterRead : ReadAnswer → List ℕ → Box → Box
-afterRead r f b = whenBooked r (afterBooking (heardIn (readFrame f)) (saidIn (statusPayload f)) b) b
+abbrev pub afterResponse : ReadAnswer → List ℕ → Box → Box
+afterResponse r f b = whenBooked r (afterBooking (responseIn f) (statusIn f) b) b
 
 -- ---- the flags
 

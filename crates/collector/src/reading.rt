@@ -2,9 +2,8 @@
 ghost use mathlib.Core.Path.{_≡_};
 ghost use Prim.Native.Nat.{_<_};
 ghost use lib.ListN.{length};
-ghost use Rattle.codec.specs.Frame.{readFrame};
 ghost use Rattle.collector.specs.Calls.{Books, ReadsStatus};
-ghost use Rattle.collector.specs.Rules.{heads, heardIn};
+ghost use Rattle.collector.specs.Rules.{heads, responseIn};
 ghost use Rattle.collector.specs.Layout.{collectorLength};
 use crate::BLOCK_LEN;
 use crate::Collector;
@@ -35,7 +34,7 @@ pub enum Heard {
 
 // A StatusResponse with its source, another frame, or none.
 pub(crate) fn hear(buffer: &[u8]) -> Heard
-    ensures { λ r. ⌜ r ≡ heardIn (readFrame (now (buffer .entry))) ⌝ }
+    ensures { λ r. ⌜ r ≡ responseIn (now (buffer .entry)) ⌝ }
 {
     let frame = match read_frame(buffer) {
         FrameAnswer::Refused(e) => return Heard::Refused(e),

@@ -14,8 +14,8 @@ use Rattle.section.specs.Write.{writeAnswer, writeCause}
 use Rattle.section.specs.declared.WriteAnswer.{WriteAnswer}
 use Rattle.section.specs.declared.WriteAnswer.the-variants as write
 use Rattle.collector.specs.Calls.{Registers, Reads, Flags, Requests, Takes}
-use Rattle.collector.specs.Layout.{boxOf, accountOf, registerBytes, readBytes, takeBytes}
-use Rattle.collector.specs.Rules.{Account, Same, isRegistered, registerCause, afterRegister, readCause, afterRead, flagsCause, requestFrame, asRequest, requestAnswer, requestCause, afterRequest, takeCause, afterTake}
+use Rattle.collector.specs.Layout.{boxOf, accountOf, registerBytes, responseBytes, takeBytes}
+use Rattle.collector.specs.Rules.{Account, Same, isRegistered, registerCause, afterRegister, readCause, afterResponse, flagsCause, requestFrame, asRequest, requestAnswer, requestCause, afterRequest, takeCause, afterTake}
 use Rattle.collector.specs.declared.FlagsAnswer.{FlagsAnswer}
 use Rattle.collector.specs.declared.ReadAnswer.{ReadAnswer}
 use Rattle.collector.specs.declared.RegisterAnswer.{RegisterAnswer}
@@ -44,8 +44,8 @@ module _ (s s′ : List ℕ) where
         cause = er ∙ ap (λ (x : ReadAnswer). readCause x .number) (w .answer);
         outcome = ek ∙ ap (λ (x : ReadAnswer). bookOutcome x k) (w .answer);
         octet = eo ∙ ap (λ (x : ReadAnswer). getD (readCause x .returned) 0 o) (w .answer);
-        box = subst (λ (x : ReadAnswer). Same (boxOf s′) (afterRead x f (boxOf s))) (w .answer) (w .box);
-        bytes = w .bytes ∙ ap (λ (x : ReadAnswer). readBytes x f s) (w .answer);
+        box = subst (λ (x : ReadAnswer). Same (boxOf s′) (afterResponse x f (boxOf s))) (w .answer) (w .box);
+        bytes = w .bytes ∙ ap (λ (x : ReadAnswer). responseBytes x f s) (w .answer);
       }
 
   pub takes-told : (i r : ℕ) (v v′ : List ℕ) (a : TakeAnswer) → Takes (node i) a s s′ → r ≡ takeCause a .number → v′ ≡ takenAfter a v

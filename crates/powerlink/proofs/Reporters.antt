@@ -20,8 +20,8 @@ use Rattle.section.specs.declared.WriteAnswer.{WriteAnswer}
 use Rattle.section.specs.declared.WriteAnswer.the-variants as write
 use Rattle.error_entry.specs.declared.ErrorEntry.{ErrorEntry}
 use Rattle.reporter.specs.Calls.{Makes, Raises, Answers, Reads}
-use Rattle.reporter.specs.Layout.{headOf, newBytes, raiseBytes, answerBytes, readBytes}
-use Rattle.reporter.specs.Rules.{Head, newCause, raiseCause, afterRaise, opened, answerFrame, answerLength, afterAnswer, readCause, afterRead}
+use Rattle.reporter.specs.Layout.{headOf, newBytes, raiseBytes, answerBytes, acknowledgeBytes}
+use Rattle.reporter.specs.Rules.{Head, newCause, raiseCause, afterRaise, opened, answerFrame, answerLength, afterAnswer, readCause, afterAcknowledge}
 use Rattle.reporter.specs.declared.AnswerFields.{AnswerFields}
 use Rattle.reporter.specs.declared.NewAnswer.{NewAnswer}
 use Rattle.reporter.specs.declared.RaiseAnswer.{RaiseAnswer}
@@ -57,8 +57,8 @@ module _ (s s′ : List ℕ) where
         cause = er ∙ ap (λ (x : ReadAnswer). readCause x .number) (w .answer);
         outcome = ek ∙ ap (λ (x : ReadAnswer). readOutcome x k) (w .answer);
         octet = eo ∙ ap (λ (x : ReadAnswer). getD (readCause x .returned) 0 o) (w .answer);
-        head = w .head ∙ ap (λ (x : ReadAnswer). afterRead x (headOf s)) (w .answer);
-        bytes = w .bytes ∙ ap (λ (x : ReadAnswer). readBytes x s) (w .answer);
+        head = w .head ∙ ap (λ (x : ReadAnswer). afterAcknowledge x (headOf s)) (w .answer);
+        bytes = w .bytes ∙ ap (λ (x : ReadAnswer). acknowledgeBytes x s) (w .answer);
       }
 
 -- a mode that is none

@@ -10,8 +10,8 @@ use lib.ListN.{getD}
 use Rattle.types.specs.States.{stateOf}
 use Rattle.types.specs.declared.states.NmtState.{NmtState}
 use Rattle.collector.specs.Calls.{Fresh}
-use Rattle.collector.specs.Layout.{boxOf, accountOf, registerBytes, readBytes, takeBytes}
-use Rattle.collector.specs.Rules.{Account, Same, registerAnswer, registerCause, afterRegister, readAnswer, readCause, afterRead, flagsAnswer, flagsCause, requestFrame, asRequest, requestCause, takeAnswer, takeCause, afterTake}
+use Rattle.collector.specs.Layout.{boxOf, accountOf, registerBytes, responseBytes, takeBytes}
+use Rattle.collector.specs.Rules.{Account, Same, registerAnswer, registerCause, afterRegister, readAnswer, readCause, afterResponse, flagsAnswer, flagsCause, requestFrame, asRequest, requestCause, takeAnswer, takeCause, afterTake}
 use Rattle.collector.specs.declared.FlagsAnswer.{FlagsAnswer}
 use Rattle.collector.specs.declared.FlagsAnswer.the-variants as flagging
 use Rattle.collector.specs.declared.ReadAnswer.{ReadAnswer}
@@ -48,8 +48,8 @@ pub record CollectorReads (f : List ℕ) (r : ℕ) (s s′ : List ℕ) (k k′ o
   pub cause : r ≡ readCause (readAnswer f (boxOf s)) .number
   pub outcome : k′ ≡ bookOutcome (readAnswer f (boxOf s)) k
   pub octet : o′ ≡ getD (readCause (readAnswer f (boxOf s)) .returned) 0 o
-  pub box : Same (boxOf s′) (afterRead (readAnswer f (boxOf s)) f (boxOf s))
-  pub bytes : s′ ≡ readBytes (readAnswer f (boxOf s)) f s
+  pub box : Same (boxOf s′) (afterResponse (readAnswer f (boxOf s)) f (boxOf s))
+  pub bytes : s′ ≡ responseBytes (readAnswer f (boxOf s)) f s
 
 abbrev pub eaAfter : FlagsAnswer → Bool → Bool
 eaAfter (flagging.Flags f) before = f .ea

@@ -15,11 +15,10 @@ use Rattle.types.specs.declared.error_mode.ErrorEntryModeAnswer.{ErrorEntryMode
 use Rattle.types.specs.declared.error_mode.ErrorEntryModeAnswer.the-variants as mode
 use Rattle.types.specs.declared.states.NmtState.{NmtState}
 use Rattle.types.specs.declared.states.NmtStateAnswer.the-variants as state
-use Rattle.codec.specs.Frame.{readFrame}
 use Rattle.error_entry.specs.declared.ErrorEntry.{ErrorEntry}
 use Rattle.status_response.specs.BitField.{fieldOf}
-use Rattle.reporter.specs.Layout.{headOf, newBytes, raiseBytes, answerBytes, readBytes}
-use Rattle.reporter.specs.Rules.{Head, newAnswer, newCause, freshHead, raiseAnswer, raiseCause, afterRaise, opened, answerFrame, answerLength, afterAnswer, heardIn, heardAnswer, readCause, afterRead}
+use Rattle.reporter.specs.Layout.{headOf, newBytes, raiseBytes, answerBytes, acknowledgeBytes}
+use Rattle.reporter.specs.Rules.{Head, newAnswer, newCause, freshHead, raiseAnswer, raiseCause, afterRaise, opened, answerFrame, answerLength, afterAnswer, acknowledgeAnswer, readCause, afterAcknowledge, eaTold}
 use Rattle.reporter.specs.declared.AnswerFields.{AnswerFields}
 use Rattle.reporter.specs.declared.NewAnswer.the-variants.{Made}
 use Rattle.reporter.specs.declared.RaiseAnswer.{RaiseAnswer}
@@ -92,11 +91,11 @@ readOutcome (Refused e) before = before
 
 -- what reading a frame answers
 abbrev pub reporterReading : List ℕ → List ℕ → ReadAnswer
-reporterReading frame state = heardAnswer (heardIn (headOf state .id) (readFrame frame)) (headOf state)
+reporterReading frame state = acknowledgeAnswer (eaTold (headOf state .id) frame) (headOf state)
 
 pub record ReporterReads (frame : List ℕ) (r : ℕ) (s s′ : List ℕ) (k k′ o o′ : ℕ) : Type 0 where
   pub cause : r ≡ readCause (reporterReading frame s) .number
   pub outcome : k′ ≡ readOutcome (reporterReading frame s) k
   pub octet : o′ ≡ getD (readCause (reporterReading frame s) .returned) 0 o
-  pub head : headOf s′ ≡ afterRead (reporterReading frame s) (headOf s)
-  pub bytes : s′ ≡ readBytes (reporterReading frame s) s
+  pub head : headOf s′ ≡ afterAcknowledge (reporterReading frame s) (headOf s)
+  pub bytes : s′ ≡ acknowledgeBytes (reporterReading frame s) s

@@ -11,8 +11,8 @@ use Rattle.types.specs.declared.NodeId.{NodeId}
 use Rattle.error_entry.specs.declared.ErrorEntry.{ErrorEntry}
 use Rattle.codec.specs.Frame.{readFrame}
 use Rattle.reporter.specs.Calls.{Makes, Raises, Acknowledges, Reads}
-use Rattle.reporter.specs.Layout.{reporterLength, enOf, openOf, waitingOf, headOf, newBytes, raiseBytes, readBytes}
-use Rattle.reporter.specs.Rules.{queueLength, newAnswer, newCause, isRaisable, raiseAnswer, raiseCause, heardIn, eaAnswer, heardAnswer, readCause, afterRead}
+use Rattle.reporter.specs.Layout.{reporterLength, enOf, openOf, waitingOf, headOf, newBytes, raiseBytes, acknowledgeBytes}
+use Rattle.reporter.specs.Rules.{queueLength, newAnswer, newCause, isRaisable, raiseAnswer, raiseCause, eaAnswer, acknowledgeAnswer, readCause, afterAcknowledge, eaTold}
 use Rattle.reporter.specs.declared.NewAnswer.the-variants.{Made, IdOutOfRange}
 use Rattle.reporter.specs.declared.RaiseAnswer.the-variants.{Raised, EntryInvalid, QueueFull}
 use Rattle.reporter.specs.declared.ReadAnswer.{ReadAnswer}
@@ -71,7 +71,7 @@ module _ (e : ErrorEntry) (s : List ℕ) where
 -- ---- reading
 
 module _ (ea : Bool) (s : List ℕ) where
-  pub acknowledges : length s ≡ reporterLength → (r : ReadAnswer) → r ≡ eaAnswer ea (headOf s) → (after : List ℕ) → after ≡ readBytes r s → Acknowledges ea r s after
+  pub acknowledges : length s ≡ reporterLength → (r : ReadAnswer) → r ≡ eaAnswer ea (headOf s) → (after : List ℕ) → after ≡ acknowledgeBytes r s → Acknowledges ea r s after
   acknowledges size r e after b = record { answer = e; head = ap headOf b ∙ reads-means s size r; bytes = b }
 
   module _ (n : ℕ) (eo : n ≡ openOf s) where
@@ -88,8 +88,8 @@ module _ (ea : Bool) (s : List ℕ) where
       unfolding eaAnswer
       same-ea t = rw (batch-empty s, ne-eqb (openOf s) 0 (λ z. h (eo ∙ z)), en-is s, ← ee, not-false (Bool·beq en ea) t)
 
-module _ (frame s after : List ℕ) (r : ReadAnswer) (x : Heard) (ex : x ≡ heardIn (headOf s .id) (readFrame frame)) where
-  pub reads : r ≡ heardAnswer x (headOf s) → headOf after ≡ afterRead r (headOf s) → after ≡ readBytes r s → Reads frame r s after
+module _ (frame s after : List ℕ) (r : ReadAnswer) (x : Heard) (ex : x ≡ eaTold (headOf s .id) frame) where
+  pub reads : r ≡ acknowledgeAnswer x (headOf s) → headOf after ≡ afterAcknowledge r (headOf s) → after ≡ acknowledgeBytes r s → Reads frame r s after
   reads e h b =
-      let f : r ≡ heardAnswer (heardIn (headOf s .id) (readFrame frame)) (headOf s) = e ∙ ap (λ (y : Heard). heardAnswer y (headOf s)) ex in
+      let f : r ≡ acknowledgeAnswer (eaTold (headOf s .id) frame) (headOf s) = e ∙ ap (λ (y : Heard). acknowledgeAnswer y (headOf s)) ex in
       record { answer = f; cause = ap readCause f ∙ read-row (headOf s .id) (readFrame frame) (headOf s); head = h; bytes = b }

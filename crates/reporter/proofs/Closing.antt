@@ -10,8 +10,8 @@ use lib.Seq.{getD-set-same, getD-set-other}
 use lib.Dec.{eqb}
 use Rattle.records.specs.Ring.{ring}
 use Rattle.records.proofs.RingLaws.{ring-shift}
-use Rattle.reporter.specs.Layout.{waitingAt, openAt, startAt, enAt, idAt, reporterLength, places, enOf, startOf, openOf, waitingOf, entryIn, headOf, readBytes}
-use Rattle.reporter.specs.Rules.{queueLength, afterRead}
+use Rattle.reporter.specs.Layout.{waitingAt, openAt, startAt, enAt, idAt, reporterLength, places, enOf, startOf, openOf, waitingOf, entryIn, headOf, acknowledgeBytes}
+use Rattle.reporter.specs.Rules.{queueLength, afterAcknowledge}
 use Rattle.reporter.specs.declared.ReadAnswer.the-variants.{Closed}
 use Rattle.reporter.proofs.Entries.{entry-set, ring-kept}
 use Rattle.reporter.proofs.Ranges.{open-of, head-same}
@@ -37,7 +37,7 @@ module _ (s : List ℕ) where
   unfolding waitingOf
   waiting-kept = ap (λ (x : ℕ). min x queueLength) (octet-kept waitingAt (omega arith) (omega arith))
 
-  pub closed-length : length (readBytes Closed s) ≡ length s
+  pub closed-length : length (acknowledgeBytes Closed s) ≡ length s
   closed-length = simp length-set
 
   module _ (size : length s ≡ reporterLength) where
@@ -52,7 +52,7 @@ module _ (s : List ℕ) where
         let l : length (set s startAt begin) ≡ reporterLength = length-set s startAt begin ∙ size in
         rw (open-of octets, getD-set-same (set s startAt begin) openAt 0 0 (omega arith)) (omega arith)
 
-    pub closed-means : headOf (readBytes Closed s) ≡ afterRead Closed (headOf s)
+    pub closed-means : headOf (acknowledgeBytes Closed s) ≡ afterAcknowledge Closed (headOf s)
     unfolding headOf ring
     closed-means =
         head-same (octet-kept idAt (omega arith) (omega arith)) en-kept (rw open-is)

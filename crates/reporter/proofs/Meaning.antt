@@ -15,8 +15,8 @@ use Rattle.error_entry.specs.declared.ErrorEntry.{ErrorEntry}
 use Rattle.records.specs.Ring.{ring}
 use Rattle.records.proofs.RingLaws.{length-ring, ring-take}
 use Rattle.status_response.specs.Steps.{unlessTerminator}
-use Rattle.reporter.specs.Layout.{reporterLength, places, enOf, startOf, openOf, waitingOf, entryIn, headOf, newBytes, raiseBytes, opensIn, carriedIn, firstFour, openedBytes, readBytes}
-use Rattle.reporter.specs.Rules.{queueLength, batchLength, Head, freshHead, isRaisable, raiseAnswer, afterRaise, opened, answerFrame, answerLength, afterRead}
+use Rattle.reporter.specs.Layout.{reporterLength, places, enOf, startOf, openOf, waitingOf, entryIn, headOf, newBytes, raiseBytes, opensIn, carriedIn, firstFour, openedBytes, acknowledgeBytes}
+use Rattle.reporter.specs.Rules.{queueLength, batchLength, Head, freshHead, isRaisable, raiseAnswer, afterRaise, opened, answerFrame, answerLength, afterAcknowledge}
 use Rattle.reporter.specs.declared.AnswerFields.{AnswerFields}
 use Rattle.reporter.specs.declared.NewAnswer.the-variants.{Made}
 use Rattle.reporter.specs.declared.RaiseAnswer.{RaiseAnswer}
@@ -124,13 +124,13 @@ answer-size f h = answer-octets f h (34 + 20 * length (h .batch)) (payload-lengt
 -- ---- reading a frame
 
 module _ (s : List ℕ) where
-  pub reads-length : (r : ReadAnswer) → length (readBytes r s) ≡ length s
+  pub reads-length : (r : ReadAnswer) → length (acknowledgeBytes r s) ≡ length s
   reads-length Closed = closed-length s
   reads-length Kept = refl
   reads-length Ignored = refl
   reads-length (Refused e) = refl
 
-  pub reads-means : length s ≡ reporterLength → (r : ReadAnswer) → headOf (readBytes r s) ≡ afterRead r (headOf s)
+  pub reads-means : length s ≡ reporterLength → (r : ReadAnswer) → headOf (acknowledgeBytes r s) ≡ afterAcknowledge r (headOf s)
   reads-means size Closed = closed-means s size
   reads-means size Kept = refl
   reads-means size Ignored = refl

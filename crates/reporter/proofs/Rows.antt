@@ -12,7 +12,7 @@ use Rattle.codec.specs.declared.FrameAnswer.{FrameAnswer}
 use Rattle.codec.specs.declared.FrameAnswer.the-variants as frame
 use Rattle.frame.specs.declared.PowerlinkFrame.{PowerlinkFrame}
 use Rattle.frame.specs.declared.PowerlinkFrame.the-variants.{Soc, PReq, PRes, SoA, ASnd}
-use Rattle.reporter.specs.Rules.{Head, isEmpty, eaFor, heardFrame, heardIn, eaAnswer, heardAnswer, readCause}
+use Rattle.reporter.specs.Rules.{Head, isEmpty, eaFor, eaInFrame, eaInAnswer, eaAnswer, acknowledgeAnswer, readCause}
 use Rattle.reporter.specs.declared.ReadAnswer.the-variants.{Closed, Kept}
 use Rattle.reporter.specs.declared.acknowledge.Heard.the-variants as heard
 
@@ -22,13 +22,13 @@ ea-by : (t : Bool) → readCause (pick t Closed Kept) ≡ row 0 []
 ea-by true = refl
 ea-by false = refl
 
-for-by : (t u ea : Bool) (h : Head) → readCause (heardAnswer (need t heard.Nothing (need u heard.Nothing (heard.Ea ea))) h) ≡ row 0 []
+for-by : (t u ea : Bool) (h : Head) → readCause (acknowledgeAnswer (need t heard.Nothing (need u heard.Nothing (heard.Ea ea))) h) ≡ row 0 []
 unfolding eaAnswer
 for-by true true ea h = ea-by (not (isEmpty (h .batch)) && Bool·beq (h .en) ea)
 for-by true false ea h = refl
 for-by false u ea h = refl
 
-frame-row : (i : ℕ) (f : PowerlinkFrame) (h : Head) → readCause (heardAnswer (heardFrame i f) h) ≡ row 0 []
+frame-row : (i : ℕ) (f : PowerlinkFrame) (h : Head) → readCause (acknowledgeAnswer (eaInFrame i f) h) ≡ row 0 []
 unfolding eaFor
 frame-row i (Soc f) h = refl
 frame-row i (PReq f) h = for-by (eqb (f .source .0) 240) (eqb (f .destination .0) i) (f .flags .ea) h
@@ -36,6 +36,6 @@ frame-row i (PRes f) h = refl
 frame-row i (SoA f) h = for-by (eqb (f .source .0) 240) (eqb (f .«target_node_id» .0) i) (f .flags .ea) h
 frame-row i (ASnd f) h = refl
 
-pub read-row : (i : ℕ) (a : FrameAnswer) (h : Head) → readCause (heardAnswer (heardIn i a) h) ≡ frameCause a
+pub read-row : (i : ℕ) (a : FrameAnswer) (h : Head) → readCause (acknowledgeAnswer (eaInAnswer i a) h) ≡ frameCause a
 read-row i (frame.Refused e) h = refl
 read-row i (frame.Frame f) h = frame-row i f h

@@ -11,8 +11,8 @@ use Rattle.section.specs.Write.{Writes}
 use Rattle.section.specs.declared.WriteAnswer.{WriteAnswer}
 use Rattle.codec.specs.Frame.{readFrame, frameCause}
 use Rattle.error_entry.specs.declared.ErrorEntry.{ErrorEntry}
-use Rattle.reporter.specs.Layout.{headOf, newBytes, raiseBytes, answerBytes, readBytes}
-use Rattle.reporter.specs.Rules.{freshHead, newAnswer, newCause, raiseAnswer, raiseCause, afterRaise, opened, answerFrame, answerLength, afterAnswer, heardIn, eaAnswer, heardAnswer, readCause, afterRead}
+use Rattle.reporter.specs.Layout.{headOf, newBytes, raiseBytes, answerBytes, acknowledgeBytes}
+use Rattle.reporter.specs.Rules.{freshHead, newAnswer, newCause, raiseAnswer, raiseCause, afterRaise, opened, answerFrame, answerLength, afterAnswer, eaAnswer, acknowledgeAnswer, readCause, afterAcknowledge, eaTold}
 use Rattle.reporter.specs.declared.AnswerFields.{AnswerFields}
 use Rattle.reporter.specs.declared.NewAnswer.{NewAnswer}
 use Rattle.reporter.specs.declared.NewAnswer.the-variants.{Made}
@@ -41,11 +41,11 @@ pub record Answers (f : AnswerFields) (r : WriteAnswer) (state after target writ
 -- the part of reading that EA decides
 pub record Acknowledges (ea : Bool) (r : ReadAnswer) (state after : List ℕ) : Type 0 where
   pub answer : r ≡ eaAnswer ea (headOf state)
-  pub head : headOf after ≡ afterRead r (headOf state)
-  pub bytes : after ≡ readBytes r state
+  pub head : headOf after ≡ afterAcknowledge r (headOf state)
+  pub bytes : after ≡ acknowledgeBytes r state
 
 pub record Reads (frame : List ℕ) (r : ReadAnswer) (state after : List ℕ) : Type 0 where
-  pub answer : r ≡ heardAnswer (heardIn (headOf state .id) (readFrame frame)) (headOf state)
+  pub answer : r ≡ acknowledgeAnswer (eaTold (headOf state .id) frame) (headOf state)
   pub cause : readCause r ≡ frameCause (readFrame frame)
-  pub head : headOf after ≡ afterRead r (headOf state)
-  pub bytes : after ≡ readBytes r state
+  pub head : headOf after ≡ afterAcknowledge r (headOf state)
+  pub bytes : after ≡ acknowledgeBytes r state

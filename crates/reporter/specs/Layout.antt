@@ -114,5 +114,5 @@ abbrev pub answerBytes : WriteAnswer → List ℕ → List ℕ
 answerBytes r s = whenWritten r (openedBytes s) s
 
 -- closing moves the ring's start past the batch
-abbrev pub readBytes : ReadAnswer → List ℕ → List ℕ
-readBytes r s = whenClosed r (set (set s startAt ((startOf s + openOf s) % places)) openAt 0) s
+abbrev pub acknowledgeBytes : ReadAnswer → List ℕ → List ℕ
+acknowledgeBytes r s = whenClosed r (set (set s startAt ((startOf s + openOf s) % places)) openAt 0) s

@@ -17,6 +17,7 @@ use Rattle.control.specs.declared.asnd.NewASndFrame.{NewASndFrame}
 use Rattle.frame.specs.Write.{frameBytes}
 use Rattle.frame.specs.declared.PowerlinkFrame.{PowerlinkFrame}
 use Rattle.frame.specs.declared.PowerlinkFrame.the-variants.{Soc, PReq, PRes, SoA, ASnd}
+use Rattle.codec.specs.Frame.{readFrame}
 use Rattle.codec.specs.declared.FrameAnswer.{FrameAnswer}
 use Rattle.codec.specs.declared.FrameAnswer.the-variants as frame
 use Rattle.error_entry.specs.declared.ErrorEntry.{ErrorEntry}
@@ -157,26 +158,31 @@ unfoldable pub eaFor : ℕ → ℕ → ℕ → Bool → Heard
 eaFor i source target ea = need (eqb source 240) heard.Nothing (need (eqb target i) heard.Nothing (heard.Ea ea))
 
 -- "a PReq to its ID or an SoA with it as target gives EA"
-abbrev pub heardFrame : ℕ → PowerlinkFrame → Heard
-heardFrame i (Soc f) = heard.Nothing
-heardFrame i (PReq f) = eaFor i (f .source .0) (f .destination .0) (f .flags .ea)
-heardFrame i (PRes f) = heard.Nothing
-heardFrame i (SoA f) = eaFor i (f .source .0) (f .«target_node_id» .0) (f .flags .ea)
-heardFrame i (ASnd f) = heard.Nothing
+abbrev pub eaInFrame : ℕ → PowerlinkFrame → Heard
+eaInFrame i (Soc f) = heard.Nothing
+eaInFrame i (PReq f) = eaFor i (f .source .0) (f .destination .0) (f .flags .ea)
+eaInFrame i (PRes f) = heard.Nothing
+eaInFrame i (SoA f) = eaFor i (f .source .0) (f .«target_node_id» .0) (f .flags .ea)
+eaInFrame i (ASnd f) = heard.Nothing
 
-abbrev pub heardIn : ℕ → FrameAnswer → Heard
-heardIn i (frame.Refused e) = heard.Refused e
-heardIn i (frame.Frame f) = heardFrame i f
+abbrev pub eaInAnswer : ℕ → FrameAnswer → Heard
+eaInAnswer i (frame.Refused e) = heard.Refused e
+eaInAnswer i (frame.Frame f) = eaInFrame i f
+
+-- what node i wants in the octets of a frame: the EA (exception acknowledge) that the managing node tells it, nothing, or why they
+-- cannot be read
+abbrev pub eaTold : ℕ → List ℕ → Heard
+eaTold i f = eaInAnswer i (readFrame f)
 
 -- "If a batch is open and EA equals EN, it closes"
 unfoldable pub eaAnswer : Bool → Head → ReadAnswer
 eaAnswer ea h = pick (not (isEmpty (h .batch)) && Bool·beq (h .en) ea) Closed Kept
 
 -- "Other readable frames are ignored"; frames that cannot be read give their cause
-abbrev pub heardAnswer : Heard → Head → ReadAnswer
-heardAnswer (heard.Refused e) h = Refused e
-heardAnswer heard.Nothing h = Ignored
-heardAnswer (heard.Ea ea) h = eaAnswer ea h
+abbrev pub acknowledgeAnswer : Heard → Head → ReadAnswer
+acknowledgeAnswer (heard.Refused e) h = Refused e
+acknowledgeAnswer heard.Nothing h = Ignored
+acknowledgeAnswer (heard.Ea ea) h = eaAnswer ea h
 
 abbrev pub readCause : ReadAnswer → Cause
 readCause Closed = row 0 []
@@ -190,5 +196,5 @@ whenClosed Kept a b = b
 whenClosed Ignored a b = b
 whenClosed (Refused e) a b = b
 
-abbrev pub afterRead : ReadAnswer → Head → Head
-afterRead r h = whenClosed r (withBatch [] h) h
+abbrev pub afterAcknowledge : ReadAnswer → Head → Head
+afterAcknowledge r h = whenClosed r (withBatch [] h) h

@@ -1,8 +1,7 @@
 // EA as a frame gives it, and what it does to the open batch.
 ghost use mathlib.Core.Path.{_≡_};
-ghost use Rattle.codec.specs.Frame.{readFrame};
 ghost use Rattle.reporter.specs.Calls.{Acknowledges};
-ghost use Rattle.reporter.specs.Rules.{eaFor, heardFrame, heardIn};
+ghost use Rattle.reporter.specs.Rules.{eaFor, eaInFrame, eaTold};
 use crate::OPEN_AT;
 use crate::PLACES;
 use crate::ReadAnswer;
@@ -39,7 +38,7 @@ fn ea_for(id: u8, source: u8, target: u8, ea: bool) -> Heard
 
 // What a frame that was read tells node `id`.
 fn hear_frame(id: u8, frame: PowerlinkFrame) -> Heard
-    ensures { λ r. ⌜ r ≡ heardFrame id frame ⌝ }
+    ensures { λ r. ⌜ r ≡ eaInFrame id frame ⌝ }
 {
     match frame {
         PowerlinkFrame::Soc(_) => Heard::Nothing,
@@ -52,7 +51,7 @@ fn hear_frame(id: u8, frame: PowerlinkFrame) -> Heard
 
 // What octets tell node `id`.
 pub(crate) fn hear(id: u8, buffer: &[u8]) -> Heard
-    ensures { λ r. ⌜ r ≡ heardIn id (readFrame (now (buffer .entry))) ⌝ }
+    ensures { λ r. ⌜ r ≡ eaTold id (now (buffer .entry)) ⌝ }
 {
     match read_frame(buffer) {
         FrameAnswer::Refused(e) => Heard::Refused(e),
