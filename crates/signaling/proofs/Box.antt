@@ -9,9 +9,8 @@ use native.Mathlib.Omega.{arith}
 use lib.ListN.{length, getElem?, length-append}
 use lib.Dec.{leb}
 use borrow.Author.Tests.{le-leb}
-use Rattle.codec.specs.Frame.{readFrame}
 use Rattle.error_entry.specs.declared.ErrorEntry.{ErrorEntry}
-use Rattle.reporter.specs.Rules.{Head, heardIn}
+use Rattle.reporter.specs.Rules.{Head, eaTold}
 use Rattle.reporter.specs.declared.acknowledge.Heard.the-variants as heard
 use Rattle.collector.specs.declared.ReadAnswer.the-variants as box
 use Rattle.collector.specs.declared.TakeAnswer.the-variants as taking
@@ -68,7 +67,7 @@ module _ {i : ℕ} {ea : Bool} {book : List ErrorEntry} {c : Tally} (t : Inv i e
 
   -- ---- request and Take
 
-  pub request-sends : (bs : List ℕ) → ((x : Bool) → heardIn i (readFrame bs) ≡ heard.Ea x → x ≡ ea) → Inv i ea book (onRequests (sends (λ fs. fs ++ (bs ∷ []))) c)
+  pub request-sends : (bs : List ℕ) → ((x : Bool) → eaTold i bs ≡ heard.Ea x → x ≡ ea) → Inv i ea book (onRequests (sends (λ fs. fs ++ (bs ∷ []))) c)
   request-sends bs says =
       record {
         id = t .id;

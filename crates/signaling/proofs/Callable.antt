@@ -16,8 +16,8 @@ use Rattle.section.specs.declared.WriteAnswer.the-variants as write
 use Rattle.codec.specs.Frame.{readFrame}
 use Rattle.error_entry.specs.declared.ErrorEntry.{ErrorEntry}
 use Rattle.reporter.specs.Calls as reporter
-use Rattle.reporter.specs.Layout.{reporterLength, headOf, newBytes, raiseBytes, answerBytes, readBytes}
-use Rattle.reporter.specs.Rules.{newAnswer, newCause, raiseAnswer, opened, answerFrame, afterAnswer, heardIn, heardAnswer}
+use Rattle.reporter.specs.Layout.{reporterLength, headOf, newBytes, raiseBytes, answerBytes, acknowledgeBytes}
+use Rattle.reporter.specs.Rules.{newAnswer, newCause, raiseAnswer, opened, answerFrame, afterAnswer, acknowledgeAnswer, eaTold}
 use Rattle.reporter.specs.declared.AnswerFields.{AnswerFields}
 use Rattle.reporter.specs.declared.NewAnswer.the-variants.{Made}
 use Rattle.reporter.proofs.Meaning.{answer-size, made, new-length, raises-length, raises-means, opens-length, opens-means, reads-length, reads-means}
@@ -85,11 +85,11 @@ answers s f target size =
     )
 
 pub hears : (s bs : List ℕ) → length s ≡ reporterLength
-    → reporter.Reads bs (heardAnswer (heardIn (headOf s .id) (readFrame bs)) (headOf s)) s
-    (readBytes (heardAnswer (heardIn (headOf s .id) (readFrame bs)) (headOf s)) s)
-    × (length (readBytes (heardAnswer (heardIn (headOf s .id) (readFrame bs)) (headOf s)) s) ≡ reporterLength)
+    → reporter.Reads bs (acknowledgeAnswer (eaTold (headOf s .id) bs) (headOf s)) s
+    (acknowledgeBytes (acknowledgeAnswer (eaTold (headOf s .id) bs) (headOf s)) s)
+    × (length (acknowledgeBytes (acknowledgeAnswer (eaTold (headOf s .id) bs) (headOf s)) s) ≡ reporterLength)
 hears s bs size =
-    let r = heardAnswer (heardIn (headOf s .id) (readFrame bs)) (headOf s) in
+    let r = acknowledgeAnswer (eaTold (headOf s .id) bs) (headOf s) in
     (record { answer = refl; cause = head-row (headOf s .id) (readFrame bs) (headOf s); head = reads-means s size r; bytes = refl }, reads-length s r ∙ size)
 
 -- ---- the box's calls
@@ -105,8 +105,8 @@ registers s i size =
 
 -- the frame's octets are asked to be octets, since its entries are kept as octets
 pub books : (s bs : List ℕ) → length s ≡ collectorLength → Octets bs
-    → collector.Reads bs (readAnswer bs (boxOf s)) s (layout.readBytes (readAnswer bs (boxOf s)) bs s)
-    × (length (layout.readBytes (readAnswer bs (boxOf s)) bs s) ≡ collectorLength)
+    → collector.Reads bs (readAnswer bs (boxOf s)) s (layout.responseBytes (readAnswer bs (boxOf s)) bs s)
+    × (length (layout.responseBytes (readAnswer bs (boxOf s)) bs s) ≡ collectorLength)
 books s bs size octets =
     (record { answer = refl; cause = refl; box = read-means s size bs octets; bytes = refl }, read-length (readAnswer bs (boxOf s)) bs s ∙ size)
 

@@ -25,9 +25,9 @@ use Rattle.codec.specs.declared.FrameAnswer.the-variants as frame
 use Rattle.error_entry.specs.declared.ErrorEntry.{ErrorEntry}
 use Rattle.status_response.specs.declared.fields.StatusAnswer.{StatusAnswer}
 use Rattle.status_response.specs.declared.fields.StatusAnswer.the-variants as status
-use Rattle.reporter.specs.Rules.{Head, eaFor, heardFrame, heardIn, heardAnswer, afterRead}
+use Rattle.reporter.specs.Rules.{Head, eaFor, eaInFrame, eaInAnswer, acknowledgeAnswer, afterAcknowledge, eaTold}
 use Rattle.reporter.specs.declared.acknowledge.Heard.the-variants as heard
-use Rattle.collector.specs.Rules.{saidIn, Said, bookLength, Account, Box, registerVacant, registerAnswer, afterRegister, heardService, heardFrame as boxHeardFrame, heardIn as boxHeard, statusPayload, bookAnswer, statusAnswer, accountAnswer, enIn, bookedAccount, afterBooking, afterRead as boxAfterRead, requestAnswer, requestFrame, asRequest, afterRequest, takeFirst, takeAnswer, afterTake}
+use Rattle.collector.specs.Rules.{Said, bookLength, Account, Box, registerVacant, registerAnswer, afterRegister, responseOfService, responseInFrame, responseInAnswer, bookAnswer, statusAnswer, accountAnswer, enIn, bookedAccount, afterBooking, afterResponse, requestAnswer, requestFrame, asRequest, afterRequest, takeFirst, takeAnswer, afterTake, responseIn, statusIn}
 use Rattle.collector.specs.declared.reading.Heard.the-variants as boxHears
 use Rattle.collector.specs.declared.ReadAnswer.{ReadAnswer}
 use Rattle.collector.specs.declared.ReadAnswer.the-variants as box
@@ -62,14 +62,14 @@ far : (i source target : ℕ) (ea : Bool) → (source ≡ 240 → ⊥) → eaFor
 unfolding eaFor
 far i source target ea ne = rw (ne-eqb source 240 ne)
 
-frame-unheard : (i : ℕ) (f : PowerlinkFrame) (h : Head) → (sourceOf f ≡ 240 → ⊥) → afterRead (heardAnswer (heardFrame i f) h) h ≡ h
+frame-unheard : (i : ℕ) (f : PowerlinkFrame) (h : Head) → (sourceOf f ≡ 240 → ⊥) → afterAcknowledge (acknowledgeAnswer (eaInFrame i f) h) h ≡ h
 frame-unheard i (Soc f) h ne = refl
 frame-unheard i (PReq f) h ne = rw (far i (f .source .0) (f .destination .0) (f .flags .ea) ne)
 frame-unheard i (PRes f) h ne = refl
 frame-unheard i (SoA f) h ne = rw (far i (f .source .0) (f .«target_node_id» .0) (f .flags .ea) ne)
 frame-unheard i (ASnd f) h ne = refl
 
-pub unheard : (i : ℕ) (a : FrameAnswer) (h : Head) → NotFrom 240 a → afterRead (heardAnswer (heardIn i a) h) h ≡ h
+pub unheard : (i : ℕ) (a : FrameAnswer) (h : Head) → NotFrom 240 a → afterAcknowledge (acknowledgeAnswer (eaInAnswer i a) h) h ≡ h
 unheard i (frame.Refused e) h ne = refl
 unheard i (frame.Frame f) h ne = frame-unheard i f h ne
 
@@ -97,14 +97,14 @@ requested-frame j f (some p) target n e =
 
 -- a request for j is heard by j alone
 module _ (i j : ℕ) (f : RequestFields) (ea : Bool) (six : length (f .«source_mac» .0) ≡ 6) where
-  heard-as : heardIn i (readFrame (requestFrame j f ea)) ≡ need (eqb j i) heard.Nothing (heard.Ea ea)
+  heard-as : eaTold i (requestFrame j f ea) ≡ need (eqb j i) heard.Nothing (heard.Ea ea)
   unfolding eaFor
   heard-as = rw (request-reads j f ea six)
 
-  pub request-here : j ≡ i → heardIn i (readFrame (requestFrame j f ea)) ≡ heard.Ea ea
+  pub request-here : j ≡ i → eaTold i (requestFrame j f ea) ≡ heard.Ea ea
   request-here e = heard-as ∙ rw (eq-eqb j i e)
 
-  pub request-else : (j ≡ i → ⊥) → heardIn i (readFrame (requestFrame j f ea)) ≡ heard.Nothing
+  pub request-else : (j ≡ i → ⊥) → eaTold i (requestFrame j f ea) ≡ heard.Nothing
   request-else ne = heard-as ∙ rw (ne-eqb j i ne)
 
 -- ---- the box reads
@@ -138,7 +138,7 @@ why-booked said (some p) e =
 
 module _ (i : ℕ) (said : Said) (b : Box) where
   service-elsewhere : (s : ServiceId) (source : NodeId) → (source .0 ≡ i → ⊥)
-      → afterBooking (heardService s source) said b .accounts i ≡ b .accounts i
+      → afterBooking (responseOfService s source) said b .accounts i ≡ b .accounts i
   service-elsewhere service.IdentResponse source ne = refl
   service-elsewhere service.StatusResponse source ne = rw (ne-eqb i (source .0) (λ e. ne (sym e)))
   service-elsewhere service.NmtRequest source ne = refl
@@ -152,21 +152,21 @@ module _ (i : ℕ) (said : Said) (b : Box) where
   service-elsewhere service.NMTPublishHeartbeat source ne = refl
   service-elsewhere service.NMTPublishActiveNodes source ne = refl
 
-  frame-elsewhere : (f : PowerlinkFrame) → (sourceOf f ≡ i → ⊥) → afterBooking (boxHeardFrame f) said b .accounts i ≡ b .accounts i
+  frame-elsewhere : (f : PowerlinkFrame) → (sourceOf f ≡ i → ⊥) → afterBooking (responseInFrame f) said b .accounts i ≡ b .accounts i
   frame-elsewhere (Soc f) ne = refl
   frame-elsewhere (PReq f) ne = refl
   frame-elsewhere (PRes f) ne = refl
   frame-elsewhere (SoA f) ne = refl
   frame-elsewhere (ASnd f) ne = service-elsewhere (f .«service_id») (f .source) ne
 
-  booking-elsewhere : (a : FrameAnswer) → NotFrom i a → afterBooking (boxHeard a) said b .accounts i ≡ b .accounts i
+  booking-elsewhere : (a : FrameAnswer) → NotFrom i a → afterBooking (responseInAnswer a) said b .accounts i ≡ b .accounts i
   booking-elsewhere (frame.Refused e) ne = refl
   booking-elsewhere (frame.Frame f) ne = frame-elsewhere f ne
 
 -- what is not from node i leaves its place
 pub read-elsewhere : (i : ℕ) (bs : List ℕ) (b : Box) (r : ReadAnswer) → NotFrom i (readFrame bs)
-    → boxAfterRead r bs b .accounts i ≡ b .accounts i
-read-elsewhere i bs b box.Booked ne = booking-elsewhere i (saidIn (statusPayload bs)) b (readFrame bs) ne
+    → afterResponse r bs b .accounts i ≡ b .accounts i
+read-elsewhere i bs b box.Booked ne = booking-elsewhere i (statusIn bs) b (readFrame bs) ne
 read-elsewhere i bs b box.Known ne = refl
 read-elsewhere i bs b (box.Refused e) ne = refl
 read-elsewhere i bs b box.NotStatusResponse ne = refl
@@ -174,8 +174,8 @@ read-elsewhere i bs b box.NotRegistered ne = refl
 read-elsewhere i bs b box.BookFull ne = refl
 
 -- an answer of node i that is booked
-pub read-here : (i : ℕ) (bs : List ℕ) (b : Box) → boxHeard (readFrame bs) ≡ boxHears.Status (node i)
-    → boxAfterRead box.Booked bs b .accounts i ≡ some (bookedAccount (saidIn (statusPayload bs)) (b .accounts i))
+pub read-here : (i : ℕ) (bs : List ℕ) (b : Box) → responseIn bs ≡ boxHears.Status (node i)
+    → afterResponse box.Booked bs b .accounts i ≡ some (bookedAccount (statusIn bs) (b .accounts i))
 read-here i bs b me = rw (me, eq-eqb i i refl)
 
 -- ---- registering and Take

@@ -32,11 +32,11 @@ use Rattle.status_response.specs.BitField.{fieldBytes}
 use Rattle.status_response.specs.Fields.{headBytes}
 use Rattle.status_response.specs.Steps.{statusBytes}
 use Rattle.frame_laws.proofs.ReadBack.{frames-read-back}
-use Rattle.reporter.specs.Rules.{Head, freshHead, isRaisable, answerPayload, answerFrame, eaFor, heardIn}
+use Rattle.reporter.specs.Rules.{Head, freshHead, isRaisable, answerPayload, answerFrame, eaFor, eaTold}
 use Rattle.reporter.specs.declared.AnswerFields.{AnswerFields}
 use Rattle.reporter.specs.declared.acknowledge.Heard.the-variants as heard
 use Rattle.reporter.proofs.Meaning.{answer-size}
-use Rattle.collector.specs.Rules.{heardIn as boxHeard, requestFrame}
+use Rattle.collector.specs.Rules.{requestFrame, responseIn}
 use Rattle.collector.specs.declared.RequestFields.{RequestFields}
 use Rattle.collector.specs.declared.reading.Heard.the-variants as boxHears
 use Rattle.collector.proofs.Meaning.{request-size}
@@ -128,7 +128,7 @@ made-other e =
 pub made-source : NotFrom 7 (readFrame (madeStatus fields)) → ⊥
 made-source ne = (rw (made-answer, is-status fields (freshHead 7) sizes tt) at ne) refl
 
-pub hears-ea : (ea : Bool) → heardIn 7 (readFrame (requestFrame 7 asked ea)) ≡ heard.Ea ea
+pub hears-ea : (ea : Bool) → eaTold 7 (requestFrame 7 asked ea) ≡ heard.Ea ea
 unfolding asked eaFor
 hears-ea ea = rw (request-reads 7 asked ea refl)
 
@@ -154,10 +154,10 @@ pub pres-far : NotFrom 7 (readFrame presFrame) × NotFrom 240 (readFrame presFra
 unfolding other
 pres-far = (rw pres-reads (λ e. omega arith), rw pres-reads (λ e. omega arith))
 
-pub pres-other : boxHeard (readFrame presFrame) ≡ boxHears.Other
+pub pres-other : responseIn presFrame ≡ boxHears.Other
 pres-other = rw pres-reads
 
-pub pres-ignored : heardIn 7 (readFrame presFrame) ≡ heard.Nothing
+pub pres-ignored : eaTold 7 presFrame ≡ heard.Nothing
 pres-ignored = rw pres-reads
 
 unfoldable poll : Bool → NewPReqFrame
@@ -170,14 +170,14 @@ poll ea =
 pub preqFrame : Bool → List ℕ
 preqFrame ea = frameBytes (poll ea .«eth_header») (PReq (poll ea .frame)) []
 
-pub hears-host : (ea : Bool) → heardIn 7 (readFrame (preqFrame ea)) ≡ heard.Ea ea
+pub hears-host : (ea : Bool) → eaTold 7 (preqFrame ea) ≡ heard.Ea ea
 unfolding poll preqFrame deserializeFrame eaFor
 hears-host ea =
     rw
     (frames-read-back .reads (poll ea .«eth_header») (PReq (poll ea .frame)) []
     (record { destination = refl; source = refl; ethertype = refl }) (refl, omega arith) .frame)
 
-pub hears-not : (ea : Bool) → heardIn 7 (readFrame (requestFrame 9 asked ea)) ≡ heard.Nothing
+pub hears-not : (ea : Bool) → eaTold 7 (requestFrame 9 asked ea) ≡ heard.Nothing
 unfolding asked
 hears-not ea = request-else 7 9 asked ea refl (λ e. omega arith)
 

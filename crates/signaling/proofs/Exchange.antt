@@ -10,14 +10,13 @@ use native.Mathlib.Omega.{arith}
 use lib.ListN.{length, getElem?}
 use lib.Dec.{leb}
 use Rattle.section.specs.declared.WriteAnswer.the-variants as write
-use Rattle.codec.specs.Frame.{readFrame}
 use Rattle.status_response.specs.declared.fields.StatusAnswer.the-variants as status
 use Rattle.status_response.specs.declared.fields.StatusFields.{StatusFields}
-use Rattle.reporter.specs.Rules.{Head, opened, heardIn}
+use Rattle.reporter.specs.Rules.{Head, opened, eaTold}
 use Rattle.reporter.specs.declared.ReadAnswer.{ReadAnswer}
 use Rattle.reporter.specs.declared.acknowledge.Heard.the-variants as heard
 use Rattle.collector.specs.Layout.{boxOf}
-use Rattle.collector.specs.Rules.{saidIn, Said, bookLength, Account, Box, heardIn as boxHeard, statusPayload, bookAnswer, accountAnswer, readAnswer, bookedAccount, afterRead as boxAfterRead}
+use Rattle.collector.specs.Rules.{Said, bookLength, Account, Box, bookAnswer, accountAnswer, readAnswer, bookedAccount, afterResponse, responseIn, statusIn}
 use Rattle.collector.specs.declared.ReadAnswer.{ReadAnswer as BoxReadAnswer}
 use Rattle.collector.specs.declared.ReadAnswer.the-variants as box
 use Rattle.collector.specs.declared.reading.Heard.the-variants as boxHears
@@ -38,7 +37,7 @@ pub record Steady (i : ℕ) (h : Head) (ea : Bool) (n m : ℕ) (w : World) : Typ
   pub head : headIn w ≡ h
   pub bit : eaOf (placeFor i w) ≡ ea
   pub mine : (p : ℕ) (a : List ℕ) → n ≤ p → getElem? (answersSent i (w .log)) p ≡ some a → Says a h
-  pub its : (q : ℕ) (f : List ℕ) (x : Bool) → m ≤ q → getElem? (requestsSent i (w .log)) q ≡ some f → heardIn i (readFrame f) ≡ heard.Ea x
+  pub its : (q : ℕ) (f : List ℕ) (x : Bool) → m ≤ q → getElem? (requestsSent i (w .log)) q ≡ some f → eaTold i f ≡ heard.Ea x
       → x ≡ ea
 
 -- places from here on
@@ -56,7 +55,7 @@ steady-from {i} {w} y eh eb =
 module _ {i : ℕ} {h : Head} {ea : Bool} {n m : ℕ} where
   steady-by : {w v : World} → Ready i v → Calm i w v → headIn v ≡ h → eaOf (placeFor i w) ≡ ea
       → ((p : ℕ) (a : List ℕ) → n ≤ p → getElem? (answersSent i (w .log)) p ≡ some a → Says a h)
-      → ((q : ℕ) (f : List ℕ) (x : Bool) → m ≤ q → getElem? (requestsSent i (w .log)) q ≡ some f → heardIn i (readFrame f) ≡ heard.Ea x → x ≡ ea)
+      → ((q : ℕ) (f : List ℕ) (x : Bool) → m ≤ q → getElem? (requestsSent i (w .log)) q ≡ some f → eaTold i f ≡ heard.Ea x → x ≡ ea)
       → Steady i h ea n m v
   steady-by y z head eb mine its =
       record {
@@ -117,18 +116,18 @@ module _ (said : Said) (f : StatusFields) (e : said .fields ≡ status.Status f)
   booked-bit (some p) is = rw e
 
 module _ (i : ℕ) (h : Head) (bs : List ℕ) (b : Box) (says : Says bs h) (id : h .id ≡ i) where
-  hears-me : boxHeard (readFrame bs) ≡ boxHears.Status (node i)
+  hears-me : responseIn bs ≡ boxHears.Status (node i)
   hears-me = rw (← id) (says .status)
 
-  pub box-says : readAnswer bs b ≡ accountAnswer (saidIn (statusPayload bs)) (b .accounts i)
+  pub box-says : readAnswer bs b ≡ accountAnswer (statusIn bs) (b .accounts i)
   unfolding readAnswer
   box-says = rw hears-me
 
   -- then its bit is EA
   box-agrees : IsPlace (b .accounts i) → (readAnswer bs b ≡ box.BookFull → ⊥)
-      → eaOf (boxAfterRead (readAnswer bs b) bs b .accounts i) ≡ h .en
+      → eaOf (afterResponse (readAnswer bs b) bs b .accounts i) ≡ h .en
   box-agrees is found =
-      let said = saidIn (statusPayload bs) in
+      let said = statusIn bs in
       let o = b .accounts i in
       elim (outcome said (says .fields) (says .read) o is (λ full. found (box-says ∙ full))) [
         | inl k ↦ rw (box-says, k .0) (k .1 ∙ says .en)
@@ -161,7 +160,7 @@ module _ {i : ℕ} {h : Head} {ea : Bool} {n m : ℕ} {w : World} (y : Steady i 
       → ⊥
   known-found {p} {bs} le same (boxReads from octets told after d c) full =
       let says = y .mine p bs le (d .1) in
-      let k = known (saidIn (statusPayload bs)) (says .fields) (says .read) (placeFor i w) (y .ready .place) (y .bit ∙ same ∙ sym (says .en)) in
+      let k = known (statusIn bs) (says .fields) (says .read) (placeFor i w) (y .ready .place) (y .bit ∙ same ∙ sym (says .en)) in
       let x = box-says i h bs (boxOf (w .box)) says its-id in
       let z : box.BookFull ≡ box.Known = sym full ∙ c .answer ∙ x ∙ k in
       clash cc
@@ -181,8 +180,8 @@ module _ {i : ℕ} {h : Head} {n : ℕ} (settled : opened h ≡ h) where
 
 -- ---- the head reads
 
-module _ {i : ℕ} {h : Head} {n m q : ℕ} {bs : List ℕ} {x : Bool} {r : ReadAnswer} (le : m ≤ q) (me : heardIn i (readFrame bs) ≡ heard.Ea x) where
-  carries-en : {w v : World} → Step i w (headRead (sent q) bs r) v → Steady i h (h .en) n m w → heardIn i (readFrame bs) ≡ heard.Ea (h .en)
+module _ {i : ℕ} {h : Head} {n m q : ℕ} {bs : List ℕ} {x : Bool} {r : ReadAnswer} (le : m ≤ q) (me : eaTold i bs ≡ heard.Ea x) where
+  carries-en : {w v : World} → Step i w (headRead (sent q) bs r) v → Steady i h (h .en) n m w → eaTold i bs ≡ heard.Ea (h .en)
   carries-en (headReads from octets told after d c) y = me ∙ ap heard.Ea (y .its q bs x le (d .1) me)
 
   head-ends : {w u v : World} → Step i w (headRead (sent q) bs r) u → Quietly i (RequestAgain q bs) u v → Steady i h (h .en) n m w

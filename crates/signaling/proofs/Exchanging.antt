@@ -6,8 +6,7 @@ use mathlib.Core.List.{List, _∷_, _++_}
 use lib.ListN.{length}
 use Rattle.octets.proofs.NumberBack.{Octets}
 use Rattle.section.specs.declared.WriteAnswer.the-variants as write
-use Rattle.codec.specs.Frame.{readFrame}
-use Rattle.reporter.specs.Rules.{Head, opened, answerFrame, answerLength, heardIn, eaAnswer, afterRead}
+use Rattle.reporter.specs.Rules.{Head, opened, answerFrame, answerLength, eaAnswer, afterAcknowledge, eaTold}
 use Rattle.reporter.specs.declared.AnswerFields.{AnswerFields}
 use Rattle.reporter.specs.declared.ReadAnswer.the-variants.{Closed}
 use Rattle.reporter.specs.declared.acknowledge.Heard.the-variants as heard
@@ -52,9 +51,9 @@ module _ (i : ℕ) (f : AnswerFields) (g : RequestFields) (sizes : AnswerSizes f
         → length (answersSent i l) ≤ n
         → Delivered 240 (sent m) frame₂ (tally i (requested₁ n) .requests)
         → length (requestsSent i l) ≤ m
-        → heardIn i (readFrame frame₂) ≡ heard.Ea (opened h .en)
+        → eaTold i frame₂ ≡ heard.Ea (opened h .en)
         → eaAnswer (opened h .en) (opened h) ≡ Closed
-        → Exchanged i s b l (headRead (sent m) frame₂ Closed ∷ requested₁ n) (afterRead Closed (opened h)) booked
+        → Exchanged i s b l (headRead (sent m) frame₂ Closed ∷ requested₁ n) (afterAcknowledge Closed (opened h)) booked
     exchanging n m k small says from octets books₁ given₁ new₁ given₂ new₂ hears₁ closes =
         let a = answering k f sizes small in
         let b = booking (a .knows) frame₁ (opened h) says from n given₁ octets books₁ in

@@ -33,7 +33,7 @@ use Rattle.frame_laws.proofs.HeaderBack.{section-back}
 use Rattle.frame_laws.proofs.ReadBack.{frames-read-back}
 use Rattle.reporter.specs.Rules.{Head, isRaisable, statusFields, answerPayload, answerASnd, answerFrame}
 use Rattle.reporter.specs.declared.AnswerFields.{AnswerFields}
-use Rattle.collector.specs.Rules.{heardIn, statusPayload, requestSoA, requestFrame}
+use Rattle.collector.specs.Rules.{statusPayload, requestSoA, requestFrame, responseIn}
 use Rattle.collector.specs.declared.RequestFields.{RequestFields}
 use Rattle.collector.specs.declared.reading.Heard.the-variants as heard
 use Rattle.signaling.specs.Calls.{Numbers, AnswerSizes, node}
@@ -46,7 +46,7 @@ Good (e ∷ es) = ((isRaisable e ≡ true) × Numbers e) × Good es
 
 -- the octets are an answer of this head, with its EN and its batch
 pub record Says (bs : List ℕ) (h : Head) : Type 0 where
-  pub status : heardIn (readFrame bs) ≡ heard.Status (node (h .id))
+  pub status : responseIn bs ≡ heard.Status (node (h .id))
   pub fields : StatusFields
   pub read : readFields (statusPayload bs) ≡ said.Status fields
   pub en : fields .«en_flag» ≡ h .en

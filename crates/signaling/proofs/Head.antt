@@ -10,9 +10,8 @@ use lib.ListN.{length, take, drop, getElem?, take-append-drop}
 use lib.Dec.{ltb}
 use Rattle.types.specs.Codes.{pick, need}
 use Rattle.section.specs.declared.WriteAnswer.the-variants as write
-use Rattle.codec.specs.Frame.{readFrame}
 use Rattle.error_entry.specs.declared.ErrorEntry.{ErrorEntry}
-use Rattle.reporter.specs.Rules.{withNewBatch, queueLength, batchLength, Head, isRaisable, raiseAnswer, afterRaise, isEmpty, opens, opened, heardIn, eaAnswer, heardAnswer, afterRead}
+use Rattle.reporter.specs.Rules.{withNewBatch, queueLength, batchLength, Head, isRaisable, raiseAnswer, afterRaise, isEmpty, opens, opened, eaAnswer, acknowledgeAnswer, afterAcknowledge, eaTold}
 use Rattle.reporter.specs.declared.RaiseAnswer.{RaiseAnswer}
 use Rattle.reporter.specs.declared.RaiseAnswer.the-variants.{Raised, EntryInvalid, QueueFull}
 use Rattle.reporter.specs.declared.ReadAnswer.the-variants.{Closed, Kept}
@@ -152,7 +151,7 @@ module _ {i : ℕ} {ea : Bool} {book : List ErrorEntry} {c : Tally} (t : Inv i e
           room = t .room;
         }
 
-    head-closes : heardIn i (readFrame bs) ≡ heard.Ea (h .en) → Inv i ea book (onRequests (gives (sent q)) (onRuled (becomes (λ g. afterRead Closed g)) c))
+    head-closes : eaTold i bs ≡ heard.Ea (h .en) → Inv i ea book (onRequests (gives (sent q)) (onRuled (becomes (λ g. afterAcknowledge Closed g)) c))
     head-closes me =
         let (same, past) = requests-fresh (t .requests) q bs le at me in
         let was : c .ruled .isBooked ≡ true = t .since ∙ ap (λ (b : Bool). Bool·beq b (h .en)) same ∙ beq-same (h .en) in
@@ -170,13 +169,13 @@ module _ {i : ℕ} {ea : Bool} {book : List ErrorEntry} {c : Tally} (t : Inv i e
           room = t .room;
         }
 
-    head-by : (x b : Bool) → heardIn i (readFrame bs) ≡ heard.Ea x → not (isEmpty (h .batch)) && Bool·beq (h .en) x ≡ b
-        → Inv i ea book (onRequests (gives (sent q)) (onRuled (becomes (λ g. afterRead (pick b Closed Kept) g)) c))
+    head-by : (x b : Bool) → eaTold i bs ≡ heard.Ea x → not (isEmpty (h .batch)) && Bool·beq (h .en) x ≡ b
+        → Inv i ea book (onRequests (gives (sent q)) (onRuled (becomes (λ g. afterAcknowledge (pick b Closed Kept) g)) c))
     head-by x false me e = head-passes
     head-by x true me e =
         head-closes (me ∙ ap heard.Ea (sym (beq-true (h .en) x (both (not (isEmpty (h .batch))) (Bool·beq (h .en) x) e .1))))
 
-    pub head-reads : (s : Heard) → heardIn i (readFrame bs) ≡ s → Inv i ea book (onRequests (gives (sent q)) (onRuled (becomes (λ g. afterRead (heardAnswer s g) g)) c))
+    pub head-reads : (s : Heard) → eaTold i bs ≡ s → Inv i ea book (onRequests (gives (sent q)) (onRuled (becomes (λ g. afterAcknowledge (acknowledgeAnswer s g) g)) c))
     unfolding eaAnswer
     head-reads (heard.Refused e) me = head-passes
     head-reads heard.Nothing me = head-passes

@@ -7,13 +7,12 @@ use mathlib.Core.List.{List, [], _++_}
 use mathlib.Core.Option.{Option, none, some}
 use lib.ListN.{length, getElem?}
 use Rattle.types.specs.Codes.{pick}
-use Rattle.codec.specs.Frame.{readFrame}
 use Rattle.error_entry.specs.declared.ErrorEntry.{ErrorEntry}
 use Rattle.reporter.specs.Layout.{headOf}
-use Rattle.reporter.specs.Rules.{Head, heardIn}
+use Rattle.reporter.specs.Rules.{Head, eaTold}
 use Rattle.reporter.specs.declared.acknowledge.Heard.the-variants as heard
 use Rattle.collector.specs.Layout.{accountOf}
-use Rattle.collector.specs.Rules.{saidIn, bookLength, Account, statusPayload, enIn, heardIn as boxHeard}
+use Rattle.collector.specs.Rules.{bookLength, Account, enIn, responseIn, statusIn}
 use Rattle.collector.specs.declared.reading.Heard.the-variants as boxHears
 use Rattle.signaling.specs.Calls.{Tally, tally, ruled, World, node, eaOf}
 use Rattle.signaling.proofs.Frames.{Good}
@@ -21,10 +20,10 @@ use Rattle.signaling.proofs.Frames.{Good}
 -- ---- what the frames say
 
 unfoldable pub enSaid : List ℕ → Bool
-enSaid bs = enIn (saidIn (statusPayload bs) .fields)
+enSaid bs = enIn (statusIn bs .fields)
 
 unfoldable pub batchSaid : List ℕ → List ErrorEntry
-batchSaid bs = saidIn (statusPayload bs) .entries
+batchSaid bs = statusIn bs .entries
 
 -- The answers that can still be given to the box. Those sent since the last opening carry EN, and the open batch; those sent
 -- before carry the opposite bit. Where the last batch is booked, EA is EN, and no answer from before it can still be given to the box.
@@ -39,9 +38,9 @@ pub record Answers (en ea : Bool) (batch : List ErrorEntry) (sent : List (List �
 -- The requests to this head that can still be given to it. Those sent since EA last changed carry EA, those sent before the
 -- opposite bit. Where no batch is open or the open one is not booked, none from before that change can still be given to the head.
 pub record Requests (i : ℕ) (en ea : Bool) (batch : List ErrorEntry) (sent : List (List ℕ)) (at turned : ℕ) : Type 0 where
-  pub old : (q : ℕ) (f : List ℕ) (x : Bool) → at ≤ q → getElem? sent q ≡ some f → heardIn i (readFrame f) ≡ heard.Ea x → q < turned
+  pub old : (q : ℕ) (f : List ℕ) (x : Bool) → at ≤ q → getElem? sent q ≡ some f → eaTold i f ≡ heard.Ea x → q < turned
       → x ≡ not ea
-  pub new : (q : ℕ) (f : List ℕ) (x : Bool) → at ≤ q → getElem? sent q ≡ some f → heardIn i (readFrame f) ≡ heard.Ea x → turned ≤ q → x ≡ ea
+  pub new : (q : ℕ) (f : List ℕ) (x : Bool) → at ≤ q → getElem? sent q ≡ some f → eaTold i f ≡ heard.Ea x → turned ≤ q → x ≡ ea
   pub closed : batch ≡ [] → turned ≤ at
   pub unread : ea ≡ not en → turned ≤ at
   pub range : turned ≤ length sent
@@ -59,7 +58,7 @@ pub record Inv (i : ℕ) (ea : Bool) (book : List ErrorEntry) (c : Tally) : Type
   pub batch : Good (c .ruled .head .batch)
   pub waiting : Good (c .ruled .head .waiting)
   -- the box reads an answer as one of node i
-  pub source : (p : ℕ) (bs : List ℕ) → getElem? (c .answers .frames) p ≡ some bs → boxHeard (readFrame bs) ≡ boxHears.Status (node i)
+  pub source : (p : ℕ) (bs : List ℕ) → getElem? (c .answers .frames) p ≡ some bs → responseIn bs ≡ boxHears.Status (node i)
   pub answers : Answers (c .ruled .head .en) ea (c .ruled .head .batch) (c .answers .frames) (c .answers .at) (c .ruled .openedAt)
   pub turned : ℕ
   pub requests : Requests i (c .ruled .head .en) ea (c .ruled .head .batch) (c .requests .frames) (c .requests .at) turned

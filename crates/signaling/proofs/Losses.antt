@@ -7,10 +7,9 @@ use mathlib.Core.List.{List, [], _∷_}
 use mathlib.Core.Option.{some}
 use native.Mathlib.Omega.{arith}
 use lib.ListN.{take, getElem?}
-use Rattle.codec.specs.Frame.{readFrame}
 use Rattle.reporter.specs.Calls as reporter
-use Rattle.reporter.specs.Layout.{headOf, readBytes}
-use Rattle.reporter.specs.Rules.{Head, freshHead, answerFrame, heardIn, eaAnswer, heardAnswer, afterRead}
+use Rattle.reporter.specs.Layout.{headOf, acknowledgeBytes}
+use Rattle.reporter.specs.Rules.{Head, freshHead, answerFrame, eaAnswer, acknowledgeAnswer, afterAcknowledge, eaTold}
 use Rattle.reporter.specs.declared.ReadAnswer.the-variants.{Closed}
 use Rattle.collector.specs.Rules.{Account, bookAnswer, requestFrame}
 use Rattle.collector.specs.declared.ReadAnswer.the-variants as box
@@ -23,12 +22,12 @@ use Rattle.signaling.proofs.Facts.{clash}
 use Rattle.signaling.proofs.Making.{sent-whole, hearing, knowing, books-it, asking}
 
 -- the head reads a frame that closes its batch, wherever the frame comes from
-closed-by : {v : World} {l : Log} {h : Head} {p : Account} (r : Reached v l h p) (bs : List ℕ) → heardAnswer (heardIn (h .id) (readFrame bs)) h ≡ Closed
-    → reporter.Reads bs Closed (r .state) (readBytes Closed (r .state)) × (headOf (readBytes Closed (r .state)) ≡ afterRead Closed h)
+closed-by : {v : World} {l : Log} {h : Head} {p : Account} (r : Reached v l h p) (bs : List ℕ) → acknowledgeAnswer (eaTold (h .id) bs) h ≡ Closed
+    → reporter.Reads bs Closed (r .state) (acknowledgeBytes Closed (r .state)) × (headOf (acknowledgeBytes Closed (r .state)) ≡ afterAcknowledge Closed h)
 closed-by {h} r bs ok =
-    let e : heardAnswer (heardIn (headOf (r .state) .id) (readFrame bs)) (headOf (r .state)) ≡ Closed = rw (r .knows .means) ok in
+    let e : acknowledgeAnswer (eaTold (headOf (r .state) .id) bs) (headOf (r .state)) ≡ Closed = rw (r .knows .means) ok in
     let c = rw e at (hears (r .state) bs (r .knows .headSize)) in
-    (c .0, c .0 .head ∙ ap (afterRead Closed) (r .knows .means))
+    (c .0, c .0 .head ∙ ap (afterAcknowledge Closed) (r .knows .means))
 
 -- ---- a frame with any EA
 
@@ -44,7 +43,7 @@ free-ea-loses =
       place = r .knows .place;
       frame = requestFrame 7 asked true;
       gives = hears-ea true;
-      after = readBytes Closed (r .state);
+      after = acknowledgeBytes Closed (r .state);
       reads = c .0;
       left = c .1;
     }
@@ -68,8 +67,9 @@ built-ahead-loses =
       run = runs (runs original (b .onward)) (r .onward);
       entries = refl;
       place = r .knows .place;
+      holds = r .knows .means;
       late = λ told. clash (cc (rw (r .knows .place) at (told false (hears-ea false))));
-      after = readBytes Closed (r .state);
+      after = acknowledgeBytes Closed (r .state);
       reads = c .0;
       left = c .1;
     }

@@ -13,11 +13,10 @@ use borrow.Author.Tests.{le-leb, eq-eqb}
 use Rattle.octets.proofs.NumberBack.{Octets}
 use Rattle.section.specs.Write.{writeAnswer, overwritten}
 use Rattle.section.specs.declared.WriteAnswer.the-variants as write
-use Rattle.codec.specs.Frame.{readFrame}
 use Rattle.error_entry.specs.declared.ErrorEntry.{ErrorEntry}
 use Rattle.reporter.specs.Calls as reporter
-use Rattle.reporter.specs.Layout.{reporterLength, headOf, newBytes, raiseBytes, answerBytes, readBytes}
-use Rattle.reporter.specs.Rules.{Head, freshHead, newAnswer, raiseAnswer, afterRaise, opened, answerFrame, answerLength, heardIn, heardAnswer, afterRead}
+use Rattle.reporter.specs.Layout.{reporterLength, headOf, newBytes, raiseBytes, answerBytes, acknowledgeBytes}
+use Rattle.reporter.specs.Rules.{Head, freshHead, newAnswer, raiseAnswer, afterRaise, opened, answerFrame, answerLength, acknowledgeAnswer, afterAcknowledge, eaTold}
 use Rattle.reporter.specs.declared.AnswerFields.{AnswerFields}
 use Rattle.reporter.specs.declared.NewAnswer.the-variants.{Made}
 use Rattle.reporter.specs.declared.RaiseAnswer.{RaiseAnswer}
@@ -26,7 +25,7 @@ use Rattle.reporter.specs.declared.acknowledge.Heard.the-variants as heard
 use Rattle.collector.specs.Calls as collector
 use Rattle.collector.specs.Layout as layout
 use Rattle.collector.specs.Layout.{collectorLength, boxOf, accountOf, freshBytes, registerBytes, takeBytes}
-use Rattle.collector.specs.Rules.{withBook, withEa, Account, Same, freshAccount, registerAnswer, afterRegister, heardIn as boxHeard, bookAnswer, readAnswer, readCause, requestFrame}
+use Rattle.collector.specs.Rules.{withBook, withEa, Account, Same, freshAccount, registerAnswer, afterRegister, bookAnswer, readAnswer, readCause, requestFrame, responseIn}
 use Rattle.collector.specs.declared.ReadAnswer.the-variants as box
 use Rattle.collector.specs.declared.RegisterAnswer.the-variants.{Registered}
 use Rattle.collector.specs.declared.RequestAnswer.the-variants as requesting
@@ -155,15 +154,15 @@ module _ {i : ℕ} {s b : List ℕ} {l : Log} {h : Head} {p : Account} (k : Know
       }
 
   pub hearing : (o : Origin) (bs : List ℕ) (r : ReadAnswer) → Delivered 240 o bs (tally i l .requests) → h .id ≡ i
-      → heardAnswer (heardIn i (readFrame bs)) h ≡ r → Next i s b l (headRead o bs r) (afterRead r h) p
+      → acknowledgeAnswer (eaTold i bs) h ≡ r → Next i s b l (headRead o bs r) (afterAcknowledge r h) p
   hearing o bs r given same ok =
-      let q : heardAnswer (heardIn (headOf s .id) (readFrame bs)) (headOf s) ≡ r =
-      rw (k .means) (ap (λ (n : ℕ). heardAnswer (heardIn n (readFrame bs)) h) same ∙ ok) in
+      let q : acknowledgeAnswer (eaTold (headOf s .id) bs) (headOf s) ≡ r =
+      rw (k .means) (ap (λ (n : ℕ). acknowledgeAnswer (eaTold n bs) h) same ∙ ok) in
       let c = rw q at (hears s bs (k .headSize)) in
       record {
-        state = readBytes r s;
+        state = acknowledgeBytes r s;
         box = b;
-        step = headReads o bs r (readBytes r s) given (c .0);
+        step = headReads o bs r (acknowledgeBytes r s) given (c .0);
         knows = record {
           headSize = c .1;
           boxSize = k .boxSize;
@@ -193,8 +192,8 @@ module _ {i : ℕ} {s b : List ℕ} {l : Log} {h : Head} {p : Account} (k : Know
 
     -- the box books it, wherever it comes from
     pub books-it : Octets bs → bookAnswer (g .en) (g .batch) p ≡ box.Booked
-        → collector.Reads bs box.Booked b (layout.readBytes box.Booked bs b)
-        × Knows i s (layout.readBytes box.Booked bs b) l h (withEa (g .en) (withBook (p .book ++ g .batch) p))
+        → collector.Reads bs box.Booked b (layout.responseBytes box.Booked bs b)
+        × Knows i s (layout.responseBytes box.Booked bs b) l h (withEa (g .en) (withBook (p .book ++ g .batch) p))
     books-it octets ok =
         let r = rw (read-as, ok) at (books b bs (k .boxSize) octets) in (
           r .0,
@@ -211,16 +210,16 @@ module _ {i : ℕ} {s b : List ℕ} {l : Log} {h : Head} {p : Account} (k : Know
         → Next i s b l (boxRead (sent q) bs box.Booked) h (withEa (g .en) (withBook (p .book ++ g .batch) p))
     booking q given octets ok =
         let r = books-it octets ok in
-        let n : Knows i s (layout.readBytes box.Booked bs b) l h (withEa (g .en) (withBook (p .book ++ g .batch) p)) = r .1 in
+        let n : Knows i s (layout.responseBytes box.Booked bs b) l h (withEa (g .en) (withBook (p .book ++ g .batch) p)) = r .1 in
         record {
           state = s;
-          box = layout.readBytes box.Booked bs b;
-          step = boxReads (sent q) bs box.Booked (layout.readBytes box.Booked bs b) given (r .0);
+          box = layout.responseBytes box.Booked bs b;
+          step = boxReads (sent q) bs box.Booked (layout.responseBytes box.Booked bs b) given (r .0);
           knows = record { headSize = n .headSize; boxSize = n .boxSize; means = n .means; rules = n .rules; place = n .place };
         }
 
   -- a frame that is no StatusResponse
-  pub passing : (o : Origin) (bs : List ℕ) → Delivered i o bs (tally i l .answers) → boxHeard (readFrame bs) ≡ boxHears.Other
+  pub passing : (o : Origin) (bs : List ℕ) → Delivered i o bs (tally i l .answers) → responseIn bs ≡ boxHears.Other
       → Next i s b l (boxRead o bs box.NotStatusResponse) h p
   unfolding readAnswer
   passing o bs given other =
@@ -285,7 +284,7 @@ module _ {i : ℕ} {s b : List ℕ} {l : Log} {h : Head} {p : Account} (k : Know
 
   -- ---- the frames of the box's host
 
-  pub hosting : (bs : List ℕ) → heardIn i (readFrame bs) ≡ heard.Ea (p .ea) → Next i s b l (hosted bs) h p
+  pub hosting : (bs : List ℕ) → eaTold i bs ≡ heard.Ea (p .ea) → Next i s b l (hosted bs) h p
   hosting bs tells =
       record {
         state = s;

@@ -12,7 +12,7 @@ use Rattle.status_response.specs.declared.fields.StatusAnswer.the-variants as s
 use Rattle.status_response.specs.declared.fields.StatusFields.{StatusFields}
 use Rattle.reporter.specs.Rules.{Head}
 use Rattle.collector.specs.Layout.{boxOf}
-use Rattle.collector.specs.Rules.{saidIn, Said, bookLength, Account, statusPayload, bookAnswer, accountAnswer}
+use Rattle.collector.specs.Rules.{Said, bookLength, Account, bookAnswer, accountAnswer, statusIn}
 use Rattle.collector.specs.declared.ReadAnswer.{ReadAnswer as BoxReadAnswer}
 use Rattle.collector.specs.declared.ReadAnswer.the-variants as box
 use Rattle.signaling.specs.Calls.{sent, Event, boxRead, isBooked, World, Step, boxReads, eaOf}
@@ -62,7 +62,7 @@ room-found : {i : ℕ} {h : Head} {ea : Bool} {n m p : ℕ} {bs : List ℕ} {r :
     → ⊥
 room-found {i} {h} {p} {bs} {w} y le room (boxReads from octets told after d c) full =
     let says = y .mine p bs le (d .1) in
-    fits (saidIn (statusPayload bs)) (says .fields) (says .read) (placeFor i w) (y .ready .place)
+    fits (statusIn bs) (says .fields) (says .read) (placeFor i w) (y .ready .place)
     (rw (says .en, says .entries, ← (y .head)) (room-for (y .ready) room))
     (sym (box-says i h bs (boxOf (w .box)) says (its-id y)) ∙ sym (c .answer) ∙ full)
 

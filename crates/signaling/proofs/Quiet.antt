@@ -14,13 +14,13 @@ use Rattle.types.specs.Codes.{pick}
 use Rattle.section.specs.declared.WriteAnswer.the-variants as write
 use Rattle.codec.specs.Frame.{readFrame}
 use Rattle.error_entry.specs.declared.ErrorEntry.{ErrorEntry}
-use Rattle.reporter.specs.Rules.{opened, Head, afterRaise, heardIn, heardAnswer, afterRead}
+use Rattle.reporter.specs.Rules.{opened, Head, afterRaise, acknowledgeAnswer, afterAcknowledge, eaTold}
 use Rattle.reporter.specs.declared.RaiseAnswer.{RaiseAnswer}
 use Rattle.reporter.specs.declared.RaiseAnswer.the-variants.{Raised, EntryInvalid, QueueFull}
 use Rattle.reporter.specs.declared.acknowledge.Heard.{Heard}
 use Rattle.reporter.specs.declared.acknowledge.Heard.the-variants as heard
 use Rattle.collector.specs.Layout.{boxOf}
-use Rattle.collector.specs.Rules.{saidIn, Said, bookLength, Account, Box, withAccount, afterRegister, heardIn as boxHeard, statusPayload, afterBooking, afterRead as boxAfterRead, withoutFirst, afterTake}
+use Rattle.collector.specs.Rules.{Said, bookLength, Account, Box, withAccount, afterRegister, afterBooking, afterResponse, withoutFirst, afterTake, responseIn, statusIn}
 use Rattle.collector.specs.declared.ReadAnswer.{ReadAnswer as BoxReadAnswer}
 use Rattle.collector.specs.declared.ReadAnswer.the-variants as box
 use Rattle.collector.specs.declared.RegisterAnswer.{RegisterAnswer}
@@ -59,8 +59,8 @@ module _ (i : ℕ) (b : Box) (is : IsPlace (b .accounts i)) where
   booking-stays boxHears.Other said = is
   booking-stays (boxHears.Status source) said = with-stays (source .0) _
 
-  read-stays : (bs : List ℕ) (r : BoxReadAnswer) → IsPlace (boxAfterRead r bs b .accounts i)
-  read-stays bs box.Booked = booking-stays (boxHeard (readFrame bs)) (saidIn (statusPayload bs))
+  read-stays : (bs : List ℕ) (r : BoxReadAnswer) → IsPlace (afterResponse r bs b .accounts i)
+  read-stays bs box.Booked = booking-stays (responseIn bs) (statusIn bs)
   read-stays bs box.Known = is
   read-stays bs (box.Refused e) = is
   read-stays bs box.NotStatusResponse = is
@@ -138,7 +138,7 @@ pub record Calm (i : ℕ) (w v : World) : Type 0 where
   pub answers : (p : ℕ) (a : List ℕ) → getElem? (answersSent i (v .log)) p ≡ some a
       → (getElem? (answersSent i (w .log)) p ≡ some a) ⊎ Says a (headIn v)
   pub requests : (q : ℕ) (f : List ℕ) → getElem? (requestsSent i (v .log)) q ≡ some f
-      → (getElem? (requestsSent i (w .log)) q ≡ some f) ⊎ ((x : Bool) → heardIn i (readFrame f) ≡ heard.Ea x → x ≡ eaOf (placeFor i w))
+      → (getElem? (requestsSent i (w .log)) q ≡ some f) ⊎ ((x : Bool) → eaTold i f ≡ heard.Ea x → x ≡ eaOf (placeFor i w))
 
 -- a Take leaves EA
 with-bit : (i j : ℕ) (p : Account) (b : Box) → p .ea ≡ eaOf (b .accounts j) → eaOf (withAccount j p b .accounts i) ≡ eaOf (b .accounts i)
@@ -161,7 +161,7 @@ not-raised i e EntryInvalid k h = refl
 not-raised i e QueueFull k h = refl
 
 -- what gives no EA leaves the head
-silent : (a : Heard) (h : Head) → ((ea : Bool) → a ≡ heard.Ea ea → ⊥) → afterRead (heardAnswer a h) h ≡ h
+silent : (a : Heard) (h : Head) → ((ea : Bool) → a ≡ heard.Ea ea → ⊥) → afterAcknowledge (acknowledgeAnswer a h) h ≡ h
 silent (heard.Refused e) h k = refl
 silent heard.Nothing h k = refl
 silent (heard.Ea ea) h k = absurd (k ea refl)
@@ -196,7 +196,7 @@ calm {i} {w} t (headReads foreign bs r after d c) k =
     }
 calm {i} {w} t (headReads (sent q) bs r after d c) k =
     record {
-      head = inl (head-now t bs r after c ∙ silent (heardIn i (readFrame bs)) (headIn w) k);
+      head = inl (head-now t bs r after c ∙ silent (eaTold i bs) (headIn w) k);
       bit = refl;
       answers = λ p a y. inl y;
       requests = λ q f y. inl y;

@@ -6,9 +6,8 @@ use mathlib.Core.Path.{_≡_, refl, ap, _∙_}
 use mathlib.Core.Logic.{_⊎_, inl, inr}
 use mathlib.Core.List.{List, [], _∷_, _++_}
 use lib.ListN.{take-append-drop}
-use Rattle.codec.specs.Frame.{readFrame}
 use Rattle.error_entry.specs.declared.ErrorEntry.{ErrorEntry}
-use Rattle.reporter.specs.Rules.{opens, withBatch, batchLength, Head, opened, heardIn, eaAnswer, afterRead}
+use Rattle.reporter.specs.Rules.{opens, withBatch, batchLength, Head, opened, eaAnswer, afterAcknowledge, eaTold}
 use Rattle.reporter.specs.declared.ReadAnswer.{ReadAnswer}
 use Rattle.reporter.specs.declared.acknowledge.Heard.the-variants as heard
 use Rattle.signaling.specs.Calls.{Origin, sent, Event, headRead, World, Step, headReads}
@@ -47,35 +46,35 @@ opened-entries h = open-entries h (h .batch) (h .waiting) refl refl
 -- ---- the head's reading
 
 -- a request that carries this bit
-pub head-hears : {i : ℕ} {w v : World} {o : Origin} {bs : List ℕ} {r : ReadAnswer} {x : Bool} → heardIn i (readFrame bs) ≡ heard.Ea x
+pub head-hears : {i : ℕ} {w v : World} {o : Origin} {bs : List ℕ} {r : ReadAnswer} {x : Bool} → eaTold i bs ≡ heard.Ea x
     → Held i w
     → Step i w (headRead o bs r) v
-    → headIn v ≡ afterRead (eaAnswer x (headIn w)) (headIn w)
+    → headIn v ≡ afterAcknowledge (eaAnswer x (headIn w)) (headIn w)
 head-hears me t (headReads o bs r after d c) = head-now t bs r after c ∙ rw me
 
 -- a head with no open batch
 abbrev pub shut : Head → Head
 shut h = withBatch [] h
 
-closed-by : (h : Head) (b : List ErrorEntry) → h .batch ≡ b → afterRead (eaAnswer (h .en) h) h ≡ shut h
+closed-by : (h : Head) (b : List ErrorEntry) → h .batch ≡ b → afterAcknowledge (eaAnswer (h .en) h) h ≡ shut h
 unfolding eaAnswer
 closed-by h [] eb =
-    let same : afterRead (eaAnswer (h .en) h) h ≡ h = rw eb in
+    let same : afterAcknowledge (eaAnswer (h .en) h) h ≡ h = rw eb in
     same ∙ ap (λ (b : List ErrorEntry). withBatch b h) eb
 closed-by h (x ∷ b) eb = rw (eb, beq-same (h .en))
 
 -- a request that carries EN leaves no batch open
-pub closed : (h : Head) → afterRead (eaAnswer (h .en) h) h ≡ shut h
+pub closed : (h : Head) → afterAcknowledge (eaAnswer (h .en) h) h ≡ shut h
 closed h = closed-by h (h .batch) refl
 
 kept-by : (h : Head) (w : List ErrorEntry) → h .waiting ≡ w
-    → afterRead (eaAnswer (h .en) (opened (shut h))) (opened (shut h)) ≡ opened (shut h)
+    → afterAcknowledge (eaAnswer (h .en) (opened (shut h))) (opened (shut h)) ≡ opened (shut h)
 unfolding opened eaAnswer
 kept-by h [] ew = simp ew
 kept-by h (x ∷ w) ew = simp (ew, beq-not (h .en))
 
 -- and one from before the next batch opened does not close that
-kept : (h : Head) → afterRead (eaAnswer (h .en) (opened (shut h))) (opened (shut h)) ≡ opened (shut h)
+kept : (h : Head) → afterAcknowledge (eaAnswer (h .en) (opened (shut h))) (opened (shut h)) ≡ opened (shut h)
 kept h = kept-by h (h .waiting) refl
 
 -- ---- a head at rest
@@ -102,7 +101,7 @@ module _ {i : ℕ} {h : Head} where
   rests = quietly (Resting i h) quiet-rests (no-repeat (Resting i h))
 
 -- the request that closed the batch closes nothing more
-module _ {i : ℕ} (h : Head) {q : ℕ} {bs : List ℕ} (me : heardIn i (readFrame bs) ≡ heard.Ea (h .en)) where
+module _ {i : ℕ} (h : Head) {q : ℕ} {bs : List ℕ} (me : eaTold i bs ≡ heard.Ea (h .en)) where
   again-rests : (w v : World) (x : Event) → Step i w x v → RequestAgain q bs x → Resting i (shut h) w → Resting i (shut h) v
   again-rests w v x s k y =
       let read : Step i w (headRead (sent q) bs (k .0)) v = rw (k .1) at s in

@@ -14,13 +14,13 @@ use Rattle.section.specs.declared.WriteAnswer.the-variants as write
 use Rattle.codec.specs.Frame.{readFrame}
 use Rattle.reporter.specs.Calls as reporter
 use Rattle.reporter.specs.Layout.{headOf}
-use Rattle.reporter.specs.Rules.{Head, freshHead, raiseAnswer, opened, answerFrame, afterAnswer, heardIn, heardAnswer, afterRead}
+use Rattle.reporter.specs.Rules.{Head, freshHead, raiseAnswer, opened, answerFrame, afterAnswer, acknowledgeAnswer, afterAcknowledge, eaTold}
 use Rattle.reporter.specs.declared.AnswerFields.{AnswerFields}
 use Rattle.reporter.specs.declared.ReadAnswer.{ReadAnswer}
 use Rattle.reporter.specs.declared.acknowledge.Heard.the-variants as heard
 use Rattle.collector.specs.Calls as collector
 use Rattle.collector.specs.Layout.{boxOf, accountOf}
-use Rattle.collector.specs.Rules.{saidIn, Account, statusPayload, readAnswer, requestFrame}
+use Rattle.collector.specs.Rules.{Account, readAnswer, requestFrame, statusIn}
 use Rattle.collector.specs.declared.ReadAnswer.{ReadAnswer as BoxReadAnswer}
 use Rattle.collector.specs.declared.ReadAnswer.the-variants as box
 use Rattle.collector.specs.declared.RequestAnswer.{RequestAnswer}
@@ -61,9 +61,9 @@ module _ {i : ℕ} {w : World} (t : Held i w) where
       answer-written (t .inv) n written (rw (t .head) at (answer-says f n after target written sizes c))
 
   pub head-now : (bs : List ℕ) (r : ReadAnswer) (after : List ℕ) → reporter.Reads bs r (w .head) after
-      → headOf after ≡ afterRead (heardAnswer (heardIn i (readFrame bs)) (headIn w)) (headIn w)
+      → headOf after ≡ afterAcknowledge (acknowledgeAnswer (eaTold i bs) (headIn w)) (headIn w)
   head-now bs r after c =
-      c .head ∙ ap (λ (x : ReadAnswer). afterRead x h) (c .answer ∙ ap (λ (k : ℕ). heardAnswer (heardIn k (readFrame bs)) h) (rw (t .head) (t .inv .id)))
+      c .head ∙ ap (λ (x : ReadAnswer). afterAcknowledge x h) (c .answer ∙ ap (λ (k : ℕ). acknowledgeAnswer (eaTold k bs) h) (rw (t .head) (t .inv .id)))
 
   head-read-keeps : (from : Origin) (bs : List ℕ) (r : ReadAnswer)
       → Delivered 240 from bs (tally i (w .log) .requests)
@@ -79,7 +79,7 @@ module _ {i : ℕ} {w : World} (t : Held i w) where
   unfolding readAnswer enSaid batchSaid
   books p bs after d c =
       let me = t .inv .source p bs (d .1) in
-      let y = why-booked (saidIn (statusPayload bs)) o (rw me at (c .answer)) in
+      let y = why-booked (statusIn bs) o (rw me at (c .answer)) in
       let inv : Inv i (y .place .ea) (y .place .book) (tally i (w .log)) = rw (y .known) at (t .inv) in
       rw (c .box .accounts i, read-here i bs (boxOf (w .box)) me, y .known)
       (box-books inv p bs (d .0) (d .1) (beq-false _ _ (y .fresh)) (y .room))
@@ -99,12 +99,12 @@ module _ {i : ℕ} {w : World} (t : Held i w) where
   -- what is sent tells the head EA, if it tells it anything
   pub request-says : (j : ℕ) (f : RequestFields) (n : ℕ) (target written : List ℕ) → length (f .«source_mac» .0) ≡ 6
       → collector.Requests (node j) f (requesting.Written n) (w .box) target written
-      → (x : Bool) → heardIn i (readFrame (take n written)) ≡ heard.Ea x → x ≡ eaOf (placeFor i w)
+      → (x : Bool) → eaTold i (take n written) ≡ heard.Ea x → x ≡ eaOf (placeFor i w)
   request-says j f n target written six c x me =
       let y = requested-frame j f (accountOf (w .box) j) target n (c .answer) in
       let ea = y .place .ea in
       let octets : take n written ≡ requestFrame j f ea = rw (c .holds) (y .octets) in
-      let mine : heardIn i (readFrame (requestFrame j f ea)) ≡ heard.Ea x = rw octets at me in
+      let mine : eaTold i (requestFrame j f ea) ≡ heard.Ea x = rw octets at me in
       either (eqb j i)
       (λ here.
       let same : j ≡ i = eqb-true j i here in
@@ -148,7 +148,7 @@ keeps {i} {w} t (answer f r after target written sizes c) =
     record { head = c .head ∙ ap (afterAnswer r) (t .head); inv = answer-keeps t f r after target written sizes c }
 keeps {i} {w} t (headReads from bs r after d c) =
     record {
-      head = head-now t bs r after c ∙ ap (λ (h : Head). afterRead (heardAnswer (heardIn i (readFrame bs)) h) h) (t .head);
+      head = head-now t bs r after c ∙ ap (λ (h : Head). afterAcknowledge (acknowledgeAnswer (eaTold i bs) h) h) (t .head);
       inv = head-read-keeps t from bs r d;
     }
 keeps {i} {w} t (register j r after c) =

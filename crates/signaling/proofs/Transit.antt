@@ -9,9 +9,8 @@ use mathlib.Core.Option.{some}
 use native.Mathlib.Omega.{arith}
 use lib.ListN.{length, getElem?, length-append}
 use Rattle.octets.proofs.Order.{le-or-lt}
-use Rattle.codec.specs.Frame.{readFrame}
 use Rattle.error_entry.specs.declared.ErrorEntry.{ErrorEntry}
-use Rattle.reporter.specs.Rules.{heardIn}
+use Rattle.reporter.specs.Rules.{eaTold}
 use Rattle.reporter.specs.declared.acknowledge.Heard.the-variants as heard
 use Rattle.signaling.proofs.Facts.{same-or-not, not-not, opposite, at-snoc, at-lt}
 use Rattle.signaling.proofs.Invariant.{enSaid, batchSaid, Answers, Requests}
@@ -110,7 +109,7 @@ module _ {i : ℕ} {en ea : Bool} {batch : List ErrorEntry} {sent : List (List �
       }
 
   -- a request to this head carries EA; one to another head says nothing to it
-  pub requests-send : (bs : List ℕ) → ((x : Bool) → heardIn i (readFrame bs) ≡ heard.Ea x → x ≡ ea)
+  pub requests-send : (bs : List ℕ) → ((x : Bool) → eaTold i bs ≡ heard.Ea x → x ≡ ea)
       → Requests i en ea batch (sent ++ (bs ∷ [])) at turned
   requests-send bs says =
       record {
@@ -137,7 +136,7 @@ module _ {i : ℕ} {en ea : Bool} {batch : List ErrorEntry} {sent : List (List �
       }
 
   -- a request to this head whose bit is EN was sent after the batch was booked
-  pub requests-fresh : (q : ℕ) (f : List ℕ) → at ≤ q → getElem? sent q ≡ some f → heardIn i (readFrame f) ≡ heard.Ea en
+  pub requests-fresh : (q : ℕ) (f : List ℕ) → at ≤ q → getElem? sent q ≡ some f → eaTold i f ≡ heard.Ea en
       → (ea ≡ en) × (turned ≤ q)
   requests-fresh q f hq e me =
       elim (same-or-not ea en) [

@@ -24,7 +24,7 @@ use Rattle.codec.specs.declared.FrameAnswer.the-variants as frame
 use Rattle.error_entry.specs.declared.ErrorEntry.{ErrorEntry}
 use Rattle.reporter.specs.Calls as reporter
 use Rattle.reporter.specs.Layout.{headOf}
-use Rattle.reporter.specs.Rules.{whenWritten, whenRaised, Head, freshHead, raiseAnswer, afterRaise, opens, afterAnswer, heardIn, heardAnswer, afterRead}
+use Rattle.reporter.specs.Rules.{whenWritten, whenRaised, Head, freshHead, raiseAnswer, afterRaise, opens, afterAnswer, acknowledgeAnswer, afterAcknowledge, eaTold}
 use Rattle.reporter.specs.declared.AnswerFields.{AnswerFields}
 use Rattle.reporter.specs.declared.NewAnswer.the-variants.{Made}
 use Rattle.reporter.specs.declared.RaiseAnswer.{RaiseAnswer}
@@ -163,7 +163,7 @@ abbrev pub raises : ErrorEntry → Head → Head
 raises e h = afterRaise (raiseAnswer e h) e h
 
 abbrev pub hears : ℕ → List ℕ → Head → Head
-hears i bs h = afterRead (heardAnswer (heardIn i (readFrame bs)) h) h
+hears i bs h = afterAcknowledge (acknowledgeAnswer (eaTold i bs) h) h
 
 abbrev pub answers : WriteAnswer → ℕ → Ruled → Ruled
 answers r next s =
@@ -264,7 +264,7 @@ eaOf (some p) = p .ea
 
 -- What the box's host may send under 240 on the line of the requests: any octets, as long as those that give head i an EA give the box's
 abbrev pub Tells : ℕ → List ℕ → List ℕ → Type 0
-Tells i s bs = (ea : Bool) → heardIn i (readFrame bs) ≡ heard.Ea ea → ea ≡ eaOf (accountOf s i)
+Tells i s bs = (ea : Bool) → eaTold i bs ≡ heard.Ea ea → ea ≡ eaOf (accountOf s i)
 
 -- One call between the head with ID i and the box, with its event: "the head's Raise, Answer and reading, and the box's registering,
 -- reading, request and Take, these for any ID"; or a frame that the box's host sends. What a call leaves is what its contract says; the other state stays.
@@ -340,8 +340,8 @@ pub record Demand3 : Type 0 where
 
 pub record FlagsTell : Type 0 where
   -- a frame that carries what `flags` told is one that the host may send
-  pub tells : (i : ℕ) (s bs : List ℕ) (f : SoAFlags) → collector.Flags (node i) (flagging.Flags f) s → heardIn i (readFrame bs) ≡ heard.Ea (f .ea)
+  pub tells : (i : ℕ) (s bs : List ℕ) (f : SoAFlags) → collector.Flags (node i) (flagging.Flags f) s → eaTold i bs ≡ heard.Ea (f .ea)
       → Tells i s bs
   -- and where it refuses with 11, one that carries EA 0
-  pub unregistered : (i : ℕ) (s bs : List ℕ) → collector.Flags (node i) flagging.NotRegistered s → heardIn i (readFrame bs) ≡ heard.Ea false
+  pub unregistered : (i : ℕ) (s bs : List ℕ) → collector.Flags (node i) flagging.NotRegistered s → eaTold i bs ≡ heard.Ea false
       → Tells i s bs

@@ -1,6 +1,6 @@
--- What Demand3 and Progress ask for can be met: a list of all calls with losses, repeats and refusals that books two batches, and two exchanges. And
--- what they leave out has to be left out, three lists that lose entries: of a frame of the box's host with any EA, of one that was built before
--- a newer request, and of a StatusResponse under the head's ID that the head did not send.
+-- What Demand3 and Progress ask for can be met: a list of all calls with losses, repeats and refusals that books two batches, and two
+-- exchanges. And what they leave out has to be left out, three lists that lose entries: of a frame of the box's host with any EA, of one
+-- that was built before a newer request, and of a StatusResponse under the head's ID that the head did not send.
 -- Assumes nothing.
 use Prim.Native.Nat.{ℕ}
 use mathlib.Core.Bool.{true, false}
@@ -14,13 +14,12 @@ use Rattle.section.specs.declared.WriteAnswer.{WriteAnswer}
 use Rattle.section.specs.declared.WriteAnswer.the-variants as write
 use Rattle.frame.specs.Write.{frameBytes}
 use Rattle.frame.specs.declared.PowerlinkFrame.the-variants.{ASnd}
-use Rattle.codec.specs.Frame.{readFrame}
 use Rattle.error_entry.specs.declared.ErrorEntry.{ErrorEntry}
 use Rattle.status_response.specs.Fields.{headBytes}
 use Rattle.status_response.specs.Steps.{statusBytes}
 use Rattle.reporter.specs.Calls as reporter
 use Rattle.reporter.specs.Layout.{headOf}
-use Rattle.reporter.specs.Rules.{statusFields, answerASnd, heardIn}
+use Rattle.reporter.specs.Rules.{statusFields, answerASnd, eaTold}
 use Rattle.reporter.specs.declared.AnswerFields.{AnswerFields}
 use Rattle.reporter.specs.declared.RaiseAnswer.{RaiseAnswer}
 use Rattle.reporter.specs.declared.RaiseAnswer.the-variants.{Raised, EntryInvalid}
@@ -152,7 +151,7 @@ pub record FreeEaLoses : Type 0 where
   pub entries : accepted 7 (w .log) ≡ five
   pub place : accountOf (w .box) 7 ≡ some (record { ea = false; book = [] })
   pub frame : List ℕ
-  pub gives : heardIn 7 (readFrame frame) ≡ heard.Ea true
+  pub gives : eaTold 7 frame ≡ heard.Ea true
   pub after : List ℕ
   pub reads : reporter.Reads frame head.Closed (w .head) after
   pub left : headOf after ≡ record { id = 7; en = true; batch = []; waiting = entry ErrorCleared 0x8165 ∷ [] }
@@ -169,13 +168,14 @@ pub record BuiltAheadLoses : Type 0 where
   pub v : World
   pub before : Run 7 v
   pub frame : List ℕ
-  pub gives : heardIn 7 (readFrame frame) ≡ heard.Ea false
+  pub gives : eaTold 7 frame ≡ heard.Ea false
   pub built : Tells 7 (v .box) frame
   pub w : World
   pub onward : Onward 7 v w
   pub run : Run 7 w
   pub entries : accepted 7 (w .log) ≡ five
   pub place : accountOf (w .box) 7 ≡ some (record { ea = true; book = take 4 five })
+  pub holds : headOf (w .head) ≡ record { id = 7; en = false; batch = entry ErrorCleared 0x8165 ∷ []; waiting = [] }
   pub late : Tells 7 (w .box) frame → ⊥
   pub after : List ℕ
   pub reads : reporter.Reads frame head.Closed (w .head) after
@@ -188,7 +188,7 @@ madeStatus f =
     (statusBytes (headBytes (statusFields f false) (f .«static_error_bit_field»)) [])
 
 -- Why a StatusResponse under the head's ID comes from its Answer alone: at v the first batch is booked and closed, and EA is 1. The box reads
--- such a frame that was made by itself: nothing is booked, and EA becomes 0. The head opens the second batch, EN is 0; its answer is known,
+-- such a frame, made without the head: nothing is booked, and EA becomes 0. The head opens the second batch, EN is 0; its answer is known,
 -- and the next request, with EA 0, closes the batch. The fifth entry is then neither booked nor open nor waiting.
 pub record MadeStatusLoses : Type 0 where
   pub v : World

@@ -8,9 +8,8 @@ use mathlib.Core.List.{List, [], _++_}
 use mathlib.Core.Option.{some}
 use lib.ListN.{length}
 use Rattle.section.specs.declared.WriteAnswer.the-variants as write
-use Rattle.codec.specs.Frame.{readFrame}
 use Rattle.error_entry.specs.declared.ErrorEntry.{ErrorEntry}
-use Rattle.reporter.specs.Rules.{heardIn}
+use Rattle.reporter.specs.Rules.{eaTold}
 use Rattle.reporter.specs.declared.RaiseAnswer.the-variants.{Raised, EntryInvalid, QueueFull}
 use Rattle.reporter.specs.declared.ReadAnswer.{ReadAnswer}
 use Rattle.reporter.specs.declared.acknowledge.Heard.the-variants as heard
@@ -32,7 +31,7 @@ Quiet i (raised e Raised) = ⊥
 Quiet i (raised e EntryInvalid) = Unit {0}
 Quiet i (raised e QueueFull) = Unit {0}
 Quiet i (answered r bs) = Unit {0}
-Quiet i (headRead (sent q) bs r) = (ea : Bool) → heardIn i (readFrame bs) ≡ heard.Ea ea → ⊥
+Quiet i (headRead (sent q) bs r) = (ea : Bool) → eaTold i bs ≡ heard.Ea ea → ⊥
 Quiet i (headRead foreign bs r) = Unit {0}
 Quiet i (registered j r) = Unit {0}
 Quiet i (boxRead (sent p) bs r) = ⊥
@@ -89,7 +88,7 @@ pub record Exchange (i : ℕ) (w v : World) : Type 0 where
   pub headReads : Step i w₆ (headRead (sent q) requestRead headSays) w₇
   pub newRequest : length (requestsSent i (w₄ .log)) ≤ q
   pub ea : Bool
-  pub mine : heardIn i (readFrame requestRead) ≡ heard.Ea ea
+  pub mine : eaTold i requestRead ≡ heard.Ea ea
   -- and repeats of the request before the head writes again
   pub quiet₄ : Quietly i (RequestAgain q requestRead) w₇ v
 
