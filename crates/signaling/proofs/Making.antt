@@ -15,7 +15,7 @@ use Rattle.section.specs.Write.{writeAnswer, overwritten}
 use Rattle.section.specs.declared.WriteAnswer.the-variants as write
 use Rattle.error_entry.specs.declared.ErrorEntry.{ErrorEntry}
 use Rattle.reporter.specs.Calls as reporter
-use Rattle.reporter.specs.Layout.{reporterLength, headOf, newBytes, raiseBytes, answerBytes, acknowledgeBytes}
+use Rattle.reporter.specs.Layout.{reporterLength, headOf, newBytes, raiseBytes, acknowledgeBytes}
 use Rattle.reporter.specs.Rules.{Head, freshHead, newAnswer, raiseAnswer, afterRaise, opened, answerFrame, answerLength, acknowledgeAnswer, afterAcknowledge, eaTold}
 use Rattle.reporter.specs.declared.AnswerFields.{AnswerFields}
 use Rattle.reporter.specs.declared.NewAnswer.the-variants.{Made}
@@ -115,43 +115,43 @@ starting i ok free =
     }
 
 module _ {i : ℕ} {s b : List ℕ} {l : Log} {h : Head} {p : Account} (k : Knows i s b l h p) where
+  -- a call of the head: the box stays
+  abbrev by-head : {x : Event} {after : List ℕ} {g : Head} → Step i (world s b l) x (world after b (x ∷ l)) → length after ≡ reporterLength
+      → headOf after ≡ g → ruled i (x ∷ l) ≡ g → Next i s b l x g p
+  by-head {after} step size means rules =
+      record {
+        state = after;
+        box = b;
+        step = step;
+        knows = record { headSize = size; boxSize = k .boxSize; means = means; rules = rules; place = k .place };
+      }
+
+  -- a call of the box, or a frame of its host: the head stays
+  abbrev by-box : {x : Event} {after : List ℕ} {q : Account} → Step i (world s b l) x (world s after (x ∷ l)) → length after ≡ collectorLength
+      → accountOf after i ≡ some q → ruled i (x ∷ l) ≡ ruled i l → Next i s b l x h q
+  by-box {after} step size place same =
+      record {
+        state = s;
+        box = after;
+        step = step;
+        knows = record { headSize = k .headSize; boxSize = size; means = k .means; rules = same ∙ k .rules; place = place };
+      }
+
   -- ---- the head's calls
 
   pub raising : (e : ErrorEntry) (r : RaiseAnswer) → Numbers e → raiseAnswer e h ≡ r → Next i s b l (raised e r) (afterRaise r e h) p
   raising e r n ok =
       let q : raiseAnswer e (headOf s) ≡ r = rw (k .means) ok in
       let c = rw q at (raises s e (k .headSize) n) in
-      record {
-        state = raiseBytes r e s;
-        box = b;
-        step = raise e r (raiseBytes r e s) n (c .0);
-        knows = record {
-          headSize = c .1;
-          boxSize = k .boxSize;
-          means = c .0 .head ∙ rw (k .means);
-          rules = rw (k .rules, ok);
-          place = k .place;
-        };
-      }
+      by-head (raise e r (raiseBytes r e s) n (c .0)) (c .1) (c .0 .head ∙ rw (k .means)) (rw (k .rules, ok))
 
   pub answering : (f : AnswerFields) → AnswerSizes f → answerLength (length (opened h .batch)) ≤ 200
       → Next i s b l (answered (write.Written (length (answerFrame f (opened h)))) (held (answerFrame f (opened h)))) (opened h) p
   answering f sizes small =
       let a = rw (k .means) at (answers s f target (k .headSize)) in
       let fits : length (answerFrame f (opened h)) ≤ 200 = rw (rw (k .means) at (a .0 .size)) small in
-      let r = rw (is-written (answerFrame f (opened h)) fits, is-held (answerFrame f (opened h)) fits) at a in
-      record {
-        state = answerBytes (write.Written (length (answerFrame f (opened h)))) s;
-        box = b;
-        step = answer f _ _ target (held (answerFrame f (opened h))) sizes (r .0);
-        knows = record {
-          headSize = r .1;
-          boxSize = k .boxSize;
-          means = r .0 .head ∙ rw (k .means);
-          rules = rw (k .rules);
-          place = k .place;
-        };
-      }
+      let c = rw (is-written (answerFrame f (opened h)) fits, is-held (answerFrame f (opened h)) fits) at a in
+      by-head (answer f _ _ target (held (answerFrame f (opened h))) sizes (c .0)) (c .1) (c .0 .head ∙ rw (k .means)) (rw (k .rules))
 
   pub hearing : (o : Origin) (bs : List ℕ) (r : ReadAnswer) → Delivered 240 o bs (tally i l .requests) → h .id ≡ i
       → acknowledgeAnswer (eaTold i bs) h ≡ r → Next i s b l (headRead o bs r) (afterAcknowledge r h) p
@@ -159,18 +159,7 @@ module _ {i : ℕ} {s b : List ℕ} {l : Log} {h : Head} {p : Account} (k : Know
       let q : acknowledgeAnswer (eaTold (headOf s .id) bs) (headOf s) ≡ r =
       rw (k .means) (ap (λ (n : ℕ). acknowledgeAnswer (eaTold n bs) h) same ∙ ok) in
       let c = rw q at (hears s bs (k .headSize)) in
-      record {
-        state = acknowledgeBytes r s;
-        box = b;
-        step = headReads o bs r (acknowledgeBytes r s) given (c .0);
-        knows = record {
-          headSize = c .1;
-          boxSize = k .boxSize;
-          means = c .0 .head ∙ rw (k .means);
-          rules = rw (k .rules, ok);
-          place = k .place;
-        };
-      }
+      by-head (headReads o bs r (acknowledgeBytes r s) given (c .0)) (c .1) (c .0 .head ∙ rw (k .means)) (rw (k .rules, ok))
 
   -- ---- the box's calls
 
@@ -182,41 +171,30 @@ module _ {i : ℕ} {s b : List ℕ} {l : Log} {h : Head} {p : Account} (k : Know
     pub knowing : (q : ℕ) → Delivered i (sent q) bs (tally i l .answers) → Octets bs → bookAnswer (g .en) (g .batch) p ≡ box.Known
         → Next i s b l (boxRead (sent q) bs box.Known) h p
     knowing q given octets ok =
-        let r = rw (read-as, ok) at (books b bs (k .boxSize) octets) in
-        record {
-          state = s;
-          box = b;
-          step = boxReads (sent q) bs box.Known b given (r .0);
-          knows = record { headSize = k .headSize; boxSize = k .boxSize; means = k .means; rules = k .rules; place = k .place };
-        }
+        let c = rw (read-as, ok) at (books b bs (k .boxSize) octets) in
+        by-box (boxReads (sent q) bs box.Known b given (c .0)) (k .boxSize) (k .place) refl
 
     -- the box books it, wherever it comes from
     pub books-it : Octets bs → bookAnswer (g .en) (g .batch) p ≡ box.Booked
         → collector.Reads bs box.Booked b (layout.responseBytes box.Booked bs b)
         × Knows i s (layout.responseBytes box.Booked bs b) l h (withEa (g .en) (withBook (p .book ++ g .batch) p))
     books-it octets ok =
-        let r = rw (read-as, ok) at (books b bs (k .boxSize) octets) in (
-          r .0,
+        let c = rw (read-as, ok) at (books b bs (k .boxSize) octets) in (
+          c .0,
           record {
             headSize = k .headSize;
-            boxSize = r .1;
+            boxSize = c .1;
             means = k .means;
             rules = k .rules;
-            place = r .0 .box .accounts i ∙ rw (says .status, from, eq-eqb i i refl, k .place, says .read, says .en, says .entries);
+            place = c .0 .box .accounts i ∙ rw (says .status, from, eq-eqb i i refl, k .place, says .read, says .en, says .entries);
           },
         )
 
     pub booking : (q : ℕ) → Delivered i (sent q) bs (tally i l .answers) → Octets bs → bookAnswer (g .en) (g .batch) p ≡ box.Booked
         → Next i s b l (boxRead (sent q) bs box.Booked) h (withEa (g .en) (withBook (p .book ++ g .batch) p))
     booking q given octets ok =
-        let r = books-it octets ok in
-        let n : Knows i s (layout.responseBytes box.Booked bs b) l h (withEa (g .en) (withBook (p .book ++ g .batch) p)) = r .1 in
-        record {
-          state = s;
-          box = layout.responseBytes box.Booked bs b;
-          step = boxReads (sent q) bs box.Booked (layout.responseBytes box.Booked bs b) given (r .0);
-          knows = record { headSize = n .headSize; boxSize = n .boxSize; means = n .means; rules = n .rules; place = n .place };
-        }
+        let c = books-it octets ok in
+        by-box (boxReads (sent q) bs box.Booked _ given (c .0)) (c .1 .boxSize) (c .1 .place) refl
 
   -- a frame that is no StatusResponse
   pub passing : (o : Origin) (bs : List ℕ) → Delivered i o bs (tally i l .answers) → responseIn bs ≡ boxHears.Other
@@ -224,33 +202,17 @@ module _ {i : ℕ} {s b : List ℕ} {l : Log} {h : Head} {p : Account} (k : Know
   unfolding readAnswer
   passing o bs given other =
       let e : box.NotStatusResponse ≡ readAnswer bs (boxOf b) = rw other in
-      record {
-        state = s;
-        box = b;
-        step =
-            boxReads o bs box.NotStatusResponse b given
-            (record { answer = e; cause = ap readCause e; box = record { accounts = λ j. refl; vacant = refl }; bytes = refl });
-        knows = record { headSize = k .headSize; boxSize = k .boxSize; means = k .means; rules = k .rules; place = k .place };
-      }
+      let c : collector.Reads bs box.NotStatusResponse b b =
+      record { answer = e; cause = ap readCause e; box = record { accounts = λ j. refl; vacant = refl }; bytes = refl } in
+      by-box (boxReads o bs box.NotStatusResponse b given c) (k .boxSize) (k .place) refl
 
   -- another head is registered, and has a place of its own
   pub registering : (j : ℕ) → eqb i j ≡ false → registerAnswer j (boxOf b) ≡ Registered
       → (n : Next i s b l (registered j Registered) h p) × (accountOf (n .box) j ≡ some freshAccount)
   registering j away ok =
-      let r = rw ok at (registers b j (k .boxSize)) in (
-        record {
-          state = s;
-          box = registerBytes Registered j b;
-          step = register j Registered (registerBytes Registered j b) (r .0);
-          knows = record {
-            headSize = k .headSize;
-            boxSize = r .1;
-            means = k .means;
-            rules = k .rules;
-            place = r .0 .box .accounts i ∙ rw away (k .place);
-          };
-        },
-        r .0 .box .accounts j ∙ rw (eq-eqb j j refl),
+      let c = rw ok at (registers b j (k .boxSize)) in (
+        by-box (register j Registered (registerBytes Registered j b) (c .0)) (c .1) (c .0 .box .accounts i ∙ rw away (k .place)) refl,
+        c .0 .box .accounts j ∙ rw (eq-eqb j j refl),
       )
 
   pub asking : (j : ℕ) (q : Account) → accountOf b j ≡ some q → (f : RequestFields) → length (f .«source_mac» .0) ≡ 6
@@ -258,37 +220,16 @@ module _ {i : ℕ} {s b : List ℕ} {l : Log} {h : Head} {p : Account} (k : Know
   asking j q there f six =
       let a = rw there at (asks b j f target) in
       let fits : length (requestFrame j f (q .ea)) ≤ 200 = rw (a .size (q .ea)) (omega arith) in
-      let r = rw (is-written (requestFrame j f (q .ea)) fits, is-held (requestFrame j f (q .ea)) fits) at a in
-      record {
-        state = s;
-        box = b;
-        step = request j f _ target (held (requestFrame j f (q .ea))) six r;
-        knows = record { headSize = k .headSize; boxSize = k .boxSize; means = k .means; rules = k .rules; place = k .place };
-      }
+      let c = rw (is-written (requestFrame j f (q .ea)) fits, is-held (requestFrame j f (q .ea)) fits) at a in
+      by-box (request j f _ target (held (requestFrame j f (q .ea))) six c) (k .boxSize) (k .place) refl
 
   pub handing : (e : ErrorEntry) (es : List ErrorEntry) → p .book ≡ e ∷ es → Next i s b l (taken i (taking.Taken e)) h (withBook es p)
   handing e es first =
-      let r = rw (k .place, first) at (hands b i (k .boxSize)) in
-      record {
-        state = s;
-        box = takeBytes (taking.Taken e) i b;
-        step = takes i (taking.Taken e) (takeBytes (taking.Taken e) i b) (r .0);
-        knows = record {
-          headSize = k .headSize;
-          boxSize = r .1;
-          means = k .means;
-          rules = k .rules;
-          place = r .0 .box .accounts i ∙ rw (eq-eqb i i refl, k .place, first);
-        };
-      }
+      let c = rw (k .place, first) at (hands b i (k .boxSize)) in
+      by-box (takes i (taking.Taken e) (takeBytes (taking.Taken e) i b) (c .0)) (c .1)
+      (c .0 .box .accounts i ∙ rw (eq-eqb i i refl, k .place, first))
+      refl
 
-  -- ---- the frames of the box's host
-
+  -- a frame of the box's host
   pub hosting : (bs : List ℕ) → eaTold i bs ≡ heard.Ea (p .ea) → Next i s b l (hosted bs) h p
-  hosting bs tells =
-      record {
-        state = s;
-        box = b;
-        step = hosts bs (λ ea e. rw (k .place) cc);
-        knows = record { headSize = k .headSize; boxSize = k .boxSize; means = k .means; rules = k .rules; place = k .place };
-      }
+  hosting bs tells = by-box (hosts bs (λ ea e. rw (k .place) cc)) (k .boxSize) (k .place) refl
