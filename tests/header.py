@@ -122,13 +122,13 @@ CAUSE_NAMES = {
 
 # Lists of values: the definition, and what its constants begin with. What all kinds of frames share has no kind.
 VALUES = [
-    ('numbers/specs/Values.antt', r'socNumbers f p', 'SOC_'),
-    ('numbers/specs/Values.antt', r'preqNumbers f p', 'PREQ_'),
-    ('numbers/specs/Values.antt', r'presNumbers f p', 'PRES_'),
-    ('numbers/specs/Values.antt', r'soaNumbers f p', 'SOA_'),
-    ('numbers/specs/Values.antt', r'asndNumbers f p', 'ASND_'),
-    ('numbers/specs/Values.antt', r'statusNumbers f', 'STATUS_'),
-    ('numbers/specs/Values.antt', r'entryNumbers e', 'ENTRY_'),
+    ('c_values/specs/Values.antt', r'socNumbers f p', 'SOC_'),
+    ('c_values/specs/Values.antt', r'preqNumbers f p', 'PREQ_'),
+    ('c_values/specs/Values.antt', r'presNumbers f p', 'PRES_'),
+    ('c_values/specs/Values.antt', r'soaNumbers f p', 'SOA_'),
+    ('c_values/specs/Values.antt', r'asndNumbers f p', 'ASND_'),
+    ('c_values/specs/Values.antt', r'statusNumbers f', 'STATUS_'),
+    ('c_values/specs/Values.antt', r'entryNumbers e', 'ENTRY_'),
     ('powerlink/specs/Reading.antt', r'plAfter \(pl.Read h\) before', 'PL_'),
 ]
 SHARED = ['MESSAGE_TYPE', 'DESTINATION', 'SOURCE', 'PAYLOAD_START', 'PAYLOAD_LEN']

@@ -22,7 +22,7 @@ use Rattle.collector.specs.declared.RegisterAnswer.{RegisterAnswer}
 use Rattle.collector.specs.declared.RequestAnswer.{RequestAnswer}
 use Rattle.collector.specs.declared.RequestFields.{RequestFields}
 use Rattle.collector.specs.declared.TakeAnswer.{TakeAnswer}
-use Rattle.numbers.specs.Answers.{lengthAfter, octetAfter, unnamedAnswer}
+use Rattle.c_values.specs.Answers.{lengthAfter, octetAfter, unnamedAnswer}
 use Rattle.powerlink.specs.Collecting.{CollectorRegisters, bookOutcome, CollectorReads, eaAfter, erAfter, CollectorFlags, requestWriting, requestTold, requestTarget, requestLength, requestOctet, CollectorRequests, takenAfter, CollectorTakes}
 use Rattle.powerlink.specs.Given.{node}
 use Rattle.powerlink.specs.Writing.{unnamed, codedAnswer, WritesCoded}

@@ -28,8 +28,8 @@ use Rattle.status_response.specs.declared.fields.DeserializedStatus.{Deserializ
 use Rattle.status_response.specs.declared.fields.StatusAnswer.the-variants as status
 use Rattle.status_response.specs.declared.fields.StatusFields.{StatusFields}
 use Rattle.status_response.specs.declared.walk.EntryStep.the-variants as step
-use Rattle.numbers.specs.Answers.{errorOctet}
-use Rattle.numbers.specs.Values.{frameNumbers, statusNumbers, entryNumbers}
+use Rattle.c_values.specs.Answers.{errorOctet}
+use Rattle.c_values.specs.Values.{frameNumbers, statusNumbers, entryNumbers}
 use Rattle.powerlink.specs.Reading.{FrameRead, SectionRead, EthRead, PlRead, StatusRead, FieldRead, EntryRead, StepRead}
 
 -- what `refusal` tells of an error

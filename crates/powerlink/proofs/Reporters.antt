@@ -26,7 +26,7 @@ use Rattle.reporter.specs.declared.AnswerFields.{AnswerFields}
 use Rattle.reporter.specs.declared.NewAnswer.{NewAnswer}
 use Rattle.reporter.specs.declared.RaiseAnswer.{RaiseAnswer}
 use Rattle.reporter.specs.declared.ReadAnswer.{ReadAnswer}
-use Rattle.numbers.specs.Answers.{lengthAfter, octetAfter, unnamedAnswer}
+use Rattle.c_values.specs.Answers.{lengthAfter, octetAfter, unnamedAnswer}
 use Rattle.powerlink.specs.Reporting.{ReporterMakes, RaisesBy, answerWriting, ReporterAnswers, readOutcome, ReporterReads}
 use Rattle.powerlink.specs.Given.{node}
 use Rattle.powerlink.specs.Writing.{octets, unnamed}

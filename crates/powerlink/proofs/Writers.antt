@@ -12,7 +12,7 @@ use Rattle.types.specs.declared.hal.PowerlinkError.the-variants.{BufferTooShort
 use Rattle.section.specs.Write.{writeAnswer, writeCause, Writes}
 use Rattle.section.specs.declared.WriteAnswer.{WriteAnswer}
 use Rattle.section.specs.declared.WriteAnswer.the-variants.{Written, Refused}
-use Rattle.numbers.specs.Answers.{lengthAfter, octetAfter, unnamedAnswer}
+use Rattle.c_values.specs.Answers.{lengthAfter, octetAfter, unnamedAnswer}
 use Rattle.powerlink.specs.Writing.{WritesTo, Coded, octets, unnamed, WritesCoded}
 
 -- what `written_or` tells of an answer

@@ -21,8 +21,8 @@ use Rattle.collector.specs.declared.RequestAnswer.the-variants as requesting
 use Rattle.collector.specs.declared.RequestFields.{RequestFields}
 use Rattle.collector.specs.declared.TakeAnswer.{TakeAnswer}
 use Rattle.collector.specs.declared.TakeAnswer.the-variants as taking
-use Rattle.numbers.specs.Answers.{errorOctet}
-use Rattle.numbers.specs.Values.{entryNumbers}
+use Rattle.c_values.specs.Answers.{errorOctet}
+use Rattle.c_values.specs.Values.{entryNumbers}
 use Rattle.powerlink.specs.Given.{mac}
 use Rattle.powerlink.specs.Writing.{Coded, octets, stated, codedAnswer, codedTarget}
 

@@ -28,7 +28,7 @@ use Rattle.status_response.specs.declared.fields.StatusAnswer.{StatusAnswer}
 use Rattle.status_response.specs.declared.fields.StatusAnswer.the-variants as status
 use Rattle.status_response.specs.declared.walk.EntryStep.{EntryStep}
 use Rattle.status_response.specs.declared.walk.EntryStep.the-variants as step
-use Rattle.numbers.specs.Values.{frameNumbers, statusNumbers, entryNumbers}
+use Rattle.c_values.specs.Values.{frameNumbers, statusNumbers, entryNumbers}
 
 abbrev pub frameAfter : FrameAnswer → PayloadPlace → List ℕ → List ℕ
 frameAfter (Refused e) p before = before

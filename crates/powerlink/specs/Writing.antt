@@ -20,7 +20,7 @@ use Rattle.types.specs.declared.states.NmtStateAnswer.{NmtStateAnswer}
 use Rattle.types.specs.declared.states.NmtStateAnswer.the-variants as state
 use Rattle.section.specs.Write.{writeAnswer, writeCause, overwritten}
 use Rattle.section.specs.declared.WriteAnswer.{WriteAnswer}
-use Rattle.numbers.specs.Answers.{lengthAfter, octetAfter, unnamedAnswer}
+use Rattle.c_values.specs.Answers.{lengthAfter, octetAfter, unnamedAnswer}
 
 -- r is the number of what writing bs comes to, t′ what the target t then holds, and n′ the length that is told where n stood
 pub record WritesTo (bs : List ℕ) (r : ℕ) (t t′ : List ℕ) (n n′ : ℕ) : Type 0 where

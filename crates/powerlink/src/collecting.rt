@@ -1,5 +1,8 @@
 // The calls of a collector: the managing node's side of error signaling.
 ghost use Rattle.powerlink.specs.Collecting.{CollectorMakes, CollectorRegisters, CollectorReads, CollectorFlags, CollectorRequests, CollectorTakes, requestFields};
+use c_values::answers::refusal;
+use c_values::answers::unnamed;
+use c_values::values::entry_values;
 use collector::Collector;
 use collector::FlagsAnswer;
 use collector::ReadAnswer;
@@ -14,9 +17,6 @@ use collector::read;
 use collector::register;
 use collector::request;
 use collector::take;
-use numbers::answers::refusal;
-use numbers::answers::unnamed;
-use numbers::values::entry_values;
 use types::EPLVersion;
 use types::NodeId;
 use types::basic::MacAddress;

@@ -1,7 +1,7 @@
 // The numbers of each kind of frame, and of what stands in front of the entries of a StatusResponse, in the order in which
 // include/powerlink.h names them.
 ghost use mathlib.Core.Path.{_≡_};
-ghost use Rattle.numbers.specs.Values.{asNumber, socNumbers, preqNumbers, presNumbers, soaNumbers, asndNumbers, statusNumbers};
+ghost use Rattle.c_values.specs.Values.{asNumber, socNumbers, preqNumbers, presNumbers, soaNumbers, asndNumbers, statusNumbers};
 use codec::PayloadPlace;
 use control::asnd::ASndFrame;
 use control::soa::SoAFrame;

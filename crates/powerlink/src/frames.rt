@@ -1,15 +1,15 @@
 // Writing whole frames, as each kind's `new` makes them.
 ghost use Rattle.powerlink.specs.Given.{time, socFlagsGiven, newSoCFrame, preqFlagsGiven, newPReqFrame, presFlagsGiven, newPResWriting, soaFlagsGiven, newSoAWriting, newASndWriting};
 ghost use Rattle.powerlink.specs.Writing.{WritesTo, WritesCoded};
+use c_values::answers::padded_len;
+use c_values::answers::unnamed;
+use c_values::answers::written_or;
 use control::asnd;
 use control::asnd::ASndFrame;
 use control::soa::SoAFlags;
 use control::soa::SoAFrame;
 use control::soc::SocFlags;
 use control::soc::SocFrame;
-use numbers::answers::padded_len;
-use numbers::answers::unnamed;
-use numbers::answers::written_or;
 use poll::preq::PReqFlags;
 use poll::preq::PReqFrame;
 use poll::pres::PResFlags;

@@ -11,5 +11,5 @@ pub mod headers;
 pub mod journal;
 pub mod reading;
 pub mod reporting;
+pub mod sections;
 pub mod status;
-pub mod writing;

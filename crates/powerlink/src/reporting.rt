@@ -1,11 +1,11 @@
 // The calls of a reporter: a controlled node's side of error signaling.
 ghost use Rattle.powerlink.specs.Given.{time};
 ghost use Rattle.powerlink.specs.Reporting.{ReporterMakes, ReporterRaises, ReporterAnswers, ReporterEn, ReporterReads, answerFields};
+use c_values::answers::refusal;
+use c_values::answers::unnamed;
+use c_values::answers::written_or;
 use error_entry::EntryType;
 use error_entry::ErrorEntry;
-use numbers::answers::refusal;
-use numbers::answers::unnamed;
-use numbers::answers::written_or;
 use reporter::AnswerFields;
 use reporter::NewAnswer;
 use reporter::RaiseAnswer;

@@ -5,13 +5,13 @@ ghost use Rattle.powerlink.specs.Given.{time, entryGiven, statusWriting}
 ghost use Rattle.powerlink.specs.Reading.{StatusRead, FieldRead, EntryRead, StepRead};
 ghost use Rattle.powerlink.specs.Writing.{WritesTo, WritesCoded};
 use crate::frame_values::status_values;
+use c_values::answers::refusal;
+use c_values::answers::unnamed;
+use c_values::answers::written_or;
+use c_values::values::entry_values;
 use error_entry::EntryType;
 use error_entry::ErrorEntry;
 use error_entry::ErrorEntryAnswer;
-use numbers::answers::refusal;
-use numbers::answers::unnamed;
-use numbers::answers::written_or;
-use numbers::values::entry_values;
 use status_response::bit_field::ErrorFieldAnswer;
 use status_response::bit_field::StaticErrorBitField;
 use status_response::bit_field::field_at;

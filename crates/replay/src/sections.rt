@@ -6,11 +6,11 @@ use crate::record::long;
 use crate::record::octet;
 use crate::record::part;
 use crate::record::word;
-use powerlink::writing::powerlink_serialize_asnd;
-use powerlink::writing::powerlink_serialize_preq;
-use powerlink::writing::powerlink_serialize_pres;
-use powerlink::writing::powerlink_serialize_soa;
-use powerlink::writing::powerlink_serialize_soc;
+use powerlink::sections::powerlink_serialize_asnd;
+use powerlink::sections::powerlink_serialize_preq;
+use powerlink::sections::powerlink_serialize_pres;
+use powerlink::sections::powerlink_serialize_soa;
+use powerlink::sections::powerlink_serialize_soc;
 
 fn soc(s: &[u8], target: &mut [u8], written: &mut usize) -> u8 {
     powerlink_serialize_soc(

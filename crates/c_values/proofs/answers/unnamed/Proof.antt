@@ -3,8 +3,8 @@
 use borrow.Author.Needs.{needs}
 use mathlib.Core.Path.{refl}
 use borrow.Author.Tests.{le-leb, lt-leb}
-use Rattle.numbers.proofs.answers.unnamed.Statement.{statement}
-use Rattle.numbers.proofs.answers.unnamed.Tie as tie
+use Rattle.c_values.proofs.answers.unnamed.Statement.{statement}
+use Rattle.c_values.proofs.answers.unnamed.Tie as tie
 
 returns : tie.Need-returns
 returns c = rw (lt-leb (c .before .args .needed) (c .before .args .len) (c .if1 .taken)) (refl, refl)

@@ -8,9 +8,9 @@ use Rattle.types.specs.CauseNumbers.{unknownMessage}
 use Rattle.types.specs.Causes.{causeNumber, causeByte}
 use Rattle.types.specs.declared.hal.PowerlinkError.{PowerlinkError}
 use Rattle.types.specs.declared.hal.PowerlinkError.the-variants.{BufferTooShort, InvalidEthernetFrame, InvalidPlFrame, InvalidMessageType, InvalidNmtState, InvalidServiceId, InvalidRequestedServiceId}
-use Rattle.numbers.specs.Answers.{errorOctet}
-use Rattle.numbers.proofs.answers.refusal.Statement.{statement}
-use Rattle.numbers.proofs.answers.refusal.Tie as tie
+use Rattle.c_values.specs.Answers.{errorOctet}
+use Rattle.c_values.proofs.answers.refusal.Statement.{statement}
+use Rattle.c_values.proofs.answers.refusal.Tie as tie
 
 without : (e : PowerlinkError) (o : ℕ) → causeNumber e < unknownMessage → o ≡ errorOctet e o
 without BufferTooShort o h = refl

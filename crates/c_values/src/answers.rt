@@ -3,7 +3,7 @@ ghost use mathlib.Core.Path.{_≡_};
 ghost use Prim.Native.Nat.{max};
 ghost use Rattle.types.specs.Causes.{causeNumber};
 ghost use Rattle.section.specs.Write.{writeCause};
-ghost use Rattle.numbers.specs.Answers.{lengthAfter, errorOctet, octetAfter, unnamedAnswer};
+ghost use Rattle.c_values.specs.Answers.{lengthAfter, errorOctet, octetAfter, unnamedAnswer};
 use section::WriteAnswer;
 use types::causes::TOO_SHORT;
 use types::causes::UNKNOWN_MESSAGE;

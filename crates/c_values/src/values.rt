@@ -1,7 +1,7 @@
 // The numbers of an entry, in the order in which include/powerlink.h names them. specs/ defines those of frames and of a
 // StatusResponse's front too: `powerlink` makes these.
 ghost use mathlib.Core.Path.{_≡_};
-ghost use Rattle.numbers.specs.Values.{asNumber, entryNumbers};
+ghost use Rattle.c_values.specs.Values.{asNumber, entryNumbers};
 use error_entry::ErrorEntry;
 
 fn number(on: bool) -> u64

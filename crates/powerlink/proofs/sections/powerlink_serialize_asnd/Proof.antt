@@ -1,9 +1,9 @@
--- `writing::powerlink_serialize_asnd` meets its contract.
+-- `sections::powerlink_serialize_asnd` meets its contract.
 -- Assumes nothing.
 use borrow.Author.Needs.{needs}
 use Rattle.powerlink.proofs.Writers.{writes-coded, refuses-coded}
-use Rattle.powerlink.proofs.writing.powerlink_serialize_asnd.Statement.{statement}
-use Rattle.powerlink.proofs.writing.powerlink_serialize_asnd.Tie as tie
+use Rattle.powerlink.proofs.sections.powerlink_serialize_asnd.Statement.{statement}
+use Rattle.powerlink.proofs.sections.powerlink_serialize_asnd.Tie as tie
 
 returns : tie.Need-returns
 returns c =
