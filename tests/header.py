@@ -38,7 +38,7 @@ def constant(crate, name):
     code = code_of(crate)
     found = re.search(rf'\bconst {name}: [^=]*= ([^;]+);', code)
     if not found:
-        owner = re.search(rf'^use (\w+)::(?:\w+::)*{name};', code, re.M)
+        owner = re.search(rf'^(?:pub )?use (\w+)::(?:\w+::)*{name};', code, re.M)
         return constant(owner[1], name)
     if found[1].startswith('['):
         return [value_of(crate, item) for item in found[1].strip('[]').split(',')]
@@ -72,7 +72,7 @@ def snake(name):
 CONSTANTS = {
     'REPORTER_LEN': ('reporter', 'REPORTER_LEN'),
     'COLLECTOR_LEN': ('collector', 'COLLECTOR_LEN'),
-    'ENTRY_LEN': ('records', 'ENTRY_LEN'),
+    'ENTRY_LEN': ('error_entry', 'ENTRY_LEN'),
     'RECORD_LEN': ('journal_records', 'RECORD_LEN'),
     'JOURNAL_START_LEN': ('journal_records', 'JOURNAL_START_LEN'),
     'ETHER_TYPE': ('types', 'C_DLL_ETHERTYPE_EPL'),
@@ -93,31 +93,6 @@ CODES = {
     ('RequestedServices', 'requestedCode'): snake,
     ('PollFlags', 'priorityCode'): lambda name: 'PRIO_' + snake(name).removeprefix('PRIO_'),
     ('Modes', 'modeCode'): snake,
-}
-
-# Causes: where their numbers are said, and those whose constant is not named as their variant is.
-CAUSES = [
-    ('types/specs/Causes.antt', 'causeOf'),
-    ('reporter/specs/Rules.antt', 'newCause'),
-    ('reporter/specs/Rules.antt', 'raiseCause'),
-    ('collector/specs/Rules.antt', 'registerCause'),
-    ('collector/specs/Rules.antt', 'readCause'),
-    ('collector/specs/Rules.antt', 'flagsCause'),
-    ('collector/specs/Rules.antt', 'requestCause'),
-    ('collector/specs/Rules.antt', 'takeCause'),
-    ('journal_records/specs/Record.antt', 'journalCause'),
-    ('journal_records/specs/Whole.antt', 'wholeLenCause'),
-]
-CAUSE_NAMES = {
-    'BufferTooShort': 'TOO_SHORT',
-    'InvalidEthernetFrame': 'NOT_POWERLINK',
-    'InvalidPlFrame': 'INVALID_FRAME',
-    'InvalidMessageType': 'UNKNOWN_MESSAGE',
-    'InvalidNmtState': 'UNKNOWN_STATE',
-    'InvalidServiceId': 'UNKNOWN_SERVICE',
-    'InvalidRequestedServiceId': 'UNKNOWN_REQUEST',
-    'Full': 'FOUR_REGISTERED',
-    'TooShort': 'NOT_A_JOURNAL',
 }
 
 # Lists of values: the definition, and what its constants begin with. What all kinds of frames share has no kind.
@@ -148,14 +123,16 @@ FIELD_NAMES = {
 
 
 def causes():
+    """The causes of the sources, whose names in specs/ are the same."""
     yield 'DONE', 0
-    for path, function in CAUSES:
-        text = text_of(path)
-        for variant, value in equations(text, function):
-            # A row, or the name of one.
-            found = re.match(r'row (\d+) ', value) or re.search(rf'^{re.escape(value)} = row (\d+) ', text, re.M)
-            if found and int(found[1]):
-                yield CAUSE_NAMES.get(variant, snake(variant)), int(found[1])
+    in_specs = {snake(name): int(number) for name, number in re.findall(r'^(\w+) = (\d+)$', text_of('types/specs/CauseNumbers.antt'), re.M)}
+    for name, number in re.findall(r'^pub const (\w+): u8 = (\d+);$', text_of('types/src/causes.rt'), re.M):
+        if in_specs.pop(name, None) == int(number):
+            yield name, int(number)
+        else:
+            yield f'{name} of types/src/causes.rt, which is not that of types/specs/CauseNumbers.antt', int(number)
+    for name, number in in_specs.items():
+        yield f'{name} of types/specs/CauseNumbers.antt alone', number
 
 
 def places():

@@ -7,6 +7,7 @@ use mathlib.Core.List.{List, [], _∷_, _++_}
 use mathlib.Core.Option.{Option, none, some}
 use lib.ListN.{length, drop}
 use lib.Dec.{leb, ltb, eqb}
+use Rattle.types.specs.CauseNumbers as cause
 use Rattle.types.specs.Causes.{Cause, row, causeOf}
 use Rattle.types.specs.Codes.{pick, need}
 use Rattle.types.specs.Nodes.{isCnNodeId}
@@ -86,7 +87,7 @@ withAccount i p b = record { accounts = λ j. pick (eqb j i) (some p) (b .accoun
 
 -- cause 11, "ID not registered", of every call that takes an ID
 abbrev pub notRegistered : Cause
-notRegistered = row 11 []
+notRegistered = row cause.notRegistered []
 
 -- ---- registering
 
@@ -106,9 +107,9 @@ registerAnswer i b = need (isCnNodeId i) IdOutOfRange (registerVacant (b .accoun
 -- 01's number for each case: 0 where nothing is refused
 abbrev pub registerCause : RegisterAnswer → Cause
 registerCause Registered = row 0 []
-registerCause IdOutOfRange = row 13 []
-registerCause IdRegistered = row 14 []
-registerCause Full = row 15 []
+registerCause IdOutOfRange = row cause.idOutOfRange []
+registerCause IdRegistered = row cause.idRegistered []
+registerCause Full = row cause.fourRegistered []
 
 abbrev pub whenRegistered : {A : Type 0} → RegisterAnswer → A → A → A
 whenRegistered Registered a b = a
@@ -200,9 +201,9 @@ abbrev pub readCause : ReadAnswer → Cause
 readCause Booked = row 0 []
 readCause Known = row 0 []
 readCause (Refused e) = causeOf e
-readCause NotStatusResponse = row 10 []
+readCause NotStatusResponse = row cause.notStatusResponse []
 readCause NotRegistered = notRegistered
-readCause BookFull = row 12 []
+readCause BookFull = row cause.bookFull []
 
 abbrev pub whenBooked : {A : Type 0} → ReadAnswer → A → A → A
 whenBooked Booked a b = a
@@ -285,7 +286,7 @@ takeAnswer (some p) = takeFirst (p .book)
 abbrev pub takeCause : TakeAnswer → Cause
 takeCause (taking.Taken e) = row 0 []
 takeCause taking.NotRegistered = notRegistered
-takeCause taking.NothingBooked = row 16 []
+takeCause taking.NothingBooked = row cause.nothingBooked []
 
 -- "and its place is used again"
 abbrev pub withoutFirst : Option Account → Account

@@ -6,6 +6,7 @@ use mathlib.Core.Path.{_≡_}
 use mathlib.Core.List.{List, [], _∷_, _++_}
 use lib.ListN.{length, drop}
 use lib.Dec.{leb}
+use Rattle.types.specs.CauseNumbers as cause
 use Rattle.types.specs.Causes.{Cause, row}
 use Rattle.types.specs.Codes.{pick, need}
 use Rattle.types.specs.Modes.{modeCode}
@@ -30,8 +31,8 @@ journalAnswer node e room = need (leb 21 room) BufferTooShort (need (validRecord
 -- 01's number and values for each case: 0 with how many octets were written, or the cause
 abbrev pub journalCause : JournalAnswer → Cause
 journalCause (Written n) = row 0 (n ∷ [])
-journalCause BufferTooShort = row 1 []
-journalCause RecordInvalid = row 19 []
+journalCause BufferTooShort = row cause.tooShort []
+journalCause RecordInvalid = row cause.recordInvalid []
 
 -- the octets, then what the target held behind them; or the target as it was
 abbrev pub journalHolds : JournalAnswer → List ℕ → List ℕ → List ℕ

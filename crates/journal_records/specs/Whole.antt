@@ -5,6 +5,7 @@ use mathlib.Core.Path.{_≡_}
 use mathlib.Core.List.{List, [], _∷_, _++_}
 use lib.Dec.{leb}
 use lib.ListN.{length, take}
+use Rattle.types.specs.CauseNumbers as cause
 use Rattle.types.specs.Causes.{Cause, row}
 use Rattle.types.specs.Codes.{need}
 use Rattle.journal_records.specs.Listing.{Version, known, other, version1, headerLine, layoutOf, listing}
@@ -24,8 +25,8 @@ wholeLen version len = need (leb 5 len) TooShort (wholeAs (layoutOf version) len
 -- 01's number and values for each case: 0 with the length, or the cause
 abbrev pub wholeLenCause : WholeLenAnswer → Cause
 wholeLenCause (Whole n) = row 0 (n ∷ [])
-wholeLenCause TooShort = row 17 []
-wholeLenCause UnknownVersion = row 18 []
+wholeLenCause TooShort = row cause.notAJournal []
+wholeLenCause UnknownVersion = row cause.unknownVersion []
 
 -- r is what is told of a journal of this version and length, with 01's number
 pub record TellsWhole (version len : ℕ) (r : WholeLenAnswer) : Type 0 where

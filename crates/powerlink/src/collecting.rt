@@ -17,9 +17,17 @@ use collector::read;
 use collector::register;
 use collector::request;
 use collector::take;
+use section::MIN_FRAME;
 use types::EPLVersion;
 use types::NodeId;
 use types::basic::MacAddress;
+use types::causes::BOOK_FULL;
+use types::causes::FOUR_REGISTERED;
+use types::causes::ID_OUT_OF_RANGE;
+use types::causes::ID_REGISTERED;
+use types::causes::NOT_REGISTERED;
+use types::causes::NOT_STATUS_RESPONSE;
+use types::causes::NOTHING_BOOKED;
 use types::hal::PowerlinkError;
 use types::states::NmtState;
 use types::states::NmtStateAnswer;
@@ -40,9 +48,9 @@ pub extern "C" fn powerlink_collector_register(state: &mut Collector, id: u8) ->
 {
     match register(state, NodeId(id)) {
         RegisterAnswer::Registered => 0,
-        RegisterAnswer::IdOutOfRange => 13,
-        RegisterAnswer::IdRegistered => 14,
-        RegisterAnswer::Full => 15,
+        RegisterAnswer::IdOutOfRange => ID_OUT_OF_RANGE,
+        RegisterAnswer::IdRegistered => ID_REGISTERED,
+        RegisterAnswer::Full => FOUR_REGISTERED,
     }
 }
 
@@ -58,9 +66,9 @@ pub extern "C" fn powerlink_collector_read(
 {
     match read(state, buffer) {
         ReadAnswer::Refused(e) => refusal(e, octet),
-        ReadAnswer::NotStatusResponse => 10,
-        ReadAnswer::NotRegistered => 11,
-        ReadAnswer::BookFull => 12,
+        ReadAnswer::NotStatusResponse => NOT_STATUS_RESPONSE,
+        ReadAnswer::NotRegistered => NOT_REGISTERED,
+        ReadAnswer::BookFull => BOOK_FULL,
         ReadAnswer::Known => {
             *outcome = 0;
             0
@@ -84,7 +92,7 @@ pub extern "C" fn powerlink_collector_flags(
     ensures { λ r. ⌜ CollectorFlags id r (now (state .entry)) (now (ea .entry)) (now (ea .exit)) (now (er .entry)) (now (er .exit)) ⌝ }
 {
     match flags(state, NodeId(id)) {
-        FlagsAnswer::NotRegistered => 11,
+        FlagsAnswer::NotRegistered => NOT_REGISTERED,
         FlagsAnswer::Flags(f) => {
             *ea = f.ea;
             *er = f.er;
@@ -110,9 +118,14 @@ pub extern "C" fn powerlink_collector_request(
     match NmtState::from_u8(nmt_state) {
         NmtStateAnswer::Unknown(b) => {
             if !is_registered(state, NodeId(id)) {
-                return 11;
+                return NOT_REGISTERED;
             }
-            unnamed(PowerlinkError::InvalidNmtState(b), 60, target.len(), octet)
+            unnamed(
+                PowerlinkError::InvalidNmtState(b),
+                MIN_FRAME,
+                target.len(),
+                octet,
+            )
         }
         NmtStateAnswer::Known(nmt_state) => {
             let fields = RequestFields {
@@ -125,7 +138,7 @@ pub extern "C" fn powerlink_collector_request(
                     *written = n;
                     0
                 }
-                RequestAnswer::NotRegistered => 11,
+                RequestAnswer::NotRegistered => NOT_REGISTERED,
                 RequestAnswer::Refused(e) => e.number(),
             }
         }
@@ -142,8 +155,8 @@ pub extern "C" fn powerlink_collector_take(
     ensures { λ r. ⌜ CollectorTakes id r (now (state .entry)) (now (state .exit)) (now (values .entry)) (now (values .exit)) ⌝ }
 {
     match take(state, NodeId(id)) {
-        TakeAnswer::NotRegistered => 11,
-        TakeAnswer::NothingBooked => 16,
+        TakeAnswer::NotRegistered => NOT_REGISTERED,
+        TakeAnswer::NothingBooked => NOTHING_BOOKED,
         TakeAnswer::Taken(e) => {
             *values = entry_values(e);
             0

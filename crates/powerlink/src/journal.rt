@@ -9,6 +9,10 @@ use journal_records::WholeLenAnswer;
 use journal_records::whole_len;
 use journal_records::write;
 use types::NodeId;
+use types::causes::NOT_A_JOURNAL;
+use types::causes::RECORD_INVALID;
+use types::causes::TOO_SHORT;
+use types::causes::UNKNOWN_VERSION;
 use types::common::NetTime;
 use types::error_mode::ErrorEntryMode;
 use types::error_mode::ErrorEntryModeAnswer;
@@ -33,9 +37,9 @@ pub extern "C" fn powerlink_journal_record(
     match ErrorEntryMode::from_u8(mode) {
         ErrorEntryModeAnswer::Unknown(_) => {
             if target.len() < RECORD_LEN {
-                return 1;
+                return TOO_SHORT;
             }
-            19
+            RECORD_INVALID
         }
         ErrorEntryModeAnswer::Known(mode) => {
             let entry = ErrorEntry {
@@ -57,8 +61,8 @@ pub extern "C" fn powerlink_journal_record(
                     *written = n;
                     0
                 }
-                JournalAnswer::BufferTooShort => 1,
-                JournalAnswer::RecordInvalid => 19,
+                JournalAnswer::BufferTooShort => TOO_SHORT,
+                JournalAnswer::RecordInvalid => RECORD_INVALID,
             }
         }
     }
@@ -74,7 +78,7 @@ pub extern "C" fn powerlink_journal_whole_len(version: u16, len: usize, whole: &
             *whole = n;
             0
         }
-        WholeLenAnswer::TooShort => 17,
-        WholeLenAnswer::UnknownVersion => 18,
+        WholeLenAnswer::TooShort => NOT_A_JOURNAL,
+        WholeLenAnswer::UnknownVersion => UNKNOWN_VERSION,
     }
 }

@@ -19,6 +19,9 @@ use reporter::read;
 use status_response::bit_field::field_at;
 use types::NodeId;
 use types::basic::MacAddress;
+use types::causes::ENTRY_INVALID;
+use types::causes::ID_OUT_OF_RANGE;
+use types::causes::QUEUE_FULL;
 use types::common::NetTime;
 use types::error_mode::ErrorEntryMode;
 use types::error_mode::ErrorEntryModeAnswer;
@@ -35,7 +38,7 @@ pub extern "C" fn powerlink_reporter_new_v1(state: &mut Reporter, id: u8) -> u8
 {
     match new(state, NodeId(id)) {
         NewAnswer::Made => 0,
-        NewAnswer::IdOutOfRange => 13,
+        NewAnswer::IdOutOfRange => ID_OUT_OF_RANGE,
     }
 }
 
@@ -55,7 +58,7 @@ pub extern "C" fn powerlink_reporter_raise(
     ensures { λ r. ⌜ ReporterRaises «status_entry» «send_to_queue» mode profile code (time seconds nanoseconds) information r (now (state .entry)) (now (state .exit)) ⌝ }
 {
     match ErrorEntryMode::from_u8(mode) {
-        ErrorEntryModeAnswer::Unknown(_) => 8,
+        ErrorEntryModeAnswer::Unknown(_) => ENTRY_INVALID,
         ErrorEntryModeAnswer::Known(mode) => {
             let entry = ErrorEntry {
                 entry_type: EntryType {
@@ -73,8 +76,8 @@ pub extern "C" fn powerlink_reporter_raise(
             };
             match raise(state, entry) {
                 RaiseAnswer::Raised => 0,
-                RaiseAnswer::EntryInvalid => 8,
-                RaiseAnswer::QueueFull => 9,
+                RaiseAnswer::EntryInvalid => ENTRY_INVALID,
+                RaiseAnswer::QueueFull => QUEUE_FULL,
             }
         }
     }

@@ -5,10 +5,11 @@ use mathlib.Core.Bool.{Bool, true, false, not, _&&_, Bool·beq}
 use mathlib.Core.List.{List, [], _∷_, _++_}
 use lib.ListN.{length, take, drop, replicate}
 use lib.Dec.{ltb, eqb}
+use Rattle.types.specs.CauseNumbers as cause
 use Rattle.types.specs.Causes.{Cause, row, causeOf}
 use Rattle.types.specs.Codes.{pick, need}
 use Rattle.types.specs.Header.{ethBytes}
-use Rattle.types.specs.Nodes.{isCnNodeId}
+use Rattle.types.specs.Nodes.{isCnNodeId, managingNode, broadcastNode}
 use Rattle.types.specs.declared.service.ServiceId.the-variants as service
 use Rattle.section.specs.declared.WriteAnswer.{WriteAnswer}
 use Rattle.section.specs.declared.WriteAnswer.the-variants as write
@@ -71,7 +72,7 @@ newAnswer i = need (isCnNodeId i) IdOutOfRange Made
 -- 01's number for each case: 0 where nothing is refused
 abbrev pub newCause : NewAnswer → Cause
 newCause Made = row 0 []
-newCause IdOutOfRange = row 13 []
+newCause IdOutOfRange = row cause.idOutOfRange []
 
 -- ---- Raise
 
@@ -85,8 +86,8 @@ raiseAnswer e h = need (isRaisable e) EntryInvalid (need (ltb (length (h .waitin
 
 abbrev pub raiseCause : RaiseAnswer → Cause
 raiseCause Raised = row 0 []
-raiseCause EntryInvalid = row 8 []
-raiseCause QueueFull = row 9 []
+raiseCause EntryInvalid = row cause.entryInvalid []
+raiseCause QueueFull = row cause.queueFull []
 
 abbrev pub whenRaised : {A : Type 0} → RaiseAnswer → A → A → A
 whenRaised Raised a b = a
@@ -124,7 +125,7 @@ unfoldable pub answerPayload : AnswerFields → Head → List ℕ
 answerPayload f h = statusBytes (headBytes (statusFields f (h .en)) (f .«static_error_bit_field»)) (h .batch)
 
 abbrev pub answerASnd : AnswerFields → ℕ → NewASndFrame
-answerASnd f i = newASnd (f .«source_mac») (f .«dest_mac») (record { 0 = 255 }) (record { 0 = i }) service.StatusResponse
+answerASnd f i = newASnd (f .«source_mac») (f .«dest_mac») (record { 0 = broadcastNode }) (record { 0 = i }) service.StatusResponse
 
 -- "an Ethernet frame from its ID to node 255, service 2"
 unfoldable pub answerFrame : AnswerFields → Head → List ℕ
@@ -155,7 +156,7 @@ afterAnswer r h = whenWritten r (opened h) h
 
 -- EA, where the source is 240 and the frame is for node i
 unfoldable pub eaFor : ℕ → ℕ → ℕ → Bool → Heard
-eaFor i source target ea = need (eqb source 240) heard.Nothing (need (eqb target i) heard.Nothing (heard.Ea ea))
+eaFor i source target ea = need (eqb source managingNode) heard.Nothing (need (eqb target i) heard.Nothing (heard.Ea ea))
 
 -- "a PReq to its ID or an SoA with it as target gives EA"
 abbrev pub eaInFrame : ℕ → PowerlinkFrame → Heard
