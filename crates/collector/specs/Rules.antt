@@ -18,6 +18,7 @@ use Rattle.types.specs.declared.service.ServiceId.the-variants as service
 use Rattle.section.specs.Write.{writeAnswer, overwritten}
 use Rattle.section.specs.declared.WriteAnswer.{WriteAnswer}
 use Rattle.section.specs.declared.WriteAnswer.the-variants as write
+use Rattle.control.specs.ASnd.{asndPayloadAt}
 use Rattle.control.specs.SoA.{newSoA}
 use Rattle.control.specs.declared.soa.NewSoAFrame.{NewSoAFrame}
 use Rattle.frame.specs.Write.{frameBytes}
@@ -155,7 +156,7 @@ responseIn f = responseInAnswer (readFrame f)
 
 -- "the box reads it from section byte 4, untrimmed"
 abbrev pub statusPayload : List ℕ → List ℕ
-statusPayload f = drop 18 f
+statusPayload f = drop asndPayloadAt f
 
 -- what a StatusResponse says: its fields, or why they cannot be read, and its entries
 pub record Said : Type 0 where

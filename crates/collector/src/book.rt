@@ -15,6 +15,7 @@ use crate::state::start;
 use error_entry::ErrorEntry;
 use records::get;
 use records::put;
+use status_response::fields::FRONT_LEN;
 use status_response::walk::EntryStep;
 use status_response::walk::step_from;
 
@@ -47,7 +48,7 @@ pub(crate) fn count_entries(payload: &[u8]) -> usize
     ensures { λ r. ⌜ r ≡ length (saidIn (now (payload .entry)) .entries) ⌝ }
 {
     let mut n = 0usize;
-    let mut at = 14usize;
+    let mut at = FRONT_LEN;
     loop {
         match step_from(payload, at) {
             EntryStep::End => return n,
@@ -64,7 +65,7 @@ pub(crate) fn push_entries(state: &mut Collector, k: usize, payload: &[u8])
     requires { ⌜ (k < heads) × (countIn (now state) k + length (saidIn (now payload) .entries) ≤ bookLength) ⌝ }
     ensures { λ _. ⌜ now (state .exit) ≡ pushedAll (now (state .entry)) k (saidIn (now (payload .entry)) .entries) ⌝ }
 {
-    let mut at = 14usize;
+    let mut at = FRONT_LEN;
     loop {
         match step_from(payload, at) {
             EntryStep::End => return,

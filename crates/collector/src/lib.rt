@@ -15,6 +15,7 @@ mod state;
 
 use asking::write_request;
 use book::take_first;
+use control::asnd::PAYLOAD_AT;
 use control::soa::SoAFlags;
 use error_entry::ErrorEntry;
 use octets::slices::tail;
@@ -158,7 +159,7 @@ pub fn read(state: &mut Collector, buffer: &[u8]) -> ReadAnswer
         Heard::Refused(e) => ReadAnswer::Refused(e),
         Heard::Other => ReadAnswer::NotStatusResponse,
         // The payload from octet 4 of the section on, untrimmed: an answer without entries ends in zeros.
-        Heard::Status(source) => read_status(state, source.0, tail(buffer, 18)),
+        Heard::Status(source) => read_status(state, source.0, tail(buffer, PAYLOAD_AT)),
     }
 }
 

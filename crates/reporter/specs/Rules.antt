@@ -11,9 +11,10 @@ use Rattle.types.specs.Codes.{pick, need}
 use Rattle.types.specs.Header.{ethBytes}
 use Rattle.types.specs.Nodes.{isCnNodeId, managingNode, broadcastNode}
 use Rattle.types.specs.declared.service.ServiceId.the-variants as service
+use Rattle.section.specs.Write.{minFrame}
 use Rattle.section.specs.declared.WriteAnswer.{WriteAnswer}
 use Rattle.section.specs.declared.WriteAnswer.the-variants as write
-use Rattle.control.specs.ASnd.{newASnd, asndBytes}
+use Rattle.control.specs.ASnd.{newASnd, asndBytes, asndPayloadAt}
 use Rattle.control.specs.declared.asnd.NewASndFrame.{NewASndFrame}
 use Rattle.frame.specs.Write.{frameBytes}
 use Rattle.frame.specs.declared.PowerlinkFrame.{PowerlinkFrame}
@@ -136,8 +137,12 @@ answerFrame f h = frameBytes (answerASnd f (h .id) .«eth_header») (ASnd (answe
 abbrev pub answerFront : AnswerFields → ℕ → List ℕ
 answerFront f i = ethBytes (answerASnd f i .«eth_header») ++ asndBytes (answerASnd f i .frame)
 
+-- the payload that fills the smallest frame
+abbrev pub payloadMin : ℕ
+payloadMin = minFrame - asndPayloadAt
+
 abbrev pub filledPayload : AnswerFields → Head → List ℕ
-filledPayload f h = answerPayload f h ++ replicate (42 - length (answerPayload f h)) 0
+filledPayload f h = answerPayload f h ++ replicate (payloadMin - length (answerPayload f h)) 0
 
 -- "60 bytes without entries, else 52 + 20 per entry"
 abbrev pub answerLength : ℕ → ℕ

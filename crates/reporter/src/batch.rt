@@ -5,7 +5,7 @@ ghost use lib.ListN.{length, replicate};
 ghost use lib.Seq.{sets};
 ghost use Rattle.section.specs.Write.{Writes};
 ghost use Rattle.reporter.specs.Layout.{reporterLength, headOf, opensIn, openedBytes, carriedIn, firstFour};
-ghost use Rattle.reporter.specs.Rules.{batchLength, opened, statusFields, filledPayload, answerFront, answerFrame};
+ghost use Rattle.reporter.specs.Rules.{batchLength, opened, statusFields, payloadMin, filledPayload, answerFront, answerFrame};
 use crate::AnswerFields;
 use crate::BATCH_LEN;
 use crate::EN_AT;
@@ -19,22 +19,22 @@ use crate::state::record_place;
 use crate::state::start;
 use crate::state::waiting;
 use control::asnd::ASndFrame;
+use control::asnd::PAYLOAD_AT;
 use error_entry::ErrorEntry;
 use octets::slices::put;
 use records::get;
+use section::MIN_FRAME;
 use section::WriteAnswer;
 use status_response::entries::serialize_batch;
 use status_response::fields::StatusFields;
 use types::C_ADR_BROADCAST_NODE_ID;
 use types::NodeId;
+use types::basic::ETH_LEN;
 use types::hal::PowerlinkError;
 use types::service::ServiceId;
 
-// What stands in front of an answer's payload: the Ethernet header and the four octets of the ASnd.
-const FRONT_LEN: usize = 18;
-
-// The payload that fills the smallest frame (IEEE 802.3: 60 octets).
-const PAYLOAD_MIN: usize = 42;
+// The payload that fills the smallest frame.
+const PAYLOAD_MIN: usize = MIN_FRAME - PAYLOAD_AT;
 
 // Whether an answer opens a batch: none is open, and entries wait.
 fn opens(state: &Reporter) -> bool
@@ -100,8 +100,8 @@ fn status_fields(state: &Reporter, fields: AnswerFields) -> StatusFields
 
 // Puts zeros behind `len` octets, up to the smallest payload, and answers how many octets there are then.
 fn fill(len: usize, target: &mut [u8]) -> usize
-    requires { ⌜ 42 ≤ length (now target) ⌝ }
-    ensures { λ r. ⌜ (r ≡ len + (42 - len)) × (now (target .exit) ≡ sets (now (target .entry)) len (replicate (42 - len) 0)) ⌝ }
+    requires { ⌜ payloadMin ≤ length (now target) ⌝ }
+    ensures { λ r. ⌜ (r ≡ len + (payloadMin - len)) × (now (target .exit) ≡ sets (now (target .entry)) len (replicate (payloadMin - len) 0)) ⌝ }
 {
     let mut at = len;
     while at < PAYLOAD_MIN {
@@ -143,21 +143,21 @@ fn put_front(state: &Reporter, fields: AnswerFields, target: &mut [u8])
     let eth_header = asnd.eth_header;
     let frame = asnd.frame;
     put(target, 0, &eth_header.to_bytes());
-    put(target, 14, &frame.to_bytes());
+    put(target, ETH_LEN, &frame.to_bytes());
 }
 
 // Writes the frame of an answer, if it fits. Its payload goes first, straight to its place, since it alone can still be refused.
 pub(crate) fn answer_frame(state: &Reporter, fields: AnswerFields, target: &mut [u8]) -> WriteAnswer
     ensures { λ r. ⌜ Writes (answerFrame fields (opened (headOf (now (state .entry))))) r (now (target .entry)) (now (target .exit)) ⌝ }
 {
-    if target.len() < FRONT_LEN {
+    if target.len() < PAYLOAD_AT {
         return WriteAnswer::Refused(PowerlinkError::BufferTooShort);
     }
-    match write_payload(state, fields, &mut target[FRONT_LEN..]) {
+    match write_payload(state, fields, &mut target[PAYLOAD_AT..]) {
         WriteAnswer::Refused(e) => WriteAnswer::Refused(e),
         WriteAnswer::Written(n) => {
             put_front(state, fields, target);
-            WriteAnswer::Written(FRONT_LEN + n)
+            WriteAnswer::Written(PAYLOAD_AT + n)
         }
     }
 }
