@@ -1,6 +1,6 @@
 /* POWERLINK frames, error signaling (EPSG DS 301) and the journal of errors: the functions of the archive
  * libpowerlink.a, each proved to answer as its definitions say. The archive is for x86-64 (ELF, System V calling
- * convention) and calls nothing but `memset` and `memmove`.
+ * convention) and calls nothing but `memset`, `memmove` and `memcpy`.
  *
  * Answers. Every function answers with the number of a cause, or 0 (POWERLINK_DONE). Its comment names the causes that
  * it has, in the order in which they are tested: where several apply, the first one is the answer.
