@@ -147,10 +147,10 @@ fn states_and_records_are_as_long_as_in_the_source() {
         return;
     };
     let read = |name| source(&crates.join(name));
-    let records = read("records");
-    let reporter = constant(&(read("reporter") + &records), "REPORTER_LEN");
+    let entries = read("error_entry");
+    let reporter = constant(&(read("reporter") + &entries), "REPORTER_LEN");
     assert_eq!(powerlink::REPORTER_LEN, reporter);
-    let collector = constant(&(read("collector") + &records), "COLLECTOR_LEN");
+    let collector = constant(&(read("collector") + &entries), "COLLECTOR_LEN");
     assert_eq!(powerlink::COLLECTOR_LEN, collector);
     let record = constant(&read("journal_records"), "RECORD_LEN");
     assert_eq!(powerlink::journal::RECORD_LEN, record);
