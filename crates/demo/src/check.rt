@@ -1,12 +1,9 @@
 // Demand 3, by answers alone: a copy of the box is emptied, so the box itself is left as it is.
+use crate::Head;
+use crate::Scene;
 use crate::entries::entry;
 use crate::entries::same;
-use crate::head::Head;
-use crate::tally::demand;
-use crate::tally::more;
 use crate::tally::plus;
-use crate::world::Scene;
-use crate::world::World;
 use collector::Collector;
 use collector::TakeAnswer;
 use types::NodeId;
@@ -14,51 +11,40 @@ use types::NodeId;
 // More than a book holds.
 const TAKES: u64 = 65;
 
-// What is booked of a head: entries 0, 1, 2, .. up to a count, or not so.
-enum InOrder {
-    First(u64),
-    Not,
-}
+// Entries are booked that are not the next ones.
+const NOT_IN_ORDER: u64 = u64::MAX;
 
-// What was handed out, then what a copy of the box hands out until it refuses.
-fn booked(head: Head, state: &Collector) -> InOrder {
-    let mut copy = *state;
+// What was handed out, then what a copy of the box hands out until it refuses: entries 0, 1, 2, .. up to a count, or not so.
+fn booked(head: Head, at_box: Collector) -> u64 {
+    let mut copy = at_box;
     let mut n = head.taken;
     for _ in 0..TAKES {
         let TakeAnswer::Taken(e) = collector::take(&mut copy, NodeId(head.id)) else {
-            return InOrder::First(n);
+            return n;
         };
         if !same(e, entry(head.number, n)) {
-            return InOrder::Not;
+            return NOT_IN_ORDER;
         }
-        n = more(n);
+        n = plus(n, 1);
     }
-    InOrder::Not
+    NOT_IN_ORDER
 }
 
 // Whether each accepted entry of the head is booked, in the open batch and not booked, or waiting: in one of them, and
 // once.
-fn accounted(head: Head, state: &Collector) -> bool {
-    match booked(head, state) {
-        InOrder::Not => false,
-        InOrder::First(n) => plus(n, head.unbooked()) == head.accepted,
-    }
-}
-
-// Looks at the head whose turn it is.
-pub fn one(mut world: World) -> World {
-    let right = accounted(world.head, &world.at_box);
-    demand(&mut world.tally, right);
-    world
+fn is_accounted(head: Head, at_box: Collector) -> bool {
+    plus(booked(head, at_box), head.unbooked()) == head.accepted
 }
 
 // Looks at every head.
-pub fn all(scene: Scene) -> Scene {
-    let heads = scene.heads;
+pub fn all(mut scene: Scene) -> Scene {
+    let nodes = scene.nodes;
     let mut world = scene.world;
     for k in 0..5usize {
-        let right = accounted(heads[k], &world.at_box);
-        demand(&mut world.tally, right);
+        let node = nodes[k];
+        let at_box = world.at_box;
+        world = world.demands(is_accounted(node.head, at_box));
     }
-    Scene { heads, world }
+    scene.world = world;
+    scene
 }

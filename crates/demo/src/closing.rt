@@ -1,17 +1,12 @@
 // The end of the simulation: the line is good, and each head's entries come to the box and are closed.
-use crate::box_calls;
+use crate::Head;
+use crate::Scene;
+use crate::World;
 use crate::check;
-use crate::head::Head;
-use crate::head_calls;
-use crate::print::number;
-use crate::print::say;
-use crate::tally::REQUESTS;
-use crate::tally::counted;
-use crate::tally::demand;
 use crate::tally::plus;
 use crate::target::ROOM;
-use crate::world::Scene;
-use crate::world::World;
+use crate::text::tell;
+use crate::turns;
 
 // The line gives the next frame that was not given yet.
 const IN_ORDER: u64 = 15;
@@ -24,73 +19,65 @@ fn take_all(world: World) -> World {
         if head.in_book() == 0 {
             return w;
         }
-        w = box_calls::take(w);
+        w = turns::take(w);
     }
     w
 }
 
 // One answer read by the box, then its next request read by the head.
 fn exchange(world: World) -> World {
-    let answered = head_calls::answer(world, ROOM);
-    let booked = box_calls::read(answered, IN_ORDER);
-    let requested = box_calls::request(booked, ROOM);
-    head_calls::read(requested, IN_ORDER)
-}
-
-// How many entries the head has open or waiting.
-fn held(head: Head) -> u64 {
-    plus(head.open, head.waiting)
-}
-
-fn report(head: Head, exchanges: u64) {
-    number(b"head ", head.id as u64);
-    number(b": entries open or waiting ", held(head));
-    number(b", exchanges until they are closed ", exchanges);
-    say(b"\n");
+    let answered = turns::answer(world, ROOM);
+    let booked = turns::box_reads(answered, IN_ORDER);
+    let requested = turns::request(booked, ROOM);
+    turns::head_reads(requested, IN_ORDER)
 }
 
 // Runs exchanges until the head holds nothing: at most as many as it holds entries.
 fn close(world: World) -> World {
-    let head = world.head;
-    let most = held(head);
+    let start = world.head;
+    let most = start.held();
     let mut w = world;
-    for turn in 0..most {
-        if held(w.head) == 0 {
-            report(head, turn);
-            return w;
+    let mut turn = 0;
+    while turn < most {
+        let head = w.head;
+        if head.held() == 0 {
+            break;
         }
-        w = check::one(exchange(w));
+        w = exchange(w);
+        turn += 1;
     }
-    let left = held(w.head);
-    demand(&mut w.tally, left == 0);
-    report(head, most);
+    tell(
+        b"head #: entries open or waiting #, exchanges until they are closed #\n",
+        [start.id as u64, most, turn],
+    );
     w
-}
-
-fn stays(head: Head) {
-    number(b"head ", head.id as u64);
-    number(b": not registered, entries that stay with it ", held(head));
-    say(b"\n");
 }
 
 // All that a registered head has accepted is taken in the end.
-fn clear(mut world: World) -> World {
-    let head = world.head;
-    let cleared = head.line_cleared(counted(&world.tally, REQUESTS));
-    world.head = cleared;
-    let mut w = take_all(close(take_all(world)));
-    let after = w.head;
-    demand(&mut w.tally, after.taken == after.accepted);
-    w
+fn clear(w: World) -> World {
+    let head = w.head;
+    let start = take_all(w.with(head.line_cleared(w.sent)));
+    let mut end = take_all(close(start));
+    let after = end.head;
+    end.taken = plus(end.taken, after.taken);
+    end.demands(after.held() == 0)
+        .demands(after.taken == after.accepted)
 }
 
-fn finish(world: World) -> World {
-    let head = world.head;
+fn stays(head: Head) {
+    tell(
+        b"head #: not registered, entries that stay with it #\n",
+        [head.id as u64, head.held(), 0],
+    );
+}
+
+fn finish(w: World) -> World {
+    let head = w.head;
     if head.registered {
-        return clear(world);
+        return clear(w);
     }
     stays(head);
-    world
+    w
 }
 
 pub fn all(scene: Scene) -> Scene {

@@ -13,17 +13,16 @@ fn mode_of(n: u64) -> ErrorEntryMode {
     }
 }
 
-// The entry of a head with this running number; the 12 bits of the profile hold it whole.
-pub fn entry(head: usize, number: u64) -> ErrorEntry {
+// An entry of a head with this running number.
+fn made(head: usize, number: u64, mode: ErrorEntryMode, profile: u16) -> ErrorEntry {
     let h = (head % 8) as u64;
     let n = number % 1000000;
-    let mode = mode_of(n);
     ErrorEntry {
         entry_type: EntryType {
             is_status_entry: n % 2 == 0,
             send_to_queue: n % 5 == 0,
             mode,
-            profile: ((n * 7 + h) % 4096) as u16,
+            profile,
         },
         error_code: ((n * 31 + h * 9000) % 65536) as u16,
         timestamp: NetTime {
@@ -34,72 +33,31 @@ pub fn entry(head: usize, number: u64) -> ErrorEntry {
     }
 }
 
-// An entry that no head may raise: its mode is the terminator's.
-pub fn of_mode_0() -> ErrorEntry {
-    ErrorEntry {
-        entry_type: EntryType {
-            is_status_entry: true,
-            send_to_queue: false,
-            mode: ErrorEntryMode::Terminator,
-            profile: 2,
-        },
-        error_code: 3,
-        timestamp: NetTime {
-            seconds: 4,
-            nanoseconds: 5,
-        },
-        additional_information: 6,
+// The entry of a head with this running number; the 12 bits of the profile hold it whole.
+pub fn entry(head: usize, number: u64) -> ErrorEntry {
+    let n = number % 1000000;
+    let profile = (n * 7 + (head % 8) as u64) % 4096;
+    made(head, number, mode_of(n), profile as u16)
+}
+
+// An entry that a head raises: of kind 0 the mode is the terminator's, of kind 1 the profile has 13 bits, and no head may
+// raise either.
+pub fn of_kind(kind: u64, head: usize, number: u64) -> ErrorEntry {
+    match kind {
+        0 => made(head, number, ErrorEntryMode::Terminator, 2),
+        1 => made(head, number, ErrorEntryMode::ErrorActive, 4096),
+        _ => entry(head, number),
     }
 }
 
-// Another: its profile has 13 bits.
-pub fn of_profile_4096() -> ErrorEntry {
-    ErrorEntry {
-        entry_type: EntryType {
-            is_status_entry: true,
-            send_to_queue: false,
-            mode: ErrorEntryMode::ErrorActive,
-            profile: 4096,
-        },
-        error_code: 3,
-        timestamp: NetTime {
-            seconds: 4,
-            nanoseconds: 5,
-        },
-        additional_information: 6,
-    }
-}
-
-fn same_type(a: EntryType, b: EntryType) -> bool {
-    let mode_a = a.mode;
-    let mode_b = b.mode;
-    if a.is_status_entry != b.is_status_entry {
-        return false;
-    }
-    if a.send_to_queue != b.send_to_queue {
-        return false;
-    }
-    if mode_a.to_u8() != mode_b.to_u8() {
-        return false;
-    }
-    a.profile == b.profile
-}
-
-// Whether two entries are equal: all their fields are.
+// Whether two entries are equal: all their fields are. `to_u16` has the flags and the mode.
 pub fn same(a: ErrorEntry, b: ErrorEntry) -> bool {
     let type_a = a.entry_type;
     let type_b = b.entry_type;
-    if !same_type(type_a, type_b) {
-        return false;
-    }
-    if a.error_code != b.error_code {
-        return false;
-    }
-    if a.timestamp.seconds != b.timestamp.seconds {
-        return false;
-    }
-    if a.timestamp.nanoseconds != b.timestamp.nanoseconds {
-        return false;
-    }
-    a.additional_information == b.additional_information
+    (type_a.to_u16() == type_b.to_u16())
+        & (type_a.profile == type_b.profile)
+        & (a.error_code == b.error_code)
+        & (a.timestamp.seconds == b.timestamp.seconds)
+        & (a.timestamp.nanoseconds == b.timestamp.nanoseconds)
+        & (a.additional_information == b.additional_information)
 }

@@ -1,37 +1,36 @@
 // What 01 has a call come to, by the calls before it as they are counted.
-use crate::head::Head;
+use crate::Head;
 use crate::outcome::DONE;
 use crate::outcome::IGNORED;
 use crate::outcome::KEPT;
 use crate::outcome::KNOWN;
 use crate::tally::plus;
+use crate::target::Space;
 
 // The places of a book.
 const BOOK_LEN: u64 = 64;
 
-// The octets of a request.
-pub const REQUEST_LEN: usize = 60;
+// The octets of a frame without payload, as requests are and what the host sends: the shortest of Ethernet.
+pub const FRAME_LEN: u64 = 60;
 
-// The octets of an answer with `n` entries: 52 and 20 for each, and 60 without.
-pub fn answer_len(n: u64) -> usize {
-    match n {
-        0 => 60,
-        1 => 72,
-        2 => 92,
-        3 => 112,
-        4 => 132,
-        5 => 152,
-        _ => 172,
+// The octets of an answer with up to six entries: 52 and 20 for each, and 60 without.
+pub fn answer_len(n: u64) -> u64 {
+    if n == 0 {
+        return FRAME_LEN;
     }
+    52 + 20 * (n % 7)
 }
 
 // A writer, where the target has `room` octets and `len` are needed.
-pub fn writing(len: usize, room: usize) -> u64 {
-    if room < len { 1 } else { DONE }
+pub fn writing(len: u64, room: usize) -> u64 {
+    if (room as u64) < len { 1 } else { len }
 }
 
-// Raise of a valid entry.
-pub fn raising(head: Head) -> u64 {
+// Raise of an entry of a kind: of two kinds it is invalid.
+pub fn raising(head: Head, kind: u64) -> u64 {
+    if kind < 2 {
+        return 8;
+    }
     if head.waiting < 16 { DONE } else { 9 }
 }
 
@@ -60,12 +59,21 @@ pub fn requesting(head: Head, room: usize) -> u64 {
     if !head.registered {
         return 11;
     }
-    writing(REQUEST_LEN, room)
+    writing(FRAME_LEN, room)
 }
 
-// The head's reading of the request with this number and target.
-pub fn hearing(head: Head, number: u64, target: u8) -> u64 {
-    if target != head.id {
+// The node that a frame of the managing node is for: a PReq's destination, an SoA's target.
+pub fn addressed(octets: Space) -> u8 {
+    if octets[14] == 3 {
+        octets[15]
+    } else {
+        octets[21]
+    }
+}
+
+// The head's reading of the managing node's frame with this number, for this node.
+pub fn hearing(head: Head, number: u64, node: u8) -> u64 {
+    if node != head.id {
         return IGNORED;
     }
     if head.open == 0 {

@@ -1,36 +1,21 @@
-// Another supplier's head. It follows the same rules with batches of six; its frames are put together here, by the
-// library's writers, and it is known by its counts alone.
+// Another supplier's head. It follows the same rules with batches of six, is known by its counts alone, and puts its frames
+// together octet by octet, from the specification and not by our writers.
+use crate::Head;
+use crate::World;
 use crate::entries::entry;
-use crate::fields::error_field;
-use crate::fields::station;
-use crate::fields::status_fields;
-use crate::head::Head;
-use crate::outcome;
+use crate::expected::addressed;
+use crate::expected::answer_len;
+use crate::outcome::DONE;
+use crate::outcome::IGNORED;
+use crate::outcome::KEPT;
 use crate::tally::less;
 use crate::tally::plus;
-use crate::target::FILL;
 use crate::target::ROOM;
-use crate::target::Sent;
-use crate::target::target_in;
-use codec::FrameAnswer;
-use codec::deserialize_frame;
-use control::asnd::ASndFrame;
-use frame::PowerlinkFrame;
-use frame::write::serialize_frame;
-use octets::slices::front;
+use crate::target::Space;
+use error_entry::ErrorEntry;
 use octets::slices::put;
-use reporter::ReadAnswer;
-use types::C_ADR_BROADCAST_NODE_ID;
-use types::C_ADR_MN_DEF_NODE_ID;
-use types::C_DLL_MULTICAST_ASND;
-use types::NodeId;
-use types::basic::MacAddress;
-use types::service::ServiceId;
 
 pub const BATCH: u64 = 6;
-
-// 14 octets in front, six entries and the terminator.
-const PAYLOAD_LEN: usize = 154;
 
 // How many entries it has sent once its next answer is sent; no more than one batch waits.
 fn sent_then(head: Head) -> u64 {
@@ -45,77 +30,55 @@ fn en(head: Head) -> bool {
     sent_then(head) / BATCH % 2 == 1
 }
 
-// Puts `n` entries of the head behind the 14 octets in front.
-fn put_entries(payload: &mut [u8; PAYLOAD_LEN], number: usize, first: u64, n: u64) {
+// The array comes whole, since its type then says its length.
+fn put_entry(octets: &mut Space, at: usize, e: ErrorEntry) {
+    records::put(octets, at, e);
+}
+
+// Puts the entries of its next answer behind the 32 octets in front.
+fn with_entries(front: Space, head: Head) -> Space {
+    let n = head.carried();
+    let first = less(sent_then(head), n);
+    let mut octets = front;
     for i in 0..6u64 {
         if i < n {
-            let e = entry(number, plus(first, i));
-            records::put(payload, 14 + 20 * (i as usize), e);
+            let e = entry(head.number, plus(first, i));
+            put_entry(&mut octets, 32 + 20 * (i as usize), e);
         }
     }
+    octets
 }
 
-fn put_payload(head: Head, payload: &mut [u8; PAYLOAD_LEN]) {
-    let first = less(sent_then(head), BATCH);
-    let fields = status_fields(en(head));
-    put(payload, 0, &fields.to_bytes(error_field()));
-    put_entries(payload, head.number, first, head.carried());
-}
-
-// The payload with `n` entries and the terminator.
-fn payload_part(payload: &[u8; PAYLOAD_LEN], n: u64) -> &[u8] {
-    if n == 0 {
-        front(payload, 34)
-    } else {
-        front(payload, PAYLOAD_LEN)
-    }
-}
-
-// Its next answer into a target of `room` octets.
-pub fn answer(head: Head, room: usize) -> Sent {
-    let mut payload = [0u8; PAYLOAD_LEN];
-    put_payload(head, &mut payload);
-    let made = ASndFrame::new(
-        station(head.id),
-        MacAddress(C_DLL_MULTICAST_ASND),
-        NodeId(C_ADR_BROADCAST_NODE_ID),
-        NodeId(head.id),
-        ServiceId::StatusResponse,
+// Its next answer: the Ethernet header, an ASnd from 200 to all, service 2; EC, pr 1 and rs 1, state 5Dh, the error field; then
+// the entries and zeros.
+pub fn answer(w: World) -> World {
+    let head = w.head;
+    let mut octets = [0u8; ROOM];
+    put(
+        &mut octets,
+        0,
+        b"\x01\x11\x1E\x00\x00\x04\x02\x00\x00\x00\x00\xC8\x88\xAB\x06\xFF\xC8\x02\x10\x09\x5D\x00\x00\x00\x81\x01\x02\x03\x04\x05\x06\x07",
     );
-    let eth_header = made.eth_header;
-    let f = made.frame;
-    let part = payload_part(&payload, head.carried());
-    let mut space = [FILL; ROOM];
-    let target = target_in(&mut space, room);
-    let got = serialize_frame(eth_header, PowerlinkFrame::ASnd(f), part, target);
-    outcome::sent(space, got)
+    if en(head) {
+        octets[18] = 0x30;
+    }
+    w.has_written(with_entries(octets, head), answer_len(head.carried()))
 }
 
-fn hear(head: Head, f: PowerlinkFrame) -> ReadAnswer {
-    let PowerlinkFrame::SoA(soa) = f else {
-        return ReadAnswer::Ignored;
-    };
-    if soa.source.0 != C_ADR_MN_DEF_NODE_ID {
-        return ReadAnswer::Ignored;
-    }
-    if soa.target_node_id.0 != head.id {
-        return ReadAnswer::Ignored;
+// What it makes of the frame in hand: EA is bit 2 of octet 4 of the section, in a PReq as in an SoA.
+fn hears(head: Head, octets: Space) -> u64 {
+    if addressed(octets) != head.id {
+        return IGNORED;
     }
     if head.open == 0 {
-        return ReadAnswer::Kept;
+        return KEPT;
     }
-    if soa.flags.ea != en(head) {
-        return ReadAnswer::Kept;
-    }
-    ReadAnswer::Closed
+    let ea = octets[18] / 4 % 2 == 1;
+    if ea == en(head) { DONE } else { KEPT }
 }
 
-// Reads a frame as a head does.
-pub fn read(head: Head, frame: &[u8]) -> ReadAnswer {
-    let read = deserialize_frame(frame);
-    let answer = read.answer;
-    match answer {
-        FrameAnswer::Refused(e) => ReadAnswer::Refused(e),
-        FrameAnswer::Frame(f) => hear(head, f),
-    }
+pub fn reads(mut w: World) -> World {
+    let octets = w.octets;
+    w.got = hears(w.head, octets);
+    w
 }

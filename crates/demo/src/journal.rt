@@ -9,9 +9,10 @@ use types::NodeId;
 pub const NONE: i32 = -1;
 
 // Writing has failed.
-pub const BROKEN: i32 = -2;
+const BROKEN: i32 = -2;
 
-pub type Record = [u8; RECORD_LEN];
+// No record was made; no entry that is handed out comes to this.
+pub const REFUSED: i32 = -3;
 
 fn complain(text: &[u8]) {
     io::write_all(STDERR_FILENO, b"demo: ");
@@ -29,15 +30,6 @@ pub fn start(path: &[u8]) -> i32 {
     keep(file, b"PLB\x01\x00")
 }
 
-// Makes the record of an entry that was handed out; none is refused.
-pub fn make(id: u8, e: ErrorEntry, record: &mut Record) -> bool {
-    match journal_records::write(NodeId(id), e, record) {
-        JournalAnswer::Written(_) => true,
-        JournalAnswer::BufferTooShort => false,
-        JournalAnswer::RecordInvalid => false,
-    }
-}
-
 // Writes octets to the journal, and answers where those behind them go. A failure is said once.
 fn keep(journal: i32, octets: &[u8]) -> i32 {
     if journal < 0 {
@@ -50,9 +42,14 @@ fn keep(journal: i32, octets: &[u8]) -> i32 {
     BROKEN
 }
 
-// Writes a record to the journal.
-pub fn keep_record(journal: i32, record: &Record) -> i32 {
-    keep(journal, record)
+// Makes the record of an entry that was handed out and writes it to the journal; answers where those behind it go.
+pub fn record(journal: i32, id: u8, e: ErrorEntry) -> i32 {
+    let mut octets = [0u8; RECORD_LEN];
+    match journal_records::write(NodeId(id), e, &mut octets) {
+        JournalAnswer::Written(_) => keep(journal, &octets),
+        JournalAnswer::BufferTooShort => REFUSED,
+        JournalAnswer::RecordInvalid => REFUSED,
+    }
 }
 
 // The journal is whole, as far as nothing failed.

@@ -1,117 +1,198 @@
 // The error exchange of one box and five heads, on a line that drops, delays and repeats. First 01's lines to check, one
 // by one. Then the simulation: after every call, each entry that a head accepted has to be in one place and only once.
 //
-// Heads 7, 120 and 239 are ours and registered; 21 is ours and is not; 200 is another supplier's. The run has no input
-// and is the same each time, so what it writes is compared with what is stored. With the name of a file, what the box hands
-// out is written there as a journal.
+// Heads 7, 120 and 239 are ours and registered; 21 is ours and is not; 200 is another supplier's. The managing node's host
+// sends frames of its own between the box's requests. The run has no input and is the same each time, so what it writes is
+// compared with what is stored. With the name of a file, what the box hands out is written there as a journal.
 mod account;
-mod box_calls;
-mod box_cases;
-mod cases;
-mod chance;
+mod calls;
 mod check;
 mod closing;
 mod entries;
 mod expected;
 mod fields;
 mod foreign;
-mod head;
-mod head_calls;
+mod host;
 mod journal;
 mod line;
 mod lines;
 mod odd;
 mod outcome;
-mod play;
-mod print;
-mod scene;
+mod progress;
 mod simulate;
-mod strange;
 mod table;
 mod tally;
 mod target;
-mod world;
+mod text;
+mod turns;
 
 use collector::COLLECTOR_LEN;
-use head::Head;
+use collector::Collector;
 use libc::STDERR_FILENO;
-use line::LINE_LEN;
 use octets::slices::front;
 use outcome::DONE;
-use print::say;
-use tally::Tally;
-use world::Scene;
-use world::World;
+use reporter::REPORTER_LEN;
+use reporter::Reporter;
+use target::FILL;
+use target::ROOM;
+use target::Space;
+use text::say;
+use types::NodeId;
+
+// A head's account: what 01's rules make of the calls, counted from their answers alone.
+pub struct Head {
+    // The head as a sender on the line, and as the maker of its entries.
+    pub number: usize,
+    pub id: u8,
+    // Whether the box has registered it.
+    pub registered: bool,
+    // Entries raised and not refused, and those refused.
+    pub accepted: u64,
+    pub refused: u64,
+    pub waiting: u64,
+    // Entries of the open batch, whether the box has booked it, and the first frame that carried it.
+    pub open: u64,
+    pub open_is_booked: bool,
+    pub opened_at: u64,
+    // Entries booked, and those of them that were handed out.
+    pub booked: u64,
+    pub taken: u64,
+    // The first frame of the managing node that tells of the last booking.
+    pub told_from: u64,
+    // Answers sent; the first that was neither given to the box nor lost; how many were lost, and how often one was repeated.
+    pub sent: u64,
+    pub read: u64,
+    pub lost: u64,
+    pub repeated: u64,
+    // The first frame of the managing node that was neither given to the head nor lost.
+    pub heard: u64,
+}
+
+// What the line keeps of a frame that was sent.
+pub struct Frame {
+    pub octets: Space,
+    pub len: usize,
+}
+
+// What a call works on. It goes from call to call by value: a function that lends five states one by one costs the prover
+// several times as much, and so does a type with a long name.
+pub struct World {
+    // The head whose turn it is: its account, and its state, for which another supplier's has no use.
+    pub head: Head,
+    pub state: Reporter,
+    pub at_box: Collector,
+    // The last frames of each sender.
+    pub line: [Frame; 48],
+    // The frame in hand: what was written last, or what the line gives.
+    pub octets: Space,
+    pub len: usize,
+    // What the last call came to.
+    pub got: u64,
+    // Calls, and the refusals among them by cause.
+    pub calls: u64,
+    pub causes: [u64; 20],
+    // How often something does not hold that 01 says of a call, or of the calls so far.
+    pub faults: u64,
+    // Frames that the managing node sent, in one row: the box's requests, and those that its host sent by itself.
+    pub sent: u64,
+    pub by_host: u64,
+    // Entries that were handed out, by the heads' accounts, and records made of them, and where these go.
+    pub taken: u64,
+    pub records: u64,
+    pub journal: i32,
+}
+
+pub struct Node {
+    pub head: Head,
+    pub state: Reporter,
+}
+
+// The world with all heads, of which it holds none that is newer.
+pub struct Scene {
+    pub nodes: [Node; 5],
+    pub world: World,
+}
 
 // Before the fourth head is registered, and after.
 const FIRST_PART: u64 = 20000;
 
 const SECOND_PART: u64 = 60000;
 
-fn all_heads() -> [Head; 5] {
-    [
-        Head::fresh(0, 7, 4),
-        Head::fresh(1, 21, 4),
-        Head::fresh(2, 120, 4),
-        Head::fresh(3, 239, 4),
-        Head::fresh(4, 200, foreign::BATCH),
-    ]
+fn fresh_node(number: usize, id: u8) -> Node {
+    let mut state = [0u8; REPORTER_LEN];
+    reporter::new(&mut state, NodeId(id));
+    Node {
+        head: Head::fresh(number, id),
+        state,
+    }
 }
 
-fn start(journal: i32, tally: Tally) -> Scene {
-    let heads = all_heads();
-    let head = heads[0];
-    let mut at_box = [0u8; COLLECTOR_LEN];
-    collector::new(&mut at_box);
-    let line = [0u8; LINE_LEN];
-    let world = World {
-        head,
-        at_box,
-        line,
-        tally,
-        journal,
+fn fresh(journal: i32) -> World {
+    let first = fresh_node(0, 7);
+    let head = first.head;
+    let state = first.state;
+    let frame = Frame {
+        octets: [FILL; ROOM],
+        len: 0,
     };
-    Scene { heads, world }
+    World {
+        head,
+        state,
+        at_box: [0u8; COLLECTOR_LEN],
+        line: [frame; 48],
+        octets: [FILL; ROOM],
+        len: 0,
+        got: DONE,
+        calls: 0,
+        causes: [0u64; 20],
+        faults: 0,
+        sent: 0,
+        by_host: 0,
+        taken: 0,
+        records: 0,
+        journal,
+    }
+}
+
+// The heads, and a fresh box.
+fn start(mut world: World) -> Scene {
+    collector::new(&mut world.at_box);
+    Scene {
+        nodes: [
+            fresh_node(0, 7),
+            fresh_node(1, 21),
+            fresh_node(2, 120),
+            fresh_node(3, 239),
+            fresh_node(4, 200),
+        ],
+        world,
+    }
 }
 
 fn register(scene: Scene, number: usize, expected: u64) -> Scene {
-    scene.after(box_calls::register(scene.turn_of(number), expected))
+    let world = scene.turn_of(number);
+    let mut head = world.head;
+    let after = calls::register(world, head.id).comes_to(expected);
+    head.registered = after.got == DONE;
+    scene.after(after.with(head))
 }
 
-// Three of our heads are registered from the start.
-fn first_three(scene: Scene) -> Scene {
-    let first = register(scene, 0, DONE);
-    let second = register(first, 2, DONE);
-    register(second, 3, DONE)
-}
-
-// The other supplier's head takes the fourth place, so there is none for 21.
-fn fourth(scene: Scene) -> Scene {
-    let full = register(scene, 4, DONE);
-    register(full, 1, 15)
-}
-
-fn lines_to_check(tally: Tally) -> Tally {
-    let of_heads = cases::short_targets(cases::raising(cases::new_heads(tally)));
-    let registered = box_cases::taking(box_cases::registering(of_heads));
-    let requested = box_cases::requesting(registered);
-    box_cases::full_book(box_cases::reading(requested))
-}
-
-// The simulation on a bad line, then on a good one.
-fn exchange(scene: Scene) -> Scene {
-    let first = simulate::run(first_three(scene), FIRST_PART);
-    let last = simulate::run(fourth(first), SECOND_PART);
-    say(b"the simulation: entries, then answers on their way to the box\n");
-    let shown = table::totals(table::heads(last));
-    say(b"the line is good from here on\n");
-    closing::all(shown)
+// The simulation: three of our heads are registered from the start, and the other supplier's takes the fourth place later, so
+// that there is none for 21.
+fn simulated(scene: Scene) -> Scene {
+    let three = register(register(register(scene, 0, DONE), 2, DONE), 3, DONE);
+    let first = simulate::run(three, FIRST_PART);
+    let four = register(register(first, 4, DONE), 1, 15);
+    simulate::run(four, SECOND_PART)
 }
 
 fn demo(journal: i32) {
-    say(b"lines to check: a number is the cause of a refusal, or a length\n");
-    let tally = lines_to_check([0u64; 32]);
-    table::verdict(exchange(start(journal, tally)));
+    say(b"lines to check: the cause of a refusal, a length, or what a call came to\n");
+    let scene = start(lines::all(fresh(journal)));
+    say(b"the simulation: entries, then answers on their way to the box\n");
+    let shown = table::simulated(simulated(scene));
+    say(b"the line is good from here on\n");
+    table::verdict(closing::all(shown));
 }
 
 // The same with the journal that the argument names.

@@ -1,20 +1,60 @@
-// Calls with octets that neither the head nor the box has sent, calls for a node that is not registered, and registering
-// that is refused.
-use crate::line::BOX;
-use crate::line::sent;
-use crate::outcome;
+// Octets that neither the head nor the box has sent, and calls that the box refuses.
+use crate::World;
+use crate::calls;
+use crate::host;
+use crate::line::MANAGING_NODE;
 use crate::outcome::IGNORED;
-use crate::scene;
-use crate::strange::STRANGER;
-use crate::strange::spoiled;
-use crate::tally::REQUESTS;
-use crate::tally::counted;
-use crate::tally::judge;
-use crate::target::written;
-use crate::world::World;
-use collector::Collector;
+use crate::tally::less;
+use crate::target::Space;
 
-// What the box makes of octets of a kind.
+// A node that takes no part in the exchange, 21h.
+const STRANGER: u8 = 33;
+
+// What changes in a frame, by kind: up to four places and the octets there. Kinds 0 to 6 are refused with cause 1 to 7; 0 and
+// 2 are cut. Then frames of the stranger: as it is, an IdentResponse, a PReq. Then an SoC, and an answer with no state.
+fn changes(kind: u64) -> u64 {
+    match kind {
+        1 => 0x0C08,
+        3 => 0x0E02,
+        4 => 0x0E05_1177,
+        5 => 0x0E06_110C,
+        6 => 0x0E05_11FD_1409,
+        7 => 0x1021,
+        8 => 0x1021_0E06_1101,
+        9 => 0x1021_0E03_1600_1700,
+        10 => 0x0E01,
+        11 => 0x1477,
+        _ => 0,
+    }
+}
+
+fn changed(start: Space, all: u64) -> Space {
+    let mut octets = start;
+    let mut rest = all;
+    for _ in 0..4usize {
+        let at = (rest / 256 % 128) as usize;
+        octets[at] = (rest % 256) as u8;
+        rest = rest / 65536;
+    }
+    octets
+}
+
+// Makes of the frame in hand one of a kind, to the head whose turn it is.
+pub fn spoil(mut w: World, kind: u64) -> World {
+    let head = w.head;
+    let before = w.octets;
+    let mut octets = changed(before, changes(kind));
+    octets[15] = head.id;
+    w.octets = octets;
+    w.len = match kind {
+        0 => 13,
+        2 => 14,
+        _ => w.len,
+    };
+    w
+}
+
+// What the box makes of a frame of a kind.
 fn box_makes(kind: u64) -> u64 {
     match kind {
         0..=6 => kind + 1,
@@ -23,88 +63,46 @@ fn box_makes(kind: u64) -> u64 {
     }
 }
 
-// The box is given damaged octets, or a frame of another kind or node.
-pub fn to_box(mut world: World, chance: u64) -> World {
-    let head = world.head;
+// The box is given damaged octets, a frame of another kind or node, or the head's PRes.
+pub fn to_box(w: World, chance: u64) -> World {
+    let head = w.head;
+    let kind = chance % 11;
     if head.sent == 0 {
-        return world;
+        return w;
     }
-    let kind = chance % 10;
-    let frame = sent(&world.line, head.number, head.sent - 1);
-    let octets = spoiled(frame, kind, head.id);
-    let got = collector::read(&mut world.at_box, written(&octets.space, octets.len));
-    judge(
-        &mut world.tally,
-        outcome::of_box_reading(got),
-        box_makes(kind),
-        true,
-    );
-    world
-}
-
-// What a head makes of octets of a kind.
-fn head_makes(kind: u64) -> u64 {
-    match kind {
-        0..=6 => kind + 1,
-        _ => IGNORED,
-    }
+    let odd = if kind == 10 {
+        host::pres(w)
+    } else {
+        spoil(w.is_given(head.number, less(head.sent, 1)), kind)
+    };
+    calls::box_reads(odd).comes_to(box_makes(kind))
 }
 
 // The head is given damaged octets, or a frame of another node.
-pub fn to_head(mut world: World, chance: u64) -> World {
-    let requests = counted(&world.tally, REQUESTS);
-    if requests == 0 {
-        return world;
-    }
-    let mut head = world.head;
+pub fn to_head(w: World, chance: u64) -> World {
     let kind = chance % 10;
-    let frame = sent(&world.line, BOX, requests - 1);
-    let octets = spoiled(frame, kind, head.id);
-    let got = reporter::read(&mut head.state, written(&octets.space, octets.len));
-    judge(
-        &mut world.tally,
-        outcome::of_head_reading(got),
-        head_makes(kind),
-        true,
-    );
-    world.head = head;
-    world
-}
-
-fn stranger_asked(at_box: &Collector) -> u64 {
-    let sent = scene::request(at_box, STRANGER, 40);
-    sent.outcome
-}
-
-// One of five calls that the box refuses.
-fn refused(at_box: &mut Collector, kind: u64, id: u8) -> u64 {
-    match kind {
-        0 => scene::take(at_box, STRANGER),
-        1 => stranger_asked(at_box),
-        2 => scene::register(at_box, 0),
-        3 => scene::register(at_box, 240),
-        _ => scene::register(at_box, id),
+    if w.sent == 0 {
+        return w;
     }
+    let odd = spoil(w.is_given(MANAGING_NODE, less(w.sent, 1)), kind);
+    let expected = if kind < 7 { kind + 1 } else { IGNORED };
+    calls::head_reads(odd).comes_to(expected)
 }
 
-fn refusal(kind: u64) -> u64 {
-    match kind {
-        0..=1 => 11,
-        2..=3 => 13,
-        _ => 14,
-    }
-}
-
-// Calls for nodes that are not registered, and registering that is refused.
-pub fn for_box(mut world: World, chance: u64) -> World {
-    let head = world.head;
-    let kind = chance % 5;
-    if kind == 4 {
-        if !head.registered {
-            return world;
+// Calls for a node that is not registered, and registering that is refused.
+pub fn for_box(w: World, chance: u64) -> World {
+    let head = w.head;
+    match chance % 5 {
+        0 => calls::take(w, STRANGER).comes_to(11),
+        1 => calls::request(w, STRANGER, 40).comes_to(11),
+        2 => calls::register(w, 0).comes_to(13),
+        3 => calls::register(w, 240).comes_to(13),
+        _ => {
+            if head.registered {
+                calls::register(w, head.id).comes_to(14)
+            } else {
+                w
+            }
         }
     }
-    let got = refused(&mut world.at_box, kind, head.id);
-    judge(&mut world.tally, got, refusal(kind), true);
-    world
 }

@@ -1,6 +1,4 @@
-// What a call came to, as a number: 01's cause where it was refused.
-use crate::target::Sent;
-use crate::target::Space;
+// What a call came to, as a number: 01's cause where it was refused, the length where a frame was written.
 use collector::RegisterAnswer;
 use collector::RequestAnswer;
 use collector::TakeAnswer;
@@ -8,17 +6,17 @@ use reporter::NewAnswer;
 use reporter::RaiseAnswer;
 use section::WriteAnswer;
 
-// The call did what it is for: raised, written, booked, closed, registered, handed out.
-pub const DONE: u64 = 0;
+// The call did what it is for: raised, booked, closed, registered, handed out.
+pub const DONE: u64 = 900;
 
 // The box has booked the batch before.
-pub const KNOWN: u64 = 100;
+pub const KNOWN: u64 = 901;
 
 // A head read EA, and it closes nothing.
-pub const KEPT: u64 = 101;
+pub const KEPT: u64 = 902;
 
 // A frame tells a head nothing.
-pub const IGNORED: u64 = 102;
+pub const IGNORED: u64 = 903;
 
 pub fn of_new(answer: NewAnswer) -> u64 {
     match answer {
@@ -35,19 +33,10 @@ pub fn of_raise(answer: RaiseAnswer) -> u64 {
     }
 }
 
-// What a writer of answers came to.
-pub fn sent(space: Space, answer: WriteAnswer) -> Sent {
+pub fn of_writing(answer: WriteAnswer) -> u64 {
     match answer {
-        WriteAnswer::Written(len) => Sent {
-            space,
-            len,
-            outcome: DONE,
-        },
-        WriteAnswer::Refused(e) => Sent {
-            space,
-            len: 0,
-            outcome: e.number() as u64,
-        },
+        WriteAnswer::Written(len) => len as u64,
+        WriteAnswer::Refused(e) => e.number() as u64,
     }
 }
 
@@ -80,16 +69,11 @@ pub fn of_box_reading(answer: collector::ReadAnswer) -> u64 {
     }
 }
 
-// What the writer of requests came to.
-pub fn requested(space: Space, answer: RequestAnswer) -> Sent {
+pub fn of_request(answer: RequestAnswer) -> u64 {
     match answer {
-        RequestAnswer::Written(n) => sent(space, WriteAnswer::Written(n)),
-        RequestAnswer::Refused(e) => sent(space, WriteAnswer::Refused(e)),
-        RequestAnswer::NotRegistered => Sent {
-            space,
-            len: 0,
-            outcome: 11,
-        },
+        RequestAnswer::Written(len) => len as u64,
+        RequestAnswer::Refused(e) => e.number() as u64,
+        RequestAnswer::NotRegistered => 11,
     }
 }
 

@@ -1,14 +1,17 @@
 // The simulation: one call after another, by a fixed rule in place of chance.
-use crate::box_calls;
-use crate::chance::next;
+use crate::Scene;
+use crate::World;
 use crate::check;
-use crate::head_calls;
 use crate::odd;
-use crate::tally::CALLS;
-use crate::tally::counted;
 use crate::target::ROOM;
-use crate::world::Scene;
-use crate::world::World;
+use crate::turns;
+
+// The largest prime below 2^31.
+const MODULUS: u64 = 2147483647;
+
+fn next(chance: u64) -> u64 {
+    chance % MODULUS * 48271 % MODULUS
+}
 
 // The room of a target: now and then too little.
 fn room(chance: u64) -> usize {
@@ -19,26 +22,27 @@ fn room(chance: u64) -> usize {
 }
 
 // For 8,000 calls in turn a head's entries are not taken, so that its book fills.
-fn take(world: World) -> World {
-    let head = world.head;
-    if counted(&world.tally, CALLS) / 8000 % 5 == head.number as u64 {
-        return world;
+fn take(w: World) -> World {
+    let head = w.head;
+    if w.calls / 8000 % 5 == head.number as u64 {
+        return w;
     }
-    box_calls::take(world)
+    turns::take(w)
 }
 
-fn act(world: World, chance: u64) -> World {
+fn act(w: World, chance: u64) -> World {
     let rest = chance / 32;
     match chance % 32 {
-        0..=1 => head_calls::raise(world, rest),
-        2..=5 => head_calls::answer(world, room(rest)),
-        6..=9 => box_calls::read(world, rest),
-        10..=13 => box_calls::request(world, room(rest)),
-        14..=23 => head_calls::read(world, rest),
-        24..=28 => take(world),
-        29 => odd::to_box(world, rest),
-        30 => odd::to_head(world, rest),
-        _ => odd::for_box(world, rest),
+        0..=1 => turns::raise(w, rest),
+        2..=5 => turns::answer(w, room(rest)),
+        6..=9 => turns::box_reads(w, rest),
+        10..=11 => turns::request(w, room(rest)),
+        12..=13 => turns::host_sends(w, rest),
+        14..=23 => turns::head_reads(w, rest),
+        24..=28 => take(w),
+        29 => odd::to_box(w, rest),
+        30 => odd::to_head(w, rest),
+        _ => odd::for_box(w, rest),
     }
 }
 

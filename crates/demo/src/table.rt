@@ -1,103 +1,122 @@
 // The tables that a fitter reads.
-use crate::head::Head;
+use crate::Head;
+use crate::Scene;
+use crate::World;
 use crate::journal;
-use crate::lines::cause_name;
-use crate::print::column;
-use crate::print::number;
-use crate::print::say;
-use crate::tally::CALLS;
-use crate::tally::FAULTS;
-use crate::tally::RECORDS;
-use crate::tally::REQUESTS;
-use crate::tally::Tally;
-use crate::tally::counted;
-use crate::tally::demand;
-use crate::tally::plus;
-use crate::world::Scene;
-use crate::world::World;
+use crate::tally::less;
+use crate::text::column;
+use crate::text::next_line;
+use crate::text::row;
+use crate::text::say;
+use crate::text::say_line;
+use crate::text::tell;
+use octets::slices::tail;
 
-fn row(head: Head) {
-    let answers = head.answers;
-    column(head.id as u64);
-    column(head.accepted);
-    column(head.refused);
-    column(head.booked);
-    column(head.taken);
-    column(head.open);
-    column(head.waiting);
-    column(head.sent);
-    column(answers.lost);
-    column(answers.repeated);
-    say(b"\n");
+fn head_row(head: Head) {
+    row([
+        head.id as u64,
+        head.accepted,
+        head.refused,
+        head.booked,
+        head.taken,
+        head.open,
+        head.waiting,
+        head.sent,
+        head.lost,
+        head.repeated,
+    ]);
 }
 
 // A line for each head: its entries, then its answers on their way to the box.
-pub fn heads(scene: Scene) -> Scene {
-    let all = scene.heads;
+fn heads(scene: Scene) {
+    let nodes = scene.nodes;
     say(
         b"     head   raised  refused   booked    taken     open  waiting     sent     lost repeated\n",
     );
     for k in 0..5usize {
-        row(all[k]);
+        let node = nodes[k];
+        head_row(node.head);
     }
-    scene
 }
 
-// How often each cause was given; a cause that never was makes the run worth less than it should be.
-fn causes(tally: &mut Tally) {
+// How often a cause was given, and its name.
+fn cause_row(n: u64, cause: u64, name: &[u8]) {
+    column(n);
+    tell(b"  cause #, ", [cause, 0, 0]);
+    say_line(name);
+    say(b"\n");
+}
+
+// A line for each cause; one that was never given makes the run worth less than it should be.
+fn causes(world: World, names: &[u8]) -> World {
+    let mut w = world;
+    let mut at = 0;
     for cause in 1..17usize {
-        column(counted(tally, cause));
-        number(b"  cause ", cause as u64);
-        say(b", ");
-        cause_name(cause as u64);
-        say(b"\n");
-        demand(tally, 0 < counted(tally, cause));
+        let n = w.causes[cause];
+        cause_row(n, cause as u64, tail(names, at));
+        at = next_line(names, at);
+        w = w.demands(0 < n);
     }
+    w
 }
 
-pub fn totals(mut scene: Scene) -> Scene {
-    let mut world = scene.world;
-    number(b"calls ", counted(&world.tally, CALLS));
-    number(b", requests sent ", counted(&world.tally, REQUESTS));
-    say(b", refusals by cause\n");
-    causes(&mut world.tally);
-    scene.world = world;
+// The same with 01's table of causes, in few words.
+fn named_causes(w: World) -> World {
+    causes(
+        w,
+        b"input or target too short\n\
+        EtherType not 88AB h\n\
+        section empty, or PRes not to 255\n\
+        message type unknown\n\
+        NMT state unknown\n\
+        service unknown\n\
+        requested service unknown\n\
+        entry of mode 0, or profile above 4,095\n\
+        16 already waiting\n\
+        no StatusResponse\n\
+        ID not registered\n\
+        fewer free places than entries\n\
+        ID not 1 to 239\n\
+        ID registered already\n\
+        four registered\n\
+        nothing booked to take\n",
+    )
+}
+
+pub fn simulated(mut scene: Scene) -> Scene {
+    heads(scene);
+    let w = scene.world;
+    tell(
+        b"calls #, requests sent #, frames that the host sent by itself #, refusals by cause\n",
+        [w.calls, less(w.sent, w.by_host), w.by_host],
+    );
+    let after = named_causes(w);
+    scene.world = after;
     scene
-}
-
-// How many entries were handed out.
-fn taken(heads: [Head; 5]) -> u64 {
-    let mut n = 0;
-    for k in 0..5usize {
-        let head = heads[k];
-        n = plus(n, head.taken);
-    }
-    n
 }
 
 // The records of the journal, where one is kept: as many as entries were handed out.
-fn records(world: World, taken: u64) {
-    if world.journal < 0 {
+fn records(w: World) {
+    if w.journal < 0 {
         return;
     }
-    number(b"records in the journal ", counted(&world.tally, RECORDS));
-    number(b", entries taken ", taken);
-    say(b"\n");
-    journal::close(world.journal);
+    tell(
+        b"records in the journal #, entries taken #\n",
+        [w.records, w.taken, 0],
+    );
+    journal::close(w.journal);
 }
 
 pub fn verdict(scene: Scene) {
-    let heads = scene.heads;
-    let taken = taken(heads);
-    let mut world = scene.world;
-    let recorded = counted(&world.tally, RECORDS);
-    demand(&mut world.tally, recorded == taken);
-    records(world, taken);
-    let faults = counted(&world.tally, FAULTS);
-    if faults == 0 {
+    let w = scene.world;
+    records(w);
+    let end = w.demands(w.records == w.taken);
+    if end.faults == 0 {
         say(b"every accepted fault is accounted for\n");
     } else {
-        number(b"", faults);
-        say(b" times something else than 01 has\nFAULTS ARE MISSING OR DOUBLE\n");
+        tell(
+            b"# times something else than 01 has\nFAULTS ARE MISSING OR DOUBLE\n",
+            [end.faults, 0, 0],
+        );
     }
 }

@@ -7,10 +7,10 @@ use Rattle.demo.proofs.check.all.Statement.{statement}
 use Rattle.demo.proofs.check.all.Tie as tie
 
 abbrev Inv-loop : tie.InvT-loop
-Inv-loop heads world₀ k₀ world k = k ≤ 5
+Inv-loop scene nodes world₀ k₀ world k = k ≤ 5
 
 abbrev μ-loop : tie.MeasureT-loop
-μ-loop heads world₀ k₀ world k = 5 - k
+μ-loop scene nodes world₀ k₀ world k = 5 - k
 
 pub all-spec : {M : Type 1} → statement M
 all-spec =
@@ -19,7 +19,7 @@ all-spec =
     Inv-loop
     μ-loop
     (λ c. omega arith)
-    (λ c. search needs)
+    (λ c. omega arith)
     (λ c. search needs)
     (λ c κs. tt)
     (λ c κs. tt)

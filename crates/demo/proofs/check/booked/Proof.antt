@@ -7,10 +7,10 @@ use Rattle.demo.proofs.check.booked.Statement.{statement}
 use Rattle.demo.proofs.check.booked.Tie as tie
 
 abbrev Inv-loop : tie.InvT-loop
-Inv-loop head state copy₀ n₀ counter₀ copy n counter = counter ≤ 65
+Inv-loop head copy₀ n₀ counter₀ copy n counter = counter ≤ 65
 
 abbrev μ-loop : tie.MeasureT-loop
-μ-loop head state copy₀ n₀ counter₀ copy n counter = 65 - counter
+μ-loop head copy₀ n₀ counter₀ copy n counter = 65 - counter
 
 pub booked-spec : {M : Type 1} → statement M
 booked-spec =

@@ -7,10 +7,10 @@ use Rattle.demo.proofs.table.causes.Statement.{statement}
 use Rattle.demo.proofs.table.causes.Tie as tie
 
 abbrev Inv-loop : tie.InvT-loop
-Inv-loop tally₀ cause₀ t3 t4 t5 tally cause = cause ≤ 17
+Inv-loop names w₀ at₀ cause₀ w at cause = cause ≤ 17
 
 abbrev μ-loop : tie.MeasureT-loop
-μ-loop tally₀ cause₀ t3 t4 t5 tally cause = 17 - cause
+μ-loop names w₀ at₀ cause₀ w at cause = 17 - cause
 
 pub causes-spec : {M : Type 1} → statement M
 causes-spec =
@@ -19,14 +19,9 @@ causes-spec =
     Inv-loop
     μ-loop
     (λ c. omega arith)
-    (λ c κs. tt)
-    (λ c κs. tt)
+    (λ c. omega arith)
     (λ c. search needs)
     (λ c κs. tt)
-    (λ c. search needs)
-    (λ c κs. tt)
-    (λ c κs. tt)
-    (λ c. search needs)
     (λ c κs. tt)
     (λ c κs. tt)
     (λ c κs. tt)

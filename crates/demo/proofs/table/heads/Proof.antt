@@ -7,10 +7,10 @@ use Rattle.demo.proofs.table.heads.Statement.{statement}
 use Rattle.demo.proofs.table.heads.Tie as tie
 
 abbrev Inv-loop : tie.InvT-loop
-Inv-loop scene all k₀ k = k ≤ 5
+Inv-loop nodes k₀ k = k ≤ 5
 
 abbrev μ-loop : tie.MeasureT-loop
-μ-loop scene all k₀ k = 5 - k
+μ-loop nodes k₀ k = 5 - k
 
 pub heads-spec : {M : Type 1} → statement M
 heads-spec =
@@ -21,7 +21,7 @@ heads-spec =
     (λ c. search needs)
     (λ c κs. tt)
     (λ c. omega arith)
-    (λ c. search needs)
+    (λ c. omega arith)
     (λ c. search needs)
     (λ c κs. tt)
     (λ c. omega arith)

@@ -4,8 +4,8 @@ use Prim.Native.Nat.{_-_}
 use native.Mathlib.Omega.{arith}
 use lib.ListN.{length}
 use borrow.Author.Needs.{needs}
-use Rattle.demo.proofs.print.next_line.Statement.{statement}
-use Rattle.demo.proofs.print.next_line.Tie as tie
+use Rattle.demo.proofs.text.next_line.Statement.{statement}
+use Rattle.demo.proofs.text.next_line.Tie as tie
 
 abbrev Inv-loop : tie.InvT-loop
 Inv-loop text from i₀ i = Unit {0}
@@ -25,5 +25,5 @@ next-line-spec =
     (λ c. tt)
     (λ c. omega arith)
     (λ c. omega arith)
-    (λ c. omega arith)
+    (λ c. tt)
     (λ c. tt))
