@@ -72,6 +72,7 @@ def snake(name):
 CONSTANTS = {
     'REPORTER_LEN': ('reporter', 'REPORTER_LEN'),
     'COLLECTOR_LEN': ('collector', 'COLLECTOR_LEN'),
+    'ETH_LEN': ('types', 'ETH_LEN'),
     'ENTRY_LEN': ('error_entry', 'ENTRY_LEN'),
     'RECORD_LEN': ('journal_records', 'RECORD_LEN'),
     'JOURNAL_START_LEN': ('journal_records', 'JOURNAL_START_LEN'),
@@ -153,8 +154,6 @@ def lengths():
     for (file, table), named in CODES.items():
         for variant, value in equations(text_of('types', 'specs', f'{file}.antt'), table):
             yield named(variant), int(value, 0)
-    header = re.search(r'^readFrame f =\s+need \(leb (\d+) ', text_of('codec/specs/Frame.antt'), re.M)
-    yield 'ETH_LEN', int(header[1])
     request = re.search(r'length \(requestFrame .*\) ≡ (\d+)$', text_of('collector/specs/Calls.antt'), re.M)
     yield 'REQUEST_LEN', int(request[1])
     rules = text_of('reporter/specs/Rules.antt')

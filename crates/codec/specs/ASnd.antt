@@ -11,6 +11,8 @@ use Rattle.types.specs.declared.hal.PowerlinkError.the-variants.{BufferTooShort
 use Rattle.types.specs.declared.service.ServiceId.{ServiceId}
 use Rattle.types.specs.declared.service.ServiceIdAnswer.{ServiceIdAnswer}
 use Rattle.types.specs.declared.service.ServiceIdAnswer.the-variants.{Known, Unknown}
+use Rattle.section.specs.Write.{minSection}
+use Rattle.control.specs.ASnd.{asndFieldsLength}
 use Rattle.control.specs.declared.asnd.ASndFrame.{ASndFrame}
 use Rattle.codec.specs.declared.FrameAnswer.{FrameAnswer}
 use Rattle.codec.specs.declared.FrameAnswer.the-variants.{Frame, Refused}
@@ -29,10 +31,10 @@ abbrev pub asndByService : List ℕ → ServiceIdAnswer → FrameAnswer
 asndByService s (Unknown b) = Refused (InvalidServiceId b)
 asndByService s (Known service) = Frame (ASnd (asndOf s service))
 
--- 4 octets are needed. That only the listed services are read is powerlink-rs's rule, not DS 301's
+-- the octets of the fields are needed. That only the listed services are read is powerlink-rs's rule, not DS 301's
 unfoldable pub readASnd : List ℕ → FrameAnswer
-readASnd s = need (leb 4 (length s)) (Refused BufferTooShort) (asndByService s (serviceOf (getD s 3 0)))
+readASnd s = need (leb asndFieldsLength (length s)) (Refused BufferTooShort) (asndByService s (serviceOf (getD s 3 0)))
 
--- a section of exactly 46 octets loses the zeros at its payload's end: powerlink-rs's rule, not DS 301's
+-- a section of exactly the smallest size loses the zeros at its payload's end: powerlink-rs's rule, not DS 301's
 unfoldable pub asndPayloadLength : List ℕ → ℕ
-asndPayloadLength s = pick (eqb (length s) 46) (trimmedLength (drop 4 s)) (length (drop 4 s))
+asndPayloadLength s = pick (eqb (length s) minSection) (trimmedLength (drop asndFieldsLength s)) (length (drop asndFieldsLength s))

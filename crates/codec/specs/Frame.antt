@@ -8,13 +8,15 @@ use lib.Dec.{leb, ltb, eqb}
 use Rattle.octets.specs.Numbers.{beAt}
 use Rattle.types.specs.Causes.{Cause, row, causeOf}
 use Rattle.types.specs.Codes.{need}
-use Rattle.types.specs.Header.{ethHeaderOf, ethertypeEPL}
+use Rattle.types.specs.Header.{ethLength, ethHeaderOf, ethertypeEPL}
 use Rattle.types.specs.Messages.{messageOf}
 use Rattle.types.specs.declared.hal.PowerlinkError.the-variants.{BufferTooShort, InvalidEthernetFrame, InvalidPlFrame, InvalidMessageType}
 use Rattle.types.specs.declared.message_type.MessageType.{MessageType}
 use Rattle.types.specs.declared.message_type.MessageType.the-variants as message
 use Rattle.types.specs.declared.message_type.MessageTypeAnswer.{MessageTypeAnswer}
 use Rattle.types.specs.declared.message_type.MessageTypeAnswer.the-variants.{Known, Unknown}
+use Rattle.control.specs.ASnd.{asndPayloadAt}
+use Rattle.poll.specs.Poll.{pollPayloadAt}
 use Rattle.codec.specs.ASnd.{readASnd, asndPayloadLength}
 use Rattle.codec.specs.PReq.{readPReq}
 use Rattle.codec.specs.PRes.{readPRes}
@@ -43,13 +45,13 @@ byMessage (Known kind) s = byKind kind s
 unfoldable pub readSection : List ℕ → FrameAnswer
 readSection s = byMessage (messageOf (getD s 0 0 % 0x80)) s
 
--- 14 octets, then the EtherType, then a section that is not empty
+-- the Ethernet header, then the EtherType, then a section that is not empty
 unfoldable pub readFrame : List ℕ → FrameAnswer
 readFrame f =
-    need (leb 14 (length f)) (Refused BufferTooShort)
+    need (leb ethLength (length f)) (Refused BufferTooShort)
     (need (eqb (beAt 2 12 f) ethertypeEPL) (Refused InvalidEthernetFrame)
-    (need (ltb 14 (length f)) (Refused InvalidPlFrame)
-    (readSection (drop 14 f))))
+    (need (ltb ethLength (length f)) (Refused InvalidPlFrame)
+    (readSection (drop ethLength f))))
 
 abbrev pub place : ℕ → ℕ → PayloadPlace
 place at n = record { start = at; len = n }
@@ -57,10 +59,10 @@ place at n = record { start = at; len = n }
 -- the payload of a frame of a kind with the section s, counted from the Ethernet header on
 abbrev pub placeInFrame : PowerlinkFrame → List ℕ → PayloadPlace
 placeInFrame (Soc f) s = place 0 0
-placeInFrame (PReq f) s = place 24 (f .«payload_size»)
-placeInFrame (PRes f) s = place 24 (f .«payload_size»)
+placeInFrame (PReq f) s = place pollPayloadAt (f .«payload_size»)
+placeInFrame (PRes f) s = place pollPayloadAt (f .«payload_size»)
 placeInFrame (SoA f) s = place 0 0
-placeInFrame (ASnd f) s = place 18 (asndPayloadLength s)
+placeInFrame (ASnd f) s = place asndPayloadAt (asndPayloadLength s)
 
 abbrev pub placeOf : FrameAnswer → List ℕ → PayloadPlace
 placeOf (Refused e) s = place 0 0
@@ -69,7 +71,7 @@ placeOf (Frame f) s = placeInFrame f s
 -- beside a refusal stands the header that the octets give, those past the end counting as 0, and no payload
 unfoldable pub deserializeFrame : List ℕ → DeserializedFrame
 deserializeFrame f =
-    record { «eth_header» = ethHeaderOf f; answer = readFrame f; «payload_place» = placeOf (readFrame f) (drop 14 f) }
+    record { «eth_header» = ethHeaderOf f; answer = readFrame f; «payload_place» = placeOf (readFrame f) (drop ethLength f) }
 
 -- the octets at a place; what would lie past the end is left out
 abbrev pub payloadOf : PayloadPlace → List ℕ → List ℕ

@@ -6,7 +6,7 @@ use lib.ListN.{length, getD}
 use lib.Dec.{leb}
 use Rattle.types.specs.Causes.{Cause, row, causeOf}
 use Rattle.types.specs.Codes.{need}
-use Rattle.types.specs.Header.{ethHeaderOf}
+use Rattle.types.specs.Header.{ethLength, ethHeaderOf}
 use Rattle.types.specs.Messages.{messageOf}
 use Rattle.types.specs.declared.hal.PowerlinkError.the-variants.{BufferTooShort, InvalidMessageType}
 use Rattle.types.specs.declared.message_type.MessageTypeAnswer.{MessageTypeAnswer}
@@ -18,12 +18,12 @@ use Rattle.codec.specs.declared.headers.PlHeader.{PlHeader}
 use Rattle.codec.specs.declared.headers.PlHeaderAnswer.{PlHeaderAnswer}
 use Rattle.codec.specs.declared.headers.PlHeaderAnswer.the-variants.{Read, Refused}
 
--- 14 octets are needed; beside a refusal stands the header that the octets give, those past the end counting as 0
+-- all octets are needed; beside a refusal stands the header that the octets give, those past the end counting as 0
 abbrev pub deserializeEthHeader : List ℕ → DeserializedEthHeader
 deserializeEthHeader f =
     record {
       «eth_header» = ethHeaderOf f;
-      answer = need (leb 14 (length f)) (eth.Refused BufferTooShort) eth.Read;
+      answer = need (leb ethLength (length f)) (eth.Refused BufferTooShort) eth.Read;
     }
 
 -- 01's number for each case

@@ -7,6 +7,8 @@ use lib.Dec.{leb}
 use Rattle.octets.specs.Numbers.{bit, leAt}
 use Rattle.types.specs.Codes.{need}
 use Rattle.types.specs.declared.hal.PowerlinkError.the-variants.{BufferTooShort}
+use Rattle.poll.specs.Poll.{pollFieldsLength, msBit, rdBit}
+use Rattle.poll.specs.PReq.{eaBit}
 use Rattle.poll.specs.declared.preq.PReqFrame.{PReqFrame}
 use Rattle.codec.specs.declared.FrameAnswer.{FrameAnswer}
 use Rattle.codec.specs.declared.FrameAnswer.the-variants.{Frame, Refused}
@@ -18,14 +20,14 @@ preqOf s size =
     record {
       destination = record { 0 = getD s 1 0 };
       source = record { 0 = getD s 2 0 };
-      flags = record { ms = bit 5 (getD s 4 0); ea = bit 2 (getD s 4 0); rd = bit 0 (getD s 4 0) };
+      flags = record { ms = bit msBit (getD s 4 0); ea = bit eaBit (getD s 4 0); rd = bit rdBit (getD s 4 0) };
       «pdo_version» = record { 0 = getD s 6 0 };
       «payload_size» = size;
     }
 
--- 10 octets are needed, then those of the payload
+-- the octets of the fields are needed, then those of the payload
 unfoldable pub readPReq : List ℕ → FrameAnswer
 readPReq s =
-    need (leb 10 (length s)) (Refused BufferTooShort)
-    (need (leb (leAt 2 8 s) (length s - 10)) (Refused BufferTooShort)
+    need (leb pollFieldsLength (length s)) (Refused BufferTooShort)
+    (need (leb (leAt 2 8 s) (length s - pollFieldsLength)) (Refused BufferTooShort)
     (Frame (PReq (preqOf s (leAt 2 8 s)))))

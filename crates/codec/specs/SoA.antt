@@ -15,6 +15,7 @@ use Rattle.types.specs.declared.requested_service.RequestedServiceIdAnswer.the-
 use Rattle.types.specs.declared.states.NmtState.{NmtState}
 use Rattle.types.specs.declared.states.NmtStateAnswer.{NmtStateAnswer}
 use Rattle.types.specs.declared.states.NmtStateAnswer.the-variants as state
+use Rattle.control.specs.SoA.{eaBit, erBit}
 use Rattle.control.specs.declared.soa.SoAFrame.{SoAFrame}
 use Rattle.codec.specs.declared.FrameAnswer.{FrameAnswer}
 use Rattle.codec.specs.declared.FrameAnswer.the-variants.{Frame, Refused}
@@ -27,7 +28,7 @@ soaOf s state service =
       destination = record { 0 = getD s 1 0 };
       source = record { 0 = getD s 2 0 };
       «nmt_state» = state;
-      flags = record { ea = bit 2 (getD s 4 0); er = bit 1 (getD s 4 0) };
+      flags = record { ea = bit eaBit (getD s 4 0); er = bit erBit (getD s 4 0) };
       «req_service_id» = service;
       «target_node_id» = record { 0 = getD s 7 0 };
       «epl_version» = record { 0 = getD s 8 0 };

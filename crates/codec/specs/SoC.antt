@@ -7,6 +7,7 @@ use lib.Dec.{leb}
 use Rattle.octets.specs.Numbers.{bit, leAt}
 use Rattle.types.specs.Codes.{need}
 use Rattle.types.specs.declared.hal.PowerlinkError.the-variants.{BufferTooShort}
+use Rattle.control.specs.SoC.{mcBit, psBit}
 use Rattle.control.specs.declared.soc.SocFrame.{SocFrame}
 use Rattle.codec.specs.declared.FrameAnswer.{FrameAnswer}
 use Rattle.codec.specs.declared.FrameAnswer.the-variants.{Frame, Refused}
@@ -18,7 +19,7 @@ socOf s =
     record {
       destination = record { 0 = getD s 1 0 };
       source = record { 0 = getD s 2 0 };
-      flags = record { mc = bit 7 (getD s 4 0); ps = bit 6 (getD s 4 0) };
+      flags = record { mc = bit mcBit (getD s 4 0); ps = bit psBit (getD s 4 0) };
       «net_time» = record { seconds = leAt 4 6 s; nanoseconds = leAt 4 10 s };
       «relative_time» = record { 0 = leAt 8 14 s };
     }

@@ -4,10 +4,12 @@ ghost use Rattle.codec.specs.Verdicts.{asndAnswer};
 ghost use Rattle.codec.specs.ASnd.{asndOf, readASnd, asndPayloadLength};
 use crate::FrameAnswer;
 use control::asnd::ASndFrame;
+use control::asnd::FIELDS_LEN;
 use frame::PowerlinkFrame;
 use octets::slices::byte_at;
 use octets::slices::tail;
 use octets::slices::trimmed_len;
+use section::MIN_SECTION;
 use types::NodeId;
 use types::hal::PowerlinkError;
 use types::service::ServiceId;
@@ -23,7 +25,7 @@ pub enum ASndVerdict {
 pub fn judge(s: &[u8]) -> ASndVerdict
     ensures { λ r. ⌜ asndAnswer r (now (s .entry)) ≡ readASnd (now (s .entry)) ⌝ }
 {
-    if s.len() < 4 {
+    if s.len() < FIELDS_LEN {
         return ASndVerdict::TooShort;
     }
     match ServiceId::from_u8(s[3]) {
@@ -60,8 +62,8 @@ pub fn fields(s: &[u8], service_id: ServiceId) -> ASndFrame
 pub(crate) fn payload_len(s: &[u8]) -> usize
     ensures { λ r. ⌜ r ≡ asndPayloadLength (now (s .entry)) ⌝ }
 {
-    let p = tail(s, 4);
-    if s.len() == 46 {
+    let p = tail(s, FIELDS_LEN);
+    if s.len() == MIN_SECTION {
         trimmed_len(p)
     } else {
         p.len()

@@ -2,12 +2,13 @@
 ghost use mathlib.Core.Path.{_≡_};
 ghost use Prim.Native.Nat.{_≤_};
 ghost use lib.ListN.{length};
-ghost use Rattle.types.specs.Header.{ethHeaderOf, macOf};
+ghost use Rattle.types.specs.Header.{ethLength, ethHeaderOf, macOf};
 ghost use Rattle.codec.specs.Headers.{deserializeEthHeader, deserializePlHeader};
 use octets::big_endian::get_u16_be;
 use octets::slices::byte_at;
 use octets::slices::tail;
 use types::NodeId;
+use types::basic::ETH_LEN;
 use types::basic::EthernetHeader;
 use types::basic::MacAddress;
 use types::hal::PowerlinkError;
@@ -51,7 +52,7 @@ fn mac_at(s: &[u8]) -> MacAddress
     ])
 }
 
-// The header that the first 14 octets are, those past the end counting as 0.
+// The header that the first octets are, those past the end counting as 0.
 pub(crate) fn eth_header_at(buffer: &[u8]) -> EthernetHeader
     ensures { λ r. ⌜ r ≡ ethHeaderOf (now (buffer .entry)) ⌝ }
 {
@@ -62,9 +63,9 @@ pub(crate) fn eth_header_at(buffer: &[u8]) -> EthernetHeader
     }
 }
 
-// The same of a buffer that has the 14 octets: none of them is tested by itself.
+// The same of a buffer that has all of them: none of them is tested by itself.
 pub(crate) fn whole_header(buffer: &[u8]) -> EthernetHeader
-    requires { ⌜ 14 ≤ length (now buffer) ⌝ }
+    requires { ⌜ ethLength ≤ length (now buffer) ⌝ }
     ensures { λ r. ⌜ r ≡ ethHeaderOf (now (buffer .entry)) ⌝ }
 {
     let destination = [
@@ -96,7 +97,7 @@ pub fn deserialize_eth_header(buffer: &[u8]) -> DeserializedEthHeader
     ensures { λ r. ⌜ r ≡ deserializeEthHeader (now (buffer .entry)) ⌝ }
 {
     let eth_header = eth_header_at(buffer);
-    if buffer.len() < 14 {
+    if buffer.len() < ETH_LEN {
         return DeserializedEthHeader {
             eth_header,
             answer: EthHeaderAnswer::Refused(PowerlinkError::BufferTooShort),

@@ -20,6 +20,7 @@ use octets::slices::byte_at;
 use octets::slices::front;
 use octets::slices::tail;
 use types::C_DLL_ETHERTYPE_EPL;
+use types::basic::ETH_LEN;
 use types::basic::EthernetHeader;
 use types::hal::PowerlinkError;
 use types::message_type::MessageType;
@@ -64,9 +65,9 @@ impl DeserializedFrame {
 pub fn deserialize_frame(buffer: &[u8]) -> DeserializedFrame
     ensures { λ r. ⌜ Reads (now (buffer .entry)) r ⌝ }
 {
-    if 14 <= buffer.len() {
+    if ETH_LEN <= buffer.len() {
         let answer = read_frame(buffer);
-        let payload_place = place_of(answer, tail(buffer, 14));
+        let payload_place = place_of(answer, tail(buffer, ETH_LEN));
         return DeserializedFrame {
             eth_header: whole_header(buffer),
             answer,
@@ -96,7 +97,7 @@ pub fn read_frame(buffer: &[u8]) -> FrameAnswer
 {
     match kind_of(buffer) {
         KindAnswer::Refused(e) => FrameAnswer::Refused(e),
-        KindAnswer::Kind(kind) => read_kind(kind, tail(buffer, 14)),
+        KindAnswer::Kind(kind) => read_kind(kind, tail(buffer, ETH_LEN)),
     }
 }
 
@@ -104,16 +105,16 @@ pub fn read_frame(buffer: &[u8]) -> FrameAnswer
 pub fn kind_of(buffer: &[u8]) -> KindAnswer
     ensures { λ r. ⌜ kindAnswer r (drop 14 (now (buffer .entry))) ≡ readFrame (now (buffer .entry)) ⌝ }
 {
-    if buffer.len() < 14 {
+    if buffer.len() < ETH_LEN {
         return KindAnswer::Refused(PowerlinkError::BufferTooShort);
     }
     if get_u16_be(buffer, 12) != C_DLL_ETHERTYPE_EPL {
         return KindAnswer::Refused(PowerlinkError::InvalidEthernetFrame);
     }
-    if buffer.len() <= 14 {
+    if buffer.len() <= ETH_LEN {
         return KindAnswer::Refused(PowerlinkError::InvalidPlFrame);
     }
-    kind_in(tail(buffer, 14))
+    kind_in(tail(buffer, ETH_LEN))
 }
 
 // The kind of the section `s`. Two tests of a few codes each: one of all five is compiled to a table of jumps.
@@ -168,15 +169,15 @@ pub fn payload_place(frame: PowerlinkFrame, s: &[u8]) -> PayloadPlace
         PowerlinkFrame::Soc(_) => PayloadPlace { start: 0, len: 0 },
         PowerlinkFrame::SoA(_) => PayloadPlace { start: 0, len: 0 },
         PowerlinkFrame::PReq(f) => PayloadPlace {
-            start: 24,
+            start: poll::PAYLOAD_AT,
             len: f.payload_size as usize,
         },
         PowerlinkFrame::PRes(f) => PayloadPlace {
-            start: 24,
+            start: poll::PAYLOAD_AT,
             len: f.payload_size as usize,
         },
         PowerlinkFrame::ASnd(_) => PayloadPlace {
-            start: 18,
+            start: control::asnd::PAYLOAD_AT,
             len: asnd::payload_len(s),
         },
     }

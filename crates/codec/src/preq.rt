@@ -6,6 +6,10 @@ use crate::FrameAnswer;
 use frame::PowerlinkFrame;
 use octets::little_endian::get_u16_le;
 use octets::slices::byte_at;
+use poll::FIELDS_LEN;
+use poll::MS;
+use poll::RD;
+use poll::preq::EA;
 use poll::preq::PReqFlags;
 use poll::preq::PReqFrame;
 use types::NodeId;
@@ -21,12 +25,12 @@ pub enum PReqVerdict {
 pub fn judge(s: &[u8]) -> PReqVerdict
     ensures { λ r. ⌜ preqAnswer r (now (s .entry)) ≡ readPReq (now (s .entry)) ⌝ }
 {
-    if s.len() < 10 {
+    if s.len() < FIELDS_LEN {
         return PReqVerdict::TooShort;
     }
     let size = get_u16_le(s, 8);
     let len = size as usize;
-    if s.len() - 10 < len {
+    if s.len() - FIELDS_LEN < len {
         return PReqVerdict::TooShort;
     }
     PReqVerdict::Read(size)
@@ -51,9 +55,9 @@ pub fn fields(s: &[u8], payload_size: u16) -> PReqFrame
         destination: NodeId(byte_at(s, 1)),
         source: NodeId(byte_at(s, 2)),
         flags: PReqFlags {
-            ms: flags / 0x20 % 2 == 1,
-            ea: flags / 4 % 2 == 1,
-            rd: flags % 2 == 1,
+            ms: flags / MS % 2 == 1,
+            ea: flags / EA % 2 == 1,
+            rd: flags / RD % 2 == 1,
         },
         pdo_version: PDOVersion(byte_at(s, 6)),
         payload_size,

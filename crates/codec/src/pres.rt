@@ -1,19 +1,23 @@
 // The rules of reading PRes.
 ghost use mathlib.Core.Path.{_≡_};
 ghost use Rattle.codec.specs.Verdicts.{presAnswer};
-ghost use Rattle.codec.specs.PRes.{presOf, presFlags, readPRes};
+ghost use Rattle.codec.specs.PRes.{presOf, presFlagsOf, readPRes};
 use crate::FrameAnswer;
 use frame::PowerlinkFrame;
 use octets::little_endian::get_u16_le;
 use octets::slices::byte_at;
+use poll::FIELDS_LEN;
+use poll::MS;
+use poll::RD;
+use poll::pres::EN;
 use poll::pres::PResFlags;
 use poll::pres::PResFrame;
 use types::C_ADR_BROADCAST_NODE_ID;
 use types::NodeId;
 use types::hal::PowerlinkError;
 use types::mapping::PDOVersion;
-use types::poll_flags::PRFlag;
-use types::poll_flags::RSFlag;
+use types::poll_flags::priority_at;
+use types::poll_flags::requests_at;
 use types::states::NmtState;
 use types::states::NmtStateAnswer;
 
@@ -28,7 +32,7 @@ pub enum PResVerdict {
 pub fn judge(s: &[u8]) -> PResVerdict
     ensures { λ r. ⌜ presAnswer r (now (s .entry)) ≡ readPRes (now (s .entry)) ⌝ }
 {
-    if s.len() < 10 {
+    if s.len() < FIELDS_LEN {
         return PResVerdict::TooShort;
     }
     if s[1] != C_ADR_BROADCAST_NODE_ID {
@@ -39,7 +43,7 @@ pub fn judge(s: &[u8]) -> PResVerdict
         NmtStateAnswer::Known(nmt_state) => {
             let size = get_u16_le(s, 8);
             let len = size as usize;
-            if s.len() - 10 < len {
+            if s.len() - FIELDS_LEN < len {
                 return PResVerdict::TooShort;
             }
             PResVerdict::Read(nmt_state, size)
@@ -77,13 +81,13 @@ pub fn fields(s: &[u8], nmt_state: NmtState, payload_size: u16) -> PResFrame
 
 // The flags in octets 4 and 5.
 fn flags_of(octet4: u8, octet5: u8) -> PResFlags
-    ensures { λ r. ⌜ r ≡ presFlags octet4 octet5 ⌝ }
+    ensures { λ r. ⌜ r ≡ presFlagsOf octet4 octet5 ⌝ }
 {
     PResFlags {
-        ms: octet4 / 0x20 % 2 == 1,
-        en: octet4 / 0x10 % 2 == 1,
-        rd: octet4 % 2 == 1,
-        pr: PRFlag::from_bits(octet5 / 8),
-        rs: RSFlag(octet5 % 8),
+        ms: octet4 / MS % 2 == 1,
+        en: octet4 / EN % 2 == 1,
+        rd: octet4 / RD % 2 == 1,
+        pr: priority_at(octet5),
+        rs: requests_at(octet5),
     }
 }

@@ -3,6 +3,8 @@ ghost use mathlib.Core.Path.{_≡_};
 ghost use Rattle.codec.specs.Verdicts.{soaAnswer};
 ghost use Rattle.codec.specs.SoA.{soaOf, readSoA};
 use crate::FrameAnswer;
+use control::soa::EA;
+use control::soa::ER;
 use control::soa::SoAFlags;
 use control::soa::SoAFrame;
 use frame::PowerlinkFrame;
@@ -64,8 +66,8 @@ pub fn fields(s: &[u8], nmt_state: NmtState, req_service_id: RequestedServiceId)
         source: NodeId(byte_at(s, 2)),
         nmt_state,
         flags: SoAFlags {
-            ea: flags / 4 % 2 == 1,
-            er: flags / 2 % 2 == 1,
+            ea: flags / EA % 2 == 1,
+            er: flags / ER % 2 == 1,
         },
         req_service_id,
         target_node_id: NodeId(byte_at(s, 7)),

@@ -3,6 +3,8 @@ ghost use mathlib.Core.Path.{_≡_};
 ghost use Rattle.codec.specs.Verdicts.{socAnswer, socTimed};
 ghost use Rattle.codec.specs.SoC.{readSoC};
 use crate::FrameAnswer;
+use control::soc::MC;
+use control::soc::PS;
 use control::soc::SocFlags;
 use control::soc::SocFrame;
 use frame::PowerlinkFrame;
@@ -54,8 +56,8 @@ pub fn fields(s: &[u8], net_time: NetTime, relative_time: RelativeTime) -> SocFr
         destination: NodeId(byte_at(s, 1)),
         source: NodeId(byte_at(s, 2)),
         flags: SocFlags {
-            mc: flags / 0x80 % 2 == 1,
-            ps: flags / 0x40 % 2 == 1,
+            mc: flags / MC % 2 == 1,
+            ps: flags / PS % 2 == 1,
         },
         net_time,
         relative_time,

@@ -53,12 +53,12 @@ pub record Takes (i : NodeId) (r : TakeAnswer) (state after : List ℕ) : Type 0
 -- ---- the parts of reading that private functions do
 
 -- the octets after a payload from a node
-abbrev pub statusBytes : ReadAnswer → ℕ → List ℕ → List ℕ → List ℕ
-statusBytes r source payload s = whenBooked r (bookingBytes (heard.Status (record { 0 = source })) (saidIn payload) s) s
+abbrev pub readStatusBytes : ReadAnswer → ℕ → List ℕ → List ℕ → List ℕ
+readStatusBytes r source payload s = whenBooked r (bookingBytes (heard.Status (record { 0 = source })) (saidIn payload) s) s
 
 pub record ReadsStatus (source : ℕ) (payload : List ℕ) (r : ReadAnswer) (state after : List ℕ) : Type 0 where
   pub answer : r ≡ accountAnswer (saidIn payload) (accountOf state source)
-  pub bytes : after ≡ statusBytes r source payload state
+  pub bytes : after ≡ readStatusBytes r source payload state
 
 pub record Books (k : ℕ) (en : Bool) (payload : List ℕ) (r : ReadAnswer) (state after : List ℕ) : Type 0 where
   pub answer : r ≡ bookAnswer en (saidIn payload .entries) (accountIn state k)

@@ -11,7 +11,7 @@ use Rattle.types.specs.States.{stateOf}
 use Rattle.codec.specs.ASnd.{readASnd, asndPayloadLength}
 use Rattle.codec.specs.Frame.{readFrame, readSection, deserializeFrame}
 use Rattle.codec.specs.PReq.{readPReq}
-use Rattle.codec.specs.PRes.{presFlags, readPRes}
+use Rattle.codec.specs.PRes.{presFlagsOf, readPRes}
 use Rattle.codec.specs.SoA.{readSoA}
 use Rattle.codec.specs.SoC.{readSoC}
 use Rattle.status_response.specs.Fields.{readFields}
@@ -21,5 +21,5 @@ use Rattle.types.specs.Modes.{modeIn}
 use Rattle.frame_laws.specs.Lines.{TableHolds}
 
 pub table-holds : TableHolds
-unfolding leAt beAt ethHeaderOf messageOf priorityIn pollOctet requestedOf serviceOf stateOf readASnd asndPayloadLength readFrame readSection deserializeFrame readPReq presFlags readPRes readSoA readSoC readFields statusEntries entryTypeOf entryOf modeIn
+unfolding leAt beAt ethHeaderOf messageOf priorityIn pollOctet requestedOf serviceOf stateOf readASnd asndPayloadLength readFrame readSection deserializeFrame readPReq presFlagsOf readPRes readSoA readSoC readFields statusEntries entryTypeOf entryOf modeIn
 table-holds = record { frames = refl; statuses = refl; flags = refl }

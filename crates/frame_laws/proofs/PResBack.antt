@@ -20,7 +20,7 @@ use Rattle.section.specs.Write.{padded}
 use Rattle.section.proofs.Sections.{padded-length}
 use Rattle.frame.specs.declared.PowerlinkFrame.the-variants.{PRes}
 use Rattle.codec.specs.Frame.{readSection}
-use Rattle.codec.specs.PRes.{presFlags, readPRes}
+use Rattle.codec.specs.PRes.{presFlagsOf, readPRes}
 use Rattle.codec.specs.declared.FrameAnswer.the-variants.{Frame}
 use Rattle.frame_laws.proofs.Flags.{two, three, Reads3}
 
@@ -33,8 +33,8 @@ en = three _ (two _ refl refl refl refl) (two _ refl refl refl refl)
 rd : Reads3 5 4 0 0 (λ x y z. z)
 rd = three _ (two _ refl refl refl refl) (two _ refl refl refl refl)
 
-pub flags-back : (g : PResFlags) → g .rs .0 ≤ 7 → presFlags (presFlagBits g) (pollOctet (g .pr) (g .rs .0)) ≡ g
-unfolding presFlags
+pub flags-back : (g : PResFlags) → g .rs .0 ≤ 7 → presFlagsOf (presFlagBits g) (pollOctet (g .pr) (g .rs .0)) ≡ g
+unfolding presFlagsOf
 flags-back g h =
     rw (
       ms (g .ms) (g .en) (g .rd),

@@ -11,7 +11,7 @@ use Rattle.frame.specs.declared.PowerlinkFrame.the-variants.{Soc}
 use Rattle.codec.specs.Frame.{readSection}
 use Rattle.codec.specs.SoC.{readSoC}
 use Rattle.codec.specs.declared.FrameAnswer.the-variants.{Frame}
-use Rattle.frame_laws.specs.ReadBack.{InRange}
+use Rattle.frame_laws.specs.ReadBack.{SocInRange}
 use Rattle.frame_laws.proofs.Flags.{two, Reads2}
 
 mc : Reads2 7 6 7 (λ x y. x)
@@ -20,7 +20,7 @@ mc = two _ refl refl refl refl
 ps : Reads2 7 6 6 (λ x y. y)
 ps = two _ refl refl refl refl
 
-pub soc-back : (f : SocFrame) → InRange f → readSection (socSection f) ≡ Frame (Soc f)
+pub soc-back : (f : SocFrame) → SocInRange f → readSection (socSection f) ≡ Frame (Soc f)
 unfolding readSection messageOf readSoC socSection padded leAt
 soc-back f r =
     rw (

@@ -27,7 +27,7 @@ pub record IsHeader (h : EthernetHeader) : Type 0 where
   pub ethertype : h .«ether_type» ≡ ethertypeEPL
 
 -- the times are numbers of their widths
-pub record InRange (f : SocFrame) : Type 0 where
+pub record SocInRange (f : SocFrame) : Type 0 where
   pub seconds : f .«net_time» .seconds < 2 ^ 32
   pub nanoseconds : f .«net_time» .nanoseconds < 2 ^ 32
   pub relative : f .«relative_time» .0 < 2 ^ 64
@@ -35,7 +35,7 @@ pub record InRange (f : SocFrame) : Type 0 where
 -- what 01 excepts: SoC and SoA have no payload; the size given is the payload's length, and a number of 16 bits; PRes goes to
 -- node 255, with rs at most 7; the payload of an ASnd whose section has 46 octets does not end in a zero
 abbrev pub Faithful : PowerlinkFrame → List ℕ → Type 0
-Faithful (Soc f) payload = InRange f × (payload ≡ [])
+Faithful (Soc f) payload = SocInRange f × (payload ≡ [])
 Faithful (PReq f) payload = (f .«payload_size» ≡ length payload) × (length payload < 2 ^ 16)
 Faithful (PRes f) payload =
     (f .destination .0 ≡ 255) × ((f .flags .rs .0 ≤ 7) × ((f .«payload_size» ≡ length payload) × (length payload < 2 ^ 16)))

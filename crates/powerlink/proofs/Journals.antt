@@ -14,7 +14,7 @@ use Rattle.journal_records.specs.declared.JournalAnswer.{JournalAnswer}
 use Rattle.journal_records.specs.Whole.{wholeLenCause, TellsWhole}
 use Rattle.journal_records.specs.declared.WholeLenAnswer.{WholeLenAnswer}
 use Rattle.powerlink.specs.Given.{node}
-use Rattle.powerlink.specs.Journal.{recordLength, RecordsBy, wholeAfter, JournalWhole}
+use Rattle.powerlink.specs.Journal.{recordLengthAfter, RecordsBy, wholeAfter, JournalWhole}
 
 module _ (i : ℕ) (e : ErrorEntryMode → ErrorEntry) (m : ErrorEntryModeAnswer) (t : List ℕ) (n : ℕ) where
   -- a mode that is none
@@ -25,12 +25,12 @@ module _ (i : ℕ) (e : ErrorEntryMode → ErrorEntry) (m : ErrorEntryModeAnswer
   records-none b q h = let l = le-leb 21 (length t) h in record { cause = rw (q, l); target = rw q; written = rw (q, l) }
 
   pub records-told : (k : ErrorEntryMode) (a : JournalAnswer) (r : ℕ) (t′ : List ℕ) (n′ : ℕ) → m ≡ mode.Known k
-      → WritesRecord (node i) (e k) a t t′ → r ≡ journalCause a .number → n′ ≡ recordLength a n → RecordsBy i e m r t t′ n n′
+      → WritesRecord (node i) (e k) a t t′ → r ≡ journalCause a .number → n′ ≡ recordLengthAfter a n → RecordsBy i e m r t t′ n n′
   records-told k a r t′ n′ q w er en =
       record {
         cause = er ∙ ap (λ (x : JournalAnswer). journalCause x .number) (w .answer) ∙ rw q;
         target = w .holds ∙ ap (λ (x : JournalAnswer). journalHolds x (recordBytes i (e k)) t) (w .answer) ∙ rw q;
-        written = en ∙ ap (λ (x : JournalAnswer). recordLength x n) (w .answer) ∙ rw q;
+        written = en ∙ ap (λ (x : JournalAnswer). recordLengthAfter x n) (w .answer) ∙ rw q;
       }
 
 pub whole-told : (version len r n n′ : ℕ) (a : WholeLenAnswer) → TellsWhole version len a → r ≡ wholeLenCause a .number → n′ ≡ wholeAfter a n

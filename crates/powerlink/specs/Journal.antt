@@ -31,15 +31,15 @@ targetBy node e (mode.Unknown b) t = t
 targetBy node e (mode.Known m) t = journalHolds (journalAnswer node (e m) (length t)) (recordBytes node (e m)) t
 
 -- the length that is told: how many octets were written, or what stood there before
-abbrev pub recordLength : JournalAnswer → ℕ → ℕ
-recordLength (Written n) before = n
-recordLength BufferTooShort before = before
-recordLength RecordInvalid before = before
+abbrev pub recordLengthAfter : JournalAnswer → ℕ → ℕ
+recordLengthAfter (Written n) before = n
+recordLengthAfter BufferTooShort before = before
+recordLengthAfter RecordInvalid before = before
 
 pub record RecordsBy (node : ℕ) (e : ErrorEntryMode → ErrorEntry) (m : ErrorEntryModeAnswer) (r : ℕ) (t t′ : List ℕ) (n n′ : ℕ) : Type 0 where
   pub cause : r ≡ journalCause (recordBy node e m (length t)) .number
   pub target : t′ ≡ targetBy node e m t
-  pub written : n′ ≡ recordLength (recordBy node e m (length t)) n
+  pub written : n′ ≡ recordLengthAfter (recordBy node e m (length t)) n
 
 abbrev pub JournalRecords : ℕ → Bool → Bool → ℕ → ℕ → ℕ → NetTime → ℕ → ℕ → List ℕ → List ℕ → ℕ → ℕ → Type 0
 JournalRecords node status queue mode profile code stamp information r t t′ n n′ =

@@ -1,7 +1,6 @@
--- `codec::preq::fields` meets its contract: each field is what its octets give; bit 0 is the rest of a division by 2.
+-- `codec::preq::fields` meets its contract: each field is what its octets give.
 -- Assumes nothing.
 use borrow.Author.Needs.{needs}
-use native.Mathlib.Nat.{div-one}
 use Rattle.codec.proofs.preq.fields.Statement.{statement}
 use Rattle.codec.proofs.preq.fields.Tie as tie
 
@@ -13,4 +12,4 @@ fields-spec =
     (search needs)
     (search needs)
     (search needs)
-    (λ c. rw div-one (cc)))
+    (λ c. cc))
