@@ -1,12 +1,14 @@
 -- The cases of the answers, each from the tests that lead to it.
 -- Assumes nothing.
-use Prim.Native.Nat.{ℕ, _+_, _≤_, _<_}
+use Prim.Native.Nat.{ℕ, zero, suc, _+_, _≤_, _<_}
 use mathlib.Core.Path.{_≡_}
 use mathlib.Core.Bool.{Bool, true, false, Bool·beq}
 use mathlib.Core.List.{List}
 use mathlib.Core.Option.{none}
+use native.Mathlib.Omega.{arith}
 use lib.ListN.{length}
 use borrow.Author.Tests.{le-leb, lt-leb, lt-ltb}
+use Rattle.types.specs.Nodes.{isCnNodeId}
 use Rattle.error_entry.specs.declared.ErrorEntry.{ErrorEntry}
 use Rattle.collector.specs.Layout.{collectorLength, eaIn, findOf, slotOf, countIn, startIn, entryIn, accountIn, accountOf, vacantOf, boxOf}
 use Rattle.collector.specs.Rules.{heads, bookLength, registerAnswer, bookAnswer, takeAnswer}
@@ -19,34 +21,33 @@ use Rattle.collector.proofs.RegisterLaws.{free-none, free-some}
 
 -- ---- register
 
+pub cn-low : (i : ℕ) → isCnNodeId i ≡ true → 1 ≤ i
+cn-low zero cn = let z : _≡_ {A = ℕ} 0 1 = cc in absurd (omega arith)
+cn-low (suc i) cn = omega arith
+
 module _ (s : List ℕ) (i : ℕ) where
-  pub register-low : i < 1 → IdOutOfRange ≡ registerAnswer i (boxOf s)
+  pub register-bad : isCnNodeId i ≡ false → IdOutOfRange ≡ registerAnswer i (boxOf s)
   unfolding registerAnswer
-  register-low h = rw (lt-leb 1 i h)
+  register-bad h = rw h
 
-  module _ (low : 1 ≤ i) where
-    pub register-high : 239 < i → IdOutOfRange ≡ registerAnswer i (boxOf s)
+  module _ (cn : isCnNodeId i ≡ true) where
+    pub register-known : findOf s i < heads → IdRegistered ≡ registerAnswer i (boxOf s)
     unfolding registerAnswer
-    register-high h = rw (le-leb 1 i low, lt-leb i 239 h)
+    register-known h =
+        let k : slotOf s i < heads = rw (slot-find s i (cn-low i cn)) h in
+        rw (cn, place-some s i k)
 
-    module _ (high : i ≤ 239) where
-      pub register-known : findOf s i < heads → IdRegistered ≡ registerAnswer i (boxOf s)
+    module _ (unknown : heads ≤ findOf s i) where
+      nowhere : accountOf s i ≡ none
+      nowhere = place-none s i (rw (slot-find s i (cn-low i cn)) unknown)
+
+      pub register-full : heads ≤ findOf s 0 → Full ≡ registerAnswer i (boxOf s)
       unfolding registerAnswer
-      register-known h =
-          let k : slotOf s i < heads = rw (slot-find s i low) h in
-          rw (le-leb 1 i low, le-leb i 239 high, place-some s i k)
+      register-full h = rw (cn, nowhere, free-none s h)
 
-      module _ (unknown : heads ≤ findOf s i) where
-        nowhere : accountOf s i ≡ none
-        nowhere = place-none s i (rw (slot-find s i low) unknown)
-
-        pub register-full : heads ≤ findOf s 0 → Full ≡ registerAnswer i (boxOf s)
-        unfolding registerAnswer
-        register-full h = rw (le-leb 1 i low, le-leb i 239 high, nowhere, free-none s h)
-
-        pub register-new : findOf s 0 < heads → Registered ≡ registerAnswer i (boxOf s)
-        unfolding registerAnswer
-        register-new h = rw (le-leb 1 i low, le-leb i 239 high, nowhere, lt-ltb 0 (vacantOf s) (free-some s h))
+      pub register-new : findOf s 0 < heads → Registered ≡ registerAnswer i (boxOf s)
+      unfolding registerAnswer
+      register-new h = rw (cn, nowhere, lt-ltb 0 (vacantOf s) (free-some s h))
 
 -- ---- take
 

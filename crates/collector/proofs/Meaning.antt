@@ -15,6 +15,7 @@ use Rattle.octets.proofs.NumberBack.{Octets}
 use Rattle.octets.proofs.Order.{le-or-lt}
 use Rattle.types.specs.Codes.{need, pick}
 use Rattle.types.specs.Header.{ethBytes}
+use Rattle.types.specs.Nodes.{isCnNodeId}
 use Rattle.section.specs.Write.{padded}
 use Rattle.control.specs.SoA.{soaSection}
 use Rattle.frame.specs.Write.{frameBytes}
@@ -34,7 +35,7 @@ use Rattle.collector.specs.declared.TakeAnswer.{TakeAnswer}
 use Rattle.collector.specs.declared.TakeAnswer.the-variants as taking
 use Rattle.collector.specs.declared.reading.Heard.{Heard}
 use Rattle.collector.specs.declared.reading.Heard.the-variants as heard
-use Rattle.collector.proofs.AnswerLaws.{register-full, register-new, register-known, register-high, register-low, take-unknown, take-one, take-nothing}
+use Rattle.collector.proofs.AnswerLaws.{cn-low, register-bad, register-full, register-new, register-known, take-unknown, take-one, take-nothing}
 use Rattle.collector.proofs.BatchLaws.{booked-kept, booked-node, booked-place, booked-length}
 use Rattle.collector.proofs.BookLaws.{book-most, taken-kept, taken-node, book-taken, taken-ea, taken-length, book-length}
 use Rattle.collector.proofs.IdLaws.{place-none, place-some, slot-taken, block-means}
@@ -83,23 +84,20 @@ fresh-means = no-nodes freshBytes (λ k. zeros collectorLength (block k + nodeAt
 
 pub register-means : (s : List ℕ) → length s ≡ collectorLength → (i : ℕ)
     → Same (boxOf (registerBytes (registerAnswer i (boxOf s)) i s)) (afterRegister (registerAnswer i (boxOf s)) i (boxOf s))
-register-means s size i =
-    ⊎-elim
-    (λ (low : 1 ≤ i).
-    ⊎-elim
-    (λ (high : i ≤ 239).
-    ⊎-elim
-    (λ (unknown : heads ≤ findOf s i).
-    ⊎-elim
-    (λ (full : heads ≤ findOf s 0). rw (← register-full s i low high unknown full) (same-box (boxOf s)))
-    (λ (free : findOf s 0 < heads). rw (← register-new s i low high unknown free) (placed-means s i size low free unknown))
-    (le-or-lt heads (findOf s 0)))
-    (λ (known : findOf s i < heads). rw (← register-known s i low high known) (same-box (boxOf s)))
-    (le-or-lt heads (findOf s i)))
-    (λ (high : 239 < i). rw (← register-high s i low high) (same-box (boxOf s)))
-    (le-or-lt i 239))
-    (λ (low : i < 1). rw (← register-low s i low) (same-box (boxOf s)))
-    (le-or-lt 1 i)
+register-means s size i = by-id (isCnNodeId i) refl
+  where
+    by-id : (b : Bool) → isCnNodeId i ≡ b
+        → Same (boxOf (registerBytes (registerAnswer i (boxOf s)) i s)) (afterRegister (registerAnswer i (boxOf s)) i (boxOf s))
+    by-id false bad = rw (← register-bad s i bad) (same-box (boxOf s))
+    by-id true cn =
+        ⊎-elim
+        (λ (unknown : heads ≤ findOf s i).
+        ⊎-elim
+        (λ (full : heads ≤ findOf s 0). rw (← register-full s i cn unknown full) (same-box (boxOf s)))
+        (λ (free : findOf s 0 < heads). rw (← register-new s i cn unknown free) (placed-means s i size (cn-low i cn) free unknown))
+        (le-or-lt heads (findOf s 0)))
+        (λ (known : findOf s i < heads). rw (← register-known s i cn known) (same-box (boxOf s)))
+        (le-or-lt heads (findOf s i))
 
 pub register-length : (r : RegisterAnswer) (i : ℕ) (s : List ℕ) → length (registerBytes r i s) ≡ length s
 register-length Registered i s = placed-length s (findOf s 0) i

@@ -29,7 +29,6 @@ use state::ea;
 use state::find;
 use state::place_node;
 use state::slot;
-use types::C_ADR_MAX_CN_NODE_ID;
 use types::EPLVersion;
 use types::NodeId;
 use types::basic::MacAddress;
@@ -127,10 +126,7 @@ pub fn new(state: &mut Collector)
 pub fn register(state: &mut Collector, id: NodeId) -> RegisterAnswer
     ensures { λ r. ⌜ Registers id r (now (state .entry)) (now (state .exit)) ⌝ }
 {
-    if id.0 < 1 {
-        return RegisterAnswer::IdOutOfRange;
-    }
-    if C_ADR_MAX_CN_NODE_ID < id.0 {
+    if !id.is_cn() {
         return RegisterAnswer::IdOutOfRange;
     }
     if find(state, id.0) < NODES {

@@ -12,6 +12,7 @@ use borrow.Rule.Slice.PartMut.{midOf, putMid}
 use borrow.Author.Tests.{le-leb, lt-leb, leb-true, leb-false}
 use Rattle.octets.proofs.Sets.{sets-front}
 use Rattle.types.specs.Modes.{modeCode}
+use Rattle.types.specs.Nodes.{isCnNodeId}
 use Rattle.types.specs.declared.NodeId.{NodeId}
 use Rattle.types.specs.declared.error_mode.ErrorEntryMode.{ErrorEntryMode}
 use Rattle.error_entry.specs.Entry.{entryBytes}
@@ -22,17 +23,13 @@ use Rattle.journal_records.specs.Record.{recordBytes, validRecord, Write
 use Rattle.journal_records.specs.declared.JournalAnswer.the-variants.{Written, BufferTooShort, RecordInvalid}
 
 module _ (node : ℕ) (e : ErrorEntry) where
-  pub id-low : node < 1 → false ≡ validRecord node e
+  pub id-bad : isCnNodeId node ≡ false → false ≡ validRecord node e
   unfolding validRecord
-  id-low h = rw (lt-leb 1 node h)
+  id-bad h = rw h
 
-  pub id-high : 1 ≤ node → 239 < node → false ≡ validRecord node e
+  pub by-mode : (m : ErrorEntryMode) → isCnNodeId node ≡ true → e .«entry_type» .mode ≡ m → leb 1 (modeCode m) ≡ validRecord node e
   unfolding validRecord
-  id-high l h = rw (le-leb 1 node l, lt-leb node 239 h)
-
-  pub by-mode : (m : ErrorEntryMode) → 1 ≤ node → node ≤ 239 → e .«entry_type» .mode ≡ m → leb 1 (modeCode m) ≡ validRecord node e
-  unfolding validRecord
-  by-mode m l h em = rw (le-leb 1 node l, le-leb node 239 h) (ap (λ (k : ErrorEntryMode). leb 1 (modeCode k)) (sym em))
+  by-mode m cn em = rw cn (ap (λ (k : ErrorEntryMode). leb 1 (modeCode k)) (sym em))
 
   pub valid-id : validRecord node e ≡ true → node ≤ 239
   unfolding validRecord
@@ -41,7 +38,7 @@ module _ (node : ℕ) (e : ErrorEntry) where
       by-test : (b : Bool) → leb node 239 ≡ b → node ≤ 239
       by-test true t = leb-true node 239 t
       by-test false t =
-          let f : false ≡ validRecord node e = id-high (omega (arith, leb-false node 239 t)) (leb-false node 239 t) in
+          let f : false ≡ validRecord node e = rw (le-leb 1 node (omega (arith, leb-false node 239 t)), t) in
           let z : _≡_ {A = ℕ} 0 1 = cc in
           omega arith
 

@@ -7,7 +7,6 @@ pub mod listing;
 mod text;
 
 use error_entry::ErrorEntry;
-use types::C_ADR_MAX_CN_NODE_ID;
 use types::NodeId;
 use types::error_mode::ErrorEntryMode;
 
@@ -52,10 +51,7 @@ fn valid(node: NodeId, entry: ErrorEntry) -> bool
 {
     let entry_type = entry.entry_type;
     let mode = entry_type.mode;
-    if node.0 < 1 {
-        return false;
-    }
-    if C_ADR_MAX_CN_NODE_ID < node.0 {
+    if !node.is_cn() {
         return false;
     }
     match mode {

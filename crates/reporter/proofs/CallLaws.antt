@@ -6,7 +6,8 @@ use mathlib.Core.Bool.{Bool, true, false, not, Bool·beq}
 use mathlib.Core.List.{List}
 use native.Mathlib.Omega.{arith}
 use lib.ListN.{length}
-use borrow.Author.Tests.{le-leb, lt-leb, lt-ltb, le-ltb, eq-eqb, ne-eqb, not-true, not-false}
+use borrow.Author.Tests.{lt-ltb, le-ltb, eq-eqb, ne-eqb, not-true, not-false}
+use Rattle.types.specs.Nodes.{isCnNodeId}
 use Rattle.types.specs.declared.NodeId.{NodeId}
 use Rattle.error_entry.specs.declared.ErrorEntry.{ErrorEntry}
 use Rattle.codec.specs.Frame.{readFrame}
@@ -31,15 +32,11 @@ module _ (i : NodeId) (s : List ℕ) where
   pub makes : Made ≡ newAnswer (i .0) → Makes i Made s (newBytes Made (i .0) s)
   makes e = record { answer = e; cause = ap newCause e; head = λ r. made (i .0) s; bytes = refl }
 
-  pub id-low : i .0 < 1 → IdOutOfRange ≡ newAnswer (i .0)
-  id-low h = rw (lt-leb 1 (i .0) h)
+  pub id-bad : isCnNodeId (i .0) ≡ false → IdOutOfRange ≡ newAnswer (i .0)
+  id-bad h = rw h
 
-  module _ (l : 1 ≤ i .0) where
-    pub id-high : 239 < i .0 → IdOutOfRange ≡ newAnswer (i .0)
-    id-high h = rw (le-leb 1 (i .0) l, lt-leb (i .0) 239 h)
-
-    pub id-good : i .0 ≤ 239 → Made ≡ newAnswer (i .0)
-    id-good h = rw (le-leb 1 (i .0) l, le-leb (i .0) 239 h)
+  pub id-good : isCnNodeId (i .0) ≡ true → Made ≡ newAnswer (i .0)
+  id-good h = rw h
 
 -- ---- Raise
 

@@ -26,7 +26,6 @@ use state::push;
 use state::raisable;
 use state::waiting;
 use status_response::bit_field::StaticErrorBitField;
-use types::C_ADR_MAX_CN_NODE_ID;
 use types::NodeId;
 use types::basic::MacAddress;
 use types::hal::PowerlinkError;
@@ -108,10 +107,7 @@ pub enum ReadAnswer {
 pub fn new(state: &mut Reporter, id: NodeId) -> NewAnswer
     ensures { λ r. ⌜ Makes id r (now (state .entry)) (now (state .exit)) ⌝ }
 {
-    if id.0 < 1 {
-        return NewAnswer::IdOutOfRange;
-    }
-    if C_ADR_MAX_CN_NODE_ID < id.0 {
+    if !id.is_cn() {
         return NewAnswer::IdOutOfRange;
     }
     *state = [0u8; REPORTER_LEN];
