@@ -76,6 +76,7 @@ CONSTANTS = {
     'ENTRY_LEN': ('error_entry', 'ENTRY_LEN'),
     'RECORD_LEN': ('journal_records', 'RECORD_LEN'),
     'JOURNAL_START_LEN': ('journal_records', 'JOURNAL_START_LEN'),
+    'ETH_LEN': ('types', 'ETH_LEN'),
     'ETHER_TYPE': ('types', 'C_DLL_ETHERTYPE_EPL'),
     'MULTICAST_SOC': ('types', 'C_DLL_MULTICAST_SOC'),
     'MULTICAST_PRES': ('types', 'C_DLL_MULTICAST_PRES'),
