@@ -35,7 +35,7 @@ fn address(name: &str, a: [u8; 6]) {
 }
 
 fn number(name: &str, n: u64) {
-    println!("{name:<24}{n}");
+    println!("{name:<24} {n}");
 }
 
 fn main() {

@@ -62,9 +62,38 @@ records() {
     }'
 }
 
+# Whether each record of a file of lines has the shape of its call: its parts follow each other to its end, and its numbers
+# and inputs are those of the call's row. A number is a flag, an octet, or has 2, 4 or 8 octets; an input is a slice, an
+# array of 6 or 8 octets, or none.
+shaped() {
+    awk 'BEGIN {
+        split("- s--,- s--,- s--,- s--,- s--,- s--,l s--,ooffwwl ---,oofffoh s--,ooofffoooh s--,oooffooo ---,ooo s--,h 66-,ooo ---,ffohhwwl ---,- 8--,ffooo 8s-,ffwwl 6--,offfo 66s,oofffooo 6s-,offooo 6--,ooo 66s", rows, ",")
+        width["f"] = width["o"] = 1; width["h"] = 2; width["w"] = 4; width["l"] = 8
+    }
+    function word(at) { return $(at + 1) + 256 * ($(at + 2) + 256 * ($(at + 3) + 256 * $(at + 4))) }
+    {
+        call = $25; n = $29; known = call in rows
+        split(rows[call], row, " ")
+        kinds = row[1] == "-" ? "" : row[1]
+        good = known && length(kinds) == n && word(0) == 30 + 8 * (n + $30) && word(16) == NF && (call > 7 || word(20) == 0)
+        for (i = 0; good && i < n; i++) {
+            kind = substr(kinds, i + 1, 1)
+            for (k = width[kind]; k < 8; k++) if ($(31 + 8 * i + k)) good = 0
+            if (kind == "f" && $(31 + 8 * i) > 1) good = 0
+        }
+        for (i = 0; good && i < 4; i++) {
+            len = word(4 * i + 4) - word(4 * i); kind = substr(row[2], i + 1, 1)
+            if (len < 0 || i < 3 && (kind == "-" && len || kind + 0 && len != kind + 0)) good = 0
+        }
+        if (!good) { print "record " NR " has not the shape of call " call; bad = 1 }
+    }
+    END { exit bad }' "$1"
+}
+
 # The cases written from 01, and that their records are those of the text.
 records $from_01/records >"$dir/records"
 written=$(($(wc -l <"$dir/records")))
+shaped "$dir/records"
 cp $from_01/records "$dir/in"
 says 'the cases written from 01' "$written cases, 0 differ"
 if command -v python3 >/dev/null; then
@@ -76,6 +105,7 @@ else
 fi
 
 records $sample >"$dir/records"
+shaped "$dir/records"
 # A short case of each call and cause, of each kind of frame that is read, and of a step with an entry and without one.
 awk '{
     at = 31 + 8 * $29
@@ -111,55 +141,68 @@ n=$(($(wc -l <"$dir/changed")))
 { front $n; lines "$dir/changed"; } >"$dir/in"
 says 'every expected octet changed' "$n cases, $n differ"
 
-# What is said of a difference: the case, the call, what was expected and what came.
+# What is said of a difference: the case, the call, and which part of it.
 changed 8 0 26 1 '1 cases, 1 differ'
-grep -qx 'case 1, serialize_soc  *cause  *0: 1 expected, 0 came' "$dir/out"
-changed 1 0 30 9 '1 cases, 1 differ'
-grep -qx 'case 1, deserialize_frame  *value  *0: 9 expected, [1-6] came' "$dir/out"
+grep -qx 'differs: case 1, call 8, cause 0' "$dir/out"
+changed 4 5 27 254 '1 cases, 1 differ'
+grep -qx 'differs: case 1, call 4, octet 0' "$dir/out"
+changed 1 0 38 9 '1 cases, 1 differ'
+grep -qx 'differs: case 1, call 1, value 1' "$dir/out"
 changed 8 0 94 9 '1 cases, 1 differ'
-grep -qx 'case 1, serialize_soc  *output  *0: 9 expected, 1 came' "$dir/out"
+grep -qx 'differs: case 1, call 8, output 0' "$dir/out"
 
-# Parts that do not fit: where they begin and end, the target, the call, how many numbers and values there are.
-unfit='refused: cut, or does not fit its call: case'
-for at in 0 4 8 12 16 22 28 29; do
-    changed 8 0 $at 200 "$unfit 1"
-done
-for at in 1 5 9 13 17; do
-    changed 8 0 $at 1 "$unfit 1"
+# A record of another length than it says, a target that there is no space for, and a call that is none.
+changed 8 0 16 200 'refused at case 1'
+changed 8 0 17 1 'refused at case 1'
+changed 8 0 22 200 'refused at case 1'
+changed 8 0 24 0 'refused at case 1'
+changed 8 0 24 23 'refused at case 1'
+
+# A record whose shape is not its call's: where its parts begin and end, the call, how many numbers and values there are, a
+# flag of 2, an octet above 255, and a reader with a target.
+unshaped() {
+    one "$1" 0 "$2" "$3"
+    if shaped "$dir/line" >"$dir/out"; then
+        echo "replay: call $1, octet $2 set to $3: the shape is taken for its call's"
+        exit 1
+    fi
+    count=$((count + 1))
+}
+for at in 0 1 4 5 8 9 12 13 16 17 28 29; do
+    unshaped 8 $at 200
 done
 for call in 0 9 23; do
-    changed 8 0 24 $call "$unfit 1"
+    unshaped 8 24 $call
 done
-# A flag of 2, an octet above 255, and a reader with a target.
-changed 8 0 46 2 "$unfit 1"
-changed 8 0 31 1 "$unfit 1"
-changed 1 0 20 1 "$unfit 1"
+unshaped 8 46 2
+unshaped 8 31 1
+unshaped 1 20 1
 
 # The front, the end and the number of cases.
-none='refused: no PLC2 with a number of cases'
+none='refused: no PLC2, or too long'
 : >"$dir/in"
 says 'an empty file' "$none"
 head -c 7 "$sample" >"$dir/in"
-says 'seven octets' "$unfit 1"
+says 'seven octets' 'refused at case 1'
 for mark in 'pLC2' 'PlC2' 'PLc2' 'PLC1'; do
     { printf %s "$mark"; tail -c +5 "$sample"; } >"$dir/in"
     says "the mark $mark" "$none"
 done
 { front 0; lines "$dir/short"; } >"$dir/in"
-says 'no cases' "$none"
+says 'no cases, and records' 'refused at case 0'
 head -c 8 "$sample" >"$dir/in"
-says 'the front alone' "$unfit 1"
+says 'the front alone' 'refused at case 1'
 head -c 9 "$sample" >"$dir/in"
-says 'one octet of a record' "$unfit 1"
+says 'one octet of a record' 'refused at case 1'
 size=$(($(wc -c <"$sample")))
 head -c $((size - 1)) "$sample" >"$dir/in"
-says 'one octet short' "$unfit $cases"
+says 'one octet short' "refused at case $cases"
 { cat "$sample"; printf x; } >"$dir/in"
-says 'one octet more' "refused: octets behind case $cases"
+says 'one octet more' "refused at case $cases"
 { front $((cases - 1)); tail -c +9 "$sample"; } >"$dir/in"
-says 'a case more than it says' "refused: octets behind case $((cases - 1))"
+says 'a case more than it says' "refused at case $((cases - 1))"
 { front $((cases + 1)); tail -c +9 "$sample"; } >"$dir/in"
-says 'a case fewer than it says' "$unfit $((cases + 1))"
+says 'a case fewer than it says' "refused at case $((cases + 1))"
 { cat "$sample"; head -c 2097152 /dev/zero; } >"$dir/in"
 says 'more than it holds' "$none"
 # A difference in the last case: its cause.

@@ -1,8 +1,7 @@
 // A StatusResponse that was read, written again with a count of five entries: a batch has four, so these are written.
+use crate::print::column;
 use crate::print::end;
-use crate::print::number;
 use crate::print::octets;
-use crate::print::say;
 use error_entry::entry_at;
 use octets::slices::tail;
 use section::WriteAnswer;
@@ -24,17 +23,14 @@ fn target_in(space: &mut [u8], len: usize) -> &mut [u8] {
     }
 }
 
-fn outcome(answer: WriteAnswer, target: &[u8]) {
-    number(b"batch of 5, target ", target.len() as u64);
+fn number(answer: WriteAnswer) -> u64 {
     match answer {
-        WriteAnswer::Refused(e) => number(b": refused ", e.number() as u64),
-        WriteAnswer::Written(n) => number(b": written ", n as u64),
+        WriteAnswer::Refused(e) => e.number() as u64,
+        WriteAnswer::Written(n) => n as u64,
     }
-    say(b", target");
-    octets(target);
-    end();
 }
 
+// A line: 01's number or the length, and what the target holds after the call.
 fn write(payload: &[u8], len: usize) {
     let read = deserialize(payload);
     let field = read.static_error_bit_field;
@@ -50,7 +46,9 @@ fn write(payload: &[u8], len: usize) {
     ];
     let mut space = [FILL; SPACE];
     let target = target_in(&mut space, len);
-    outcome(serialize_batch(fields, field, batch, 5, target), target);
+    column(number(serialize_batch(fields, field, batch, 5, target)));
+    octets(target);
+    end();
 }
 
 pub fn all() {

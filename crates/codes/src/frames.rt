@@ -1,9 +1,8 @@
 // What no C function does and no other program runs: a frame asked for as each kind, its header and its payload as read.
+use crate::print::column;
 use crate::print::end;
 use crate::print::flag;
-use crate::print::number;
 use crate::print::octets;
-use crate::print::say;
 use codec::FrameAnswer;
 use codec::deserialize_frame;
 use codec::payload;
@@ -52,27 +51,28 @@ fn is_asnd(f: PowerlinkFrame) -> bool {
 }
 
 fn kinds(f: PowerlinkFrame) {
-    flag(b", soc ", is_soc(f));
-    flag(b" preq ", is_preq(f));
-    flag(b" pres ", is_pres(f));
-    flag(b" soa ", is_soa(f));
-    flag(b" asnd ", is_asnd(f));
+    flag(is_soc(f));
+    flag(is_preq(f));
+    flag(is_pres(f));
+    flag(is_soa(f));
+    flag(is_asnd(f));
 }
 
 fn refused(e: PowerlinkError) {
-    number(b", refused ", e.number() as u64);
-    number(b" ", e.byte() as u64);
+    column(e.number() as u64);
+    column(e.byte() as u64);
 }
 
 fn header(h: EthernetHeader) {
     let to = h.destination_mac;
-    say(b"header");
     octets(&h.to_bytes());
-    flag(b", powerlink ", h.is_powerlink());
-    flag(b" multicast ", to.is_multicast());
-    flag(b" broadcast ", to.is_broadcast());
+    flag(h.is_powerlink());
+    flag(to.is_multicast());
+    flag(to.is_broadcast());
 }
 
+// A line for what was read: the header, whether its EtherType is POWERLINK's and its destination a group's or all stations';
+// of a frame, whether it is a SoC, PReq, PRes, SoA, ASnd, or else 01's number and the octet with it; the payload.
 fn frame(bytes: &[u8]) {
     let read = deserialize_frame(bytes);
     let answer = read.answer;
@@ -82,7 +82,6 @@ fn frame(bytes: &[u8]) {
         FrameAnswer::Frame(f) => kinds(f),
         FrameAnswer::Refused(e) => refused(e),
     }
-    say(b", payload");
     octets(payload(place, bytes));
     end();
 }

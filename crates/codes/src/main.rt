@@ -9,9 +9,9 @@ use control::asnd::ASndFrame;
 use control::soa::SoAFrame;
 use control::soc::SocFrame;
 use poll::pres::PResFrame;
+use print::column;
 use print::end;
 use print::name;
-use print::number;
 use print::octet;
 use print::octets;
 use print::say;
@@ -114,18 +114,17 @@ fn constant(k: u8) -> u64 {
 fn constants(names: &[u8]) {
     for k in 0..4u8 {
         name(names, k);
-        number(b"", constant(k));
+        column(constant(k));
         end();
     }
 }
 
-// How many frames wait, as it is counted: above 7 it is 7.
+// How many frames wait, of 0 to 9: above 7 counts as 7.
 fn requests() {
     for n in 0..10u8 {
-        number(b"rs ", n as u64);
-        number(b": ", RSFlag::new(n).0 as u64);
-        end();
+        column(RSFlag::new(n).0 as u64);
     }
+    end();
 }
 
 fn main() {

@@ -37,6 +37,10 @@ pub fn number(label: &[u8], n: u64) {
     io::print_decimal(STDOUT_FILENO, n);
 }
 
-pub fn flag(label: &[u8], on: bool) {
-    number(label, if on { 1 } else { 0 });
+pub fn column(n: u64) {
+    number(b" ", n);
+}
+
+pub fn flag(on: bool) {
+    column(if on { 1 } else { 0 });
 }

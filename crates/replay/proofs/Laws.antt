@@ -7,7 +7,7 @@ use native.Mathlib.Omega.{arith}
 use lib.ListN.{getD, length, take, drop, length-take, length-drop}
 use borrow.Author.Tests.{lt-ltb, le-ltb}
 use Rattle.octets.specs.Numbers.{leAt}
-use Rattle.replay.specs.Agreement.{FirstOther, FirstOctet, SameOutput, Unless}
+use Rattle.replay.specs.Agreement.{FirstOther, FirstOctet, SameOutput, Decides}
 use Rattle.replay.specs.Record.{fillOf, manyOf, numberAt, numbersIn, valuesIn, valueOf, outputOf}
 use Rattle.replay.specs.declared.judge.Verdict.{Verdict}
 use Rattle.replay.specs.declared.judge.Verdict.the-variants.{Agrees, Differs}
@@ -41,10 +41,15 @@ same-output {s} {t} {e} {b} ee eb h f past =
       octets = λ i hi. let same : getD e i b ≡ getD (outputOf s) i (fillOf s) = cc in f .before i (omega arith) ∙ same;
     }
 
--- a verdict that one fact holds is one that another does
-pub unless : {P Q : Type 0} (r : Verdict) → (P → Q) → Unless r P → Unless r Q
-unless Agrees f p = f p
-unless (Differs part at expected came) f p = p
+pub other-output : {s t e : List ℕ} {b k : ℕ} → e ≡ outputOf s → b ≡ fillOf s → FirstOctet t e b k → k < length t → SameOutput s t → ⊥
+other-output {s} {t} {e} {b} {k} ee eb f h o =
+    let same : getD e k b ≡ getD (outputOf s) k (fillOf s) = cc in
+    f .here h (o .octets k h ∙ sym same)
+
+-- two facts that hold together are decided together
+pub decided : {P Q : Type 0} (r : Verdict) → (P → Q) → (Q → P) → Decides r P → Decides r Q
+decided Agrees f g p = f p
+decided (Differs part at) f g p = λ q. p (g q)
 
 -- from one place to another
 pub between : (s : List ℕ) {r front : List ℕ} {a e from to : ℕ} → front ≡ take e s → e ≡ to → a ≡ from → r ≡ drop a front → r ≡ drop from (take to s)

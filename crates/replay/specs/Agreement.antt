@@ -38,7 +38,7 @@ pub record Agreement (s : List ℕ) (r o : ℕ) (v t : List ℕ) : Type 0 where
   pub octet : o ≡ octetIn s
   pub outcome : SameOutcome s v t
 
--- a verdict that a fact holds, or two numbers that differ
-abbrev pub Unless : Verdict → Type 0 → Type 0
-Unless Agrees fact = fact
-Unless (Differs part at expected came) fact = expected ≡ came → ⊥
+-- a verdict that a fact holds, or that it does not
+abbrev pub Decides : Verdict → Type 0 → Type 0
+Decides Agrees fact = fact
+Decides (Differs part at) fact = fact → ⊥

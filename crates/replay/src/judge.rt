@@ -1,8 +1,7 @@
 // Whether what came of a call is what its record says.
 ghost use mathlib.Core.Path.{_≡_};
 ghost use lib.ListN.{getD};
-ghost use Rattle.replay.specs.declared.judge.Verdict.the-variants.{Differs};
-ghost use Rattle.replay.specs.Agreement.{FirstOctet, FirstValue, SameOutput, SameOutcome, Agreement, Unless};
+ghost use Rattle.replay.specs.Agreement.{FirstOctet, FirstValue, SameOutput, SameOutcome, Agreement, Decides};
 use crate::record::CAUSE;
 use crate::record::OCTET;
 use crate::record::OUTPUT;
@@ -15,31 +14,15 @@ use octets::slices::byte_at;
 pub enum Part {
     Cause,
     Octet,
-    Value,
     Values,
     Output,
-    OutputLength,
 }
 
+// That all is as the record says, or where it is not: of values and output the first that differs, or their number where
+// there are fewer than the record has.
 pub enum Verdict {
     Agrees,
-    Differs {
-        part: Part,
-        at: usize,
-        expected: u64,
-        came: u64,
-    },
-}
-
-fn number(part: Part, expected: u64, came: u64) -> Verdict
-    ensures { λ r. ⌜ r ≡ Differs part 0 expected came ⌝ }
-{
-    Verdict::Differs {
-        part,
-        at: 0,
-        expected,
-        came,
-    }
+    Differs(Part, usize),
 }
 
 // The octet of `s` at place `at`, or `b` past the end.
@@ -78,55 +61,41 @@ fn first_value(s: &[u8], values: &[u64]) -> usize
 }
 
 fn same_output(s: &[u8], came: &[u8]) -> Verdict
-    ensures { λ r. ⌜ Unless r (SameOutput (now (s .entry)) (now (came .entry))) ⌝ }
+    ensures { λ r. ⌜ Decides r (SameOutput (now (s .entry)) (now (came .entry))) ⌝ }
 {
     let expected = part(s, OUTPUT);
     if came.len() < expected.len() {
-        return number(Part::OutputLength, expected.len() as u64, came.len() as u64);
+        return Verdict::Differs(Part::Output, came.len());
     }
-    let b = fill(s);
-    let at = first_octet(came, expected, b);
+    let at = first_octet(came, expected, fill(s));
     if at < came.len() {
-        return Verdict::Differs {
-            part: Part::Output,
-            at,
-            expected: byte_or(expected, at, b) as u64,
-            came: byte_at(came, at) as u64,
-        };
+        return Verdict::Differs(Part::Output, at);
     }
     Verdict::Agrees
 }
 
 fn same_outcome(s: &[u8], values: &[u64], output: &[u8]) -> Verdict
-    ensures { λ r. ⌜ Unless r (SameOutcome (now (s .entry)) (now (values .entry)) (now (output .entry))) ⌝ }
+    ensures { λ r. ⌜ Decides r (SameOutcome (now (s .entry)) (now (values .entry)) (now (output .entry))) ⌝ }
 {
-    let count = byte_at(s, VALUES) as usize;
-    if values.len() < count {
-        return number(Part::Values, count as u64, values.len() as u64);
+    if values.len() < byte_at(s, VALUES) as usize {
+        return Verdict::Differs(Part::Values, values.len());
     }
     let at = first_value(s, values);
     if at < values.len() {
-        return Verdict::Differs {
-            part: Part::Value,
-            at,
-            expected: value(s, at),
-            came: values[at],
-        };
+        return Verdict::Differs(Part::Values, at);
     }
     same_output(s, output)
 }
 
 // The first difference, or that there is none.
 pub fn judge(s: &[u8], cause: u8, octet: u8, values: &[u64], output: &[u8]) -> Verdict
-    ensures { λ r. ⌜ Unless r (Agreement (now (s .entry)) cause octet (now (values .entry)) (now (output .entry))) ⌝ }
+    ensures { λ r. ⌜ Decides r (Agreement (now (s .entry)) cause octet (now (values .entry)) (now (output .entry))) ⌝ }
 {
-    let expected_cause = byte_at(s, CAUSE);
-    if cause != expected_cause {
-        return number(Part::Cause, expected_cause as u64, cause as u64);
+    if cause != byte_at(s, CAUSE) {
+        return Verdict::Differs(Part::Cause, 0);
     }
-    let expected_octet = byte_at(s, OCTET);
-    if octet != expected_octet {
-        return number(Part::Octet, expected_octet as u64, octet as u64);
+    if octet != byte_at(s, OCTET) {
+        return Verdict::Differs(Part::Octet, 0);
     }
     same_outcome(s, values, output)
 }

@@ -1,6 +1,7 @@
 // Replays a file of records on standard input: cases with the answers of powerlink-rs, or with those that 01 gives, as
 // tests/compare/calls/sample.rs lays them out. Each case's call is made, of the function that a caller in C calls, and all
-// that comes of it is compared. The last line says how many cases agree, how many differ, or why the file is refused.
+// that comes of it is compared. The last line says how many cases there are and how many differ, or where the file is
+// refused. That the records have the shape of their calls is looked at by tests/replay/run.sh.
 mod frames;
 mod judge;
 mod parts;
@@ -8,7 +9,6 @@ mod print;
 mod readers;
 mod record;
 mod sections;
-mod shape;
 mod writers;
 
 ghost use Prim.Native.Nat.{_-_, _≤_};
@@ -25,12 +25,16 @@ use print::say;
 use record::CALL;
 use record::END;
 use record::mark;
+use record::target_len;
+use writers::SPACE;
 
 // The longest file.
 const FILE: usize = 2097152;
 
 // Octets in front of the first record: the mark and the number of records.
 const HEAD: usize = 8;
+
+const PLC2: u32 = 0x3243_4C50;
 
 // Differences that are shown.
 const SHOWN: u64 = 20;
@@ -48,20 +52,13 @@ fn replay(s: &[u8]) -> Verdict {
 fn differing(case: u64, s: &[u8], shown: bool) -> u64
     ensures { λ r. ⌜ r ≤ 1 ⌝ }
 {
-    match replay(s) {
-        Verdict::Agrees => 0,
-        Verdict::Differs {
-            part,
-            at,
-            expected,
-            came,
-        } => {
-            if shown {
-                difference(case, byte_at(s, CALL), part, at, expected, came);
-            }
-            1
-        }
+    let Verdict::Differs(part, at) = replay(s) else {
+        return 0;
+    };
+    if shown {
+        difference(case, byte_at(s, CALL), part, at);
     }
+    1
 }
 
 // The record at a place, as long as it says, or what there is of it.
@@ -72,13 +69,14 @@ fn record_at(text: &[u8], at: usize) -> &[u8]
     front(rest, mark(rest, END))
 }
 
-fn refused(case: u64) {
-    number(b"refused: cut, or does not fit its call: case ", case);
-    say(b"\n");
+// Whether the record is whole, and its call is one of the 22, whose target there is space for.
+fn whole(s: &[u8]) -> bool {
+    let n = byte_at(s, CALL);
+    mark(s, END) == s.len() && 0 < n && n < 23 && target_len(s) <= SPACE
 }
 
-fn more(cases: u64) {
-    number(b"refused: octets behind case ", cases);
+fn refused(case: u64) {
+    number(b"refused at case ", case);
     say(b"\n");
 }
 
@@ -88,6 +86,7 @@ fn end(cases: u64, differ: u64) {
     say(b" differ\n");
 }
 
+// Each case, and that nothing is behind the last.
 fn all(text: &[u8], cases: u64) {
     let mut at = 0;
     let mut case = 0;
@@ -95,7 +94,7 @@ fn all(text: &[u8], cases: u64) {
     while case < cases {
         case += 1;
         let s = record_at(text, at);
-        if !shape::fits(s) {
+        if !whole(s) {
             refused(case);
             return;
         }
@@ -103,7 +102,7 @@ fn all(text: &[u8], cases: u64) {
         at += s.len();
     }
     if at < text.len() {
-        more(cases);
+        refused(cases);
         return;
     }
     end(cases, differ);
@@ -116,8 +115,8 @@ fn load(file: &mut [u8; FILE]) -> usize {
 
 fn run(file: &[u8; FILE], n: usize) {
     let text = front(file, n);
-    if get_u32_le(text, 0) != 0x3243_4C50 || get_u32_le(text, 4) == 0 || n == FILE {
-        say(b"refused: no PLC2 with a number of cases\n");
+    if get_u32_le(text, 0) != PLC2 || n == FILE {
+        say(b"refused: no PLC2, or too long\n");
         return;
     }
     all(tail(text, HEAD), get_u32_le(text, 4) as u64);

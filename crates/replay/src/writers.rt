@@ -1,4 +1,4 @@
-// The calls that write: their target, and which function each is.
+// The calls that write.
 use crate::frames;
 use crate::judge::Verdict;
 use crate::judge::judge;
@@ -20,20 +20,16 @@ fn target_in(space: &mut [u8], len: usize) -> &mut [u8] {
     }
 }
 
-fn call(n: u8, s: &[u8], target: &mut [u8], written: &mut usize, said: &mut u8) -> u8 {
-    match n {
-        8..=12 => sections::write(n, s, target, written, said),
-        13..=17 => parts::write(n, s, target, written, said),
-        _ => frames::write(n, s, target, written, said),
-    }
-}
-
 // Calls 8 to 22. The one value that comes out is `written`.
 pub fn write(n: u8, s: &[u8]) -> Verdict {
     let mut space = [fill(s); SPACE];
     let target = target_in(&mut space, target_len(s));
     let mut written = many(s) as usize;
     let mut said = fill(s);
-    let cause = call(n, s, target, &mut written, &mut said);
+    let cause = match n {
+        8..=12 => sections::write(n, s, target, &mut written, &mut said),
+        13..=17 => parts::write(n, s, target, &mut written, &mut said),
+        _ => frames::write(n, s, target, &mut written, &mut said),
+    };
     judge(s, cause, said, &[written as u64], target)
 }

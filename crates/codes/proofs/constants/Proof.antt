@@ -6,10 +6,10 @@ use Rattle.codes.proofs.constants.Statement.{statement}
 use Rattle.codes.proofs.constants.Tie as tie
 
 abbrev Inv-loop : tie.InvT-loop
-Inv-loop names k₀ t3 k = k ≤ 4
+Inv-loop names k₀ k = k ≤ 4
 
 abbrev μ-loop : tie.MeasureT-loop
-μ-loop names k₀ t3 k = 4 - k
+μ-loop names k₀ k = 4 - k
 
 pub constants-spec : {M : Type 1} → statement M
 constants-spec =
@@ -17,7 +17,6 @@ constants-spec =
     (tie.spec
     Inv-loop
     μ-loop
-    (search needs)
     (search needs)
     (search needs)
     (search needs)

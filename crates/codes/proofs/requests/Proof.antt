@@ -6,10 +6,10 @@ use Rattle.codes.proofs.requests.Statement.{statement}
 use Rattle.codes.proofs.requests.Tie as tie
 
 abbrev Inv-loop : tie.InvT-loop
-Inv-loop n₀ t2 t3 n = n ≤ 10
+Inv-loop n₀ n = n ≤ 10
 
 abbrev μ-loop : tie.MeasureT-loop
-μ-loop n₀ t2 t3 n = 10 - n
+μ-loop n₀ n = 10 - n
 
 pub requests-spec : {M : Type 1} → statement M
 requests-spec =
@@ -17,10 +17,6 @@ requests-spec =
     (tie.spec
     Inv-loop
     μ-loop
-    (search needs)
-    (search needs)
-    (search needs)
-    (search needs)
     (search needs)
     (search needs)
     (search needs)
