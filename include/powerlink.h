@@ -39,8 +39,9 @@ extern "C" {
 /* ---- The version of this interface
  *
  * Each change of a function's parameters or of a state's length raises it. The functions that make a state carry it in
- * the name that is linked: a program with the header of one version does not link with the archive of another, which
- * would write past its arrays. A state that was saved is of one version only. */
+ * the name that is linked: a program that makes one with the header of one version does not link with the archive of
+ * another, which would write past its arrays. (A program that calls neither links with any: it compares versions
+ * itself.) A state that was saved is of one version only. */
 #define POWERLINK_VERSION 1
 #define powerlink_reporter_new powerlink_reporter_new_v1
 #define powerlink_collector_new powerlink_collector_new_v1
@@ -480,11 +481,18 @@ uint8_t powerlink_new_asnd(
 /* ---- The error exchange: what it asks of a host
  *
  * Proved is that no entry is lost and none booked twice, of reporters and a collector that start fresh together and
- * each go on from their own last state, over a line that loses, delays and repeats frames, on which a repeat arrives
- * before any later frame of the same sender. A batch is told from its repeat by one bit alone: EN of the reporter
- * flips with each batch, EA of the collector is the EN of the last batch that it has booked. A wrong EA closes a batch
- * that is not booked, a wrong EN makes one known that never was, and an old state has both; every call then still
- * answers with 0. So:
+ * each go on from their own last state, over a line that loses, delays and repeats frames but keeps their order: no
+ * frame, late or repeated, arrives after a later frame of the same sender. A batch is told from its repeat by one bit
+ * alone: EN of the reporter flips with each batch, EA of the collector is the EN of the last batch that it has booked.
+ * A wrong EA closes a batch that is not booked, a wrong EN makes one known that never was, an old state has both, and
+ * a frame that was overtaken is a wrong one; every call then still answers with 0. So:
+ *
+ * Order. Frames of one sender arrive in the order of sending. Queues with priorities, in a switch or in the host, do
+ * not change it.
+ *
+ * Asking. EN flips when powerlink_reporter_answer opens a batch, and not when an entry is raised: EN of a PRes does not
+ * tell that entries wait. So every node is sent a request again and again. A host that asks only where EN of a PRes
+ * differs from EA never asks, and the node's queue fills (9).
  *
  * Frames of the managing node. Every PReq to a node and every SoA with it as target tells it EA, whatever the frame is
  * for. They all carry what powerlink_collector_flags gives at the moment of sending, and leave in the order in which
@@ -497,7 +505,8 @@ uint8_t powerlink_new_asnd(
  * Threads. All calls are reentrant, and separate states may be used from separate threads at the same time. One state
  * needs a lock: only calls that take it as const may run on it together. The lock is held until the frame that was
  * asked for is in its place in the order of sending. A cyclic task that may not wait for it sends all frames to the
- * nodes itself, and takes EA from a copy as each one leaves; the task that reads answers renews the copy after every
+ * nodes itself, and takes EA and ER from a copy of what powerlink_collector_flags gave as each one leaves (a request is
+ * then powerlink_new_soa with POWERLINK_STATUS_REQUEST); the task that reads answers renews the copy after every
  * reading, once the state is saved and before the next answer is read.
  *
  * Beginning anew. Both ends begin together. One that begins alone loses faults, or lists them twice:
@@ -509,9 +518,11 @@ uint8_t powerlink_new_asnd(
  *    twice.
  *
  * Saving. A state is saved after every call that has changed it and before any later frame leaves; a reporter's before
- * the answer itself leaves. A power cut leaves the old state or the new one, whole: a file is written anew and
- * renamed. A cycle that reads, then saves, then sends does this. A fault is accepted once the state after its Raise is
- * saved. Otherwise:
+ * the answer itself leaves. Making, registering, raising and taking change it, a reading that comes to POWERLINK_CLOSED
+ * or POWERLINK_BOOKED, and an answer that opens a batch, after which EN is another; nothing else does. A power cut
+ * leaves the old state or the new one, whole: a file is written anew and renamed. Any octets are a state, so that no
+ * call notices a damaged file: the host keeps a checksum. A cycle that reads, then saves, then sends does this. A
+ * fault is accepted once the state after its Raise is saved. Otherwise:
  *  - a collector saved before a reading whose request went out: the reporter has closed that batch, so it is lost; the
  *    next one has the EN that the old EA equals, is known, and lost too.
  *  - a reporter saved before an answer that was booked: what is raised since joins the batch under the EN that is
@@ -521,10 +532,10 @@ uint8_t powerlink_new_asnd(
  * Take and the journal. The state saved after the journal lists an entry twice if the power goes between them; the
  * state saved before it loses one. So the length of the journal is saved with the state, in one file: Take, append,
  * flush the journal, save both. After a restart the journal is cut to the saved length, and what is cut off, Take
- * hands out again. Where others read the journal as it grows, it is cut to powerlink_journal_whole_len instead, and Take is
- * only called on a saved state: each record behind the saved length is then what the next Take for its ID hands out,
- * and is taken, compared and not appended again. (To compare the last record without a length is not enough: of two
- * equal entries one would be lost.)
+ * hands out again. Where others read the journal as it grows, it is cut to powerlink_journal_whole_len instead, and
+ * Take is only called on a saved state: each record behind the saved length is then what the next Take for its ID
+ * hands out, and is taken, compared and not appended again. (To compare the last record without a length is not
+ * enough: of two equal entries one would be lost.)
  *
  * tests/c/host_loop.c is a host that does all this; host_frames.c and restarts.c beside it show what each mistake
  * costs. */
@@ -543,8 +554,8 @@ uint8_t powerlink_reporter_raise(
     uint32_t seconds, uint32_t nanoseconds, uint64_t information);
 
 /* Writes a StatusResponse, a whole frame from this node to all (255), with the open batch. Where none is open and
- * entries wait, the first four, or all if fewer, become it. 60 octets without entries, else 52 and 20 for each. The
- * state is saved before the answer leaves.
+ * entries wait, the first four, or all if fewer, become it. 60 octets without entries, else 52 and 20 for each.
+ * `dest_mac` is POWERLINK_MULTICAST_ASND, or what the host has for it. The state is saved before the answer leaves.
  * Tests: 1, 5. Refused: nothing is written and no batch opened, but `octet` with 5. */
 uint8_t powerlink_reporter_answer(
     uint8_t state[POWERLINK_ARRAY(POWERLINK_REPORTER_LEN)],
@@ -621,9 +632,10 @@ uint8_t powerlink_journal_record(
     uint32_t seconds, uint32_t nanoseconds, uint64_t information,
     uint8_t *POWERLINK_RESTRICT target, size_t target_len, size_t *POWERLINK_RESTRICT written);
 
-/* Tells how many of the `len` octets of a journal are its start and whole records; `version` is that of its start. What a
- * power cut left of a record may stand behind them: cut the file to `whole` octets before anything is appended. Records
- * behind a torn one are read from a wrong place, and list faults that nobody raised.
+/* Tells how many of the `len` octets of a journal are its start and whole records. `version` is the number in its octets
+ * 3 and 4, low octet first, and not POWERLINK_VERSION. What a power cut left of a record may stand behind them: cut the
+ * file to `whole` octets before anything is appended. Records behind a torn one are read from a wrong place, and list
+ * faults that nobody raised.
  * Tests: 17, 18. Refused: nothing is written. */
 uint8_t powerlink_journal_whole_len(uint16_t version, size_t len, size_t *POWERLINK_RESTRICT whole);
 

@@ -1,9 +1,8 @@
 // Reading any frame (powerlink-rs: frame/codec.rs): the tests are
 // `kind_of` and then the `judge` of the kind, and `read_frame` and any other reading go by their verdicts.
 ghost use mathlib.Core.Path.{_≡_};
-ghost use lib.ListN.{drop};
-ghost use Rattle.codec.specs.Frame.{readFrame, readSection, byKind, placeInFrame, placeOf, payloadOf, Reads};
-ghost use Rattle.codec.specs.Verdicts.{kindAnswer};
+ghost use Rattle.codec.specs.Frame.{readFrame, byKind, placeInFrame, placeOf, payloadOf, Reads};
+ghost use Rattle.codec.specs.Verdicts.{kindIn, kindOf};
 
 pub mod asnd;
 pub mod headers;
@@ -103,7 +102,7 @@ pub fn read_frame(buffer: &[u8]) -> FrameAnswer
 
 // The tests of a frame before those of its kind. What a caller does for each kind then is its own.
 pub fn kind_of(buffer: &[u8]) -> KindAnswer
-    ensures { λ r. ⌜ kindAnswer r (drop 14 (now (buffer .entry))) ≡ readFrame (now (buffer .entry)) ⌝ }
+    ensures { λ r. ⌜ r ≡ kindOf (now (buffer .entry)) ⌝ }
 {
     if buffer.len() < ETH_LEN {
         return KindAnswer::Refused(PowerlinkError::BufferTooShort);
@@ -119,7 +118,7 @@ pub fn kind_of(buffer: &[u8]) -> KindAnswer
 
 // The kind of the section `s`. Two tests of a few codes each: one of all five is compiled to a table of jumps.
 fn kind_in(s: &[u8]) -> KindAnswer
-    ensures { λ r. ⌜ kindAnswer r (now (s .entry)) ≡ readSection (now (s .entry)) ⌝ }
+    ensures { λ r. ⌜ r ≡ kindIn (now (s .entry)) ⌝ }
 {
     let code = byte_at(s, 0) % 0x80;
     if code < 4 {

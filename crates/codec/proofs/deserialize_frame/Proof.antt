@@ -1,8 +1,10 @@
 -- `codec::deserialize_frame` meets its contract: each field is what its call gives.
 -- Assumes nothing.
 use borrow.Author.Needs.{needs}
+use Rattle.types.specs.declared.hal.PowerlinkError.the-variants.{BufferTooShort}
 use Rattle.codec.specs.Frame.{deserializeFrame}
-use Rattle.codec.proofs.FrameLaws.{frame-short}
+use Rattle.codec.specs.declared.KindAnswer.the-variants as kind
+use Rattle.codec.proofs.FrameLaws.{frame-short, kind-reads}
 use Rattle.codec.proofs.deserialize_frame.Statement.{statement}
 use Rattle.codec.proofs.deserialize_frame.Tie as tie
 
@@ -20,7 +22,7 @@ returns-2 : tie.Need-returns-2
 unfolding deserializeFrame
 returns-2 c =
     let f = c .before .before .before .args .buffer .now in
-    let q = frame-short f (c .before .if1 .left) in
+    let q = kind-reads f (kind.Refused BufferTooShort) (frame-short f (c .before .if1 .left)) in
     record { read = rw (c .eth-header-at .ensures, ← q); cause = rw (← q) }
 
 pub deserialize-frame-spec : {M : Type 1} → statement M

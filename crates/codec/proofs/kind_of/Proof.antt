@@ -1,4 +1,4 @@
--- `codec::kind_of` meets its contract: each `return` is a case of `readFrame`.
+-- `codec::kind_of` meets its contract: each `return` is a case of `kindOf`.
 -- Assumes nothing.
 use borrow.Author.Needs.{needs}
 use Rattle.codec.proofs.FrameLaws.{frame-laws}
