@@ -349,7 +349,7 @@ uint8_t powerlink_serialize_soc(
 
 /* Writes the section of a PReq: 10 octets and the payload, but at least 46. The payload size is written as given, equal
  * to the payload's length or not. From the managing node, `ea` is that of powerlink_collector_flags at the moment of
- * sending: any other loses entries.
+ * sending: any other may lose entries.
  * Tests: 1. Refused: nothing is written. */
 uint8_t powerlink_serialize_preq(
     uint8_t destination, uint8_t source, bool ms, bool ea, bool rd,
@@ -368,7 +368,7 @@ uint8_t powerlink_serialize_pres(
     uint8_t *POWERLINK_RESTRICT octet);
 
 /* Writes the section of an SoA: 46 octets. From the managing node, `ea` and `er` are those of powerlink_collector_flags for
- * the target, at the moment of sending: any other loses entries.
+ * the target, at the moment of sending: any other may lose entries.
  * Tests: 1, 5, 7. Refused: nothing is written, but `octet` with 5 and 7. */
 uint8_t powerlink_serialize_soa(
     uint8_t destination, uint8_t source, uint8_t state, bool ea, bool er,
@@ -438,7 +438,8 @@ uint8_t powerlink_new_soc(
     uint8_t *POWERLINK_RESTRICT target, size_t target_len, size_t *POWERLINK_RESTRICT written);
 
 /* Writes a PReq, 24 octets and the payload, but at least 60: from node 240 to `target_node`. `ea` is that of
- * powerlink_collector_flags at the moment of sending, or 0 where the node is not registered: any other loses entries.
+ * powerlink_collector_flags at the moment of sending, or 0 where the node is not registered: any other may lose
+ * entries.
  * Tests: 1. Refused: nothing is written. */
 uint8_t powerlink_new_preq(
     const uint8_t source_mac[POWERLINK_ARRAY(POWERLINK_MAC_LEN)],
@@ -459,7 +460,7 @@ uint8_t powerlink_new_pres(
 
 /* Writes an SoA, 60 octets: from node 240 to node 255 and POWERLINK_MULTICAST_SOA; `target_node` is who may send.
  * `ea` and `er` are those of powerlink_collector_flags for it at the moment of sending, or 0 where it is not registered,
- * whatever service is requested: any other loses entries.
+ * whatever service is requested: any other may lose entries.
  * Tests: 1, 5, 7. Refused: nothing is written, but `octet` with 5 and 7. */
 uint8_t powerlink_new_soa(
     const uint8_t source_mac[POWERLINK_ARRAY(POWERLINK_MAC_LEN)], uint8_t state, bool ea, bool er,
@@ -504,12 +505,14 @@ uint8_t powerlink_new_asnd(
  *
  * Threads. All calls are reentrant, and separate states may be used from separate threads at the same time. One state
  * needs a lock: only calls that take it as const may run on it together. The lock is held until the frame that was
- * asked for is in its place in the order of sending. A cyclic task that may not wait for it sends all frames to the
+ * asked for is in its place in the order of sending, from a reading to its saving, and from Take to the saving of
+ * state and journal. A cyclic task that may not wait for it sends all frames to the
  * nodes itself, and takes EA and ER from a copy of what powerlink_collector_flags gave as each one leaves (a request is
  * then powerlink_new_soa with POWERLINK_STATUS_REQUEST); the task that reads answers renews the copy after every
  * reading, once the state is saved and before the next answer is read.
  *
- * Beginning anew. Both ends begin together. One that begins alone loses faults, or lists them twice:
+ * Beginning anew. Both ends begin together, with nothing left on the line or in a buffer of what either sent before: an
+ * old answer or request would be taken for a new one. One that begins alone loses faults, or lists them twice:
  *  - a new reporter after one batch, or any odd number, was booked: EA is 1. Its first batch has EN 1 and is known,
  *    and the next request closes it: lost. After an even number it is booked.
  *  - a new collector while the reporter's second batch is open, whose EN is 0: EA is 0, the batch is known and closed:
@@ -520,9 +523,9 @@ uint8_t powerlink_new_asnd(
  * Saving. A state is saved after every call that has changed it and before any later frame leaves; a reporter's before
  * the answer itself leaves. Making, registering, raising and taking change it, a reading that comes to POWERLINK_CLOSED
  * or POWERLINK_BOOKED, and an answer that opens a batch, after which EN is another; nothing else does. A power cut
- * leaves the old state or the new one, whole: a file is written anew and renamed. Any octets are a state, so that no
- * call notices a damaged file: the host keeps a checksum. A cycle that reads, then saves, then sends does this. A
- * fault is accepted once the state after its Raise is saved. Otherwise:
+ * leaves the old state or the new one, whole: a file is written anew, flushed, renamed, and its folder flushed. Any
+ * octets are a state, so that no call notices a damaged file: the host keeps a checksum. A cycle that reads, answers,
+ * then saves, then sends does this. A fault is accepted once the state after its Raise is saved. Otherwise:
  *  - a collector saved before a reading whose request went out: the reporter has closed that batch, so it is lost; the
  *    next one has the EN that the old EA equals, is known, and lost too.
  *  - a reporter saved before an answer that was booked: what is raised since joins the batch under the EN that is
@@ -534,8 +537,9 @@ uint8_t powerlink_new_asnd(
  * flush the journal, save both. After a restart the journal is cut to the saved length, and what is cut off, Take
  * hands out again. Where others read the journal as it grows, it is cut to powerlink_journal_whole_len instead, and
  * Take is only called on a saved state: each record behind the saved length is then what the next Take for its ID
- * hands out, and is taken, compared and not appended again. (To compare the last record without a length is not
- * enough: of two equal entries one would be lost.)
+ * hands out, and is taken, compared and not appended again; from one that differs on, which the file system may have
+ * filled with zeros, the journal is cut. (To compare the last record without a length is not enough: of two equal
+ * entries one would be lost.)
  *
  * tests/c/host_loop.c is a host that does all this; host_frames.c and restarts.c beside it show what each mistake
  * costs. */
@@ -573,7 +577,7 @@ uint8_t powerlink_reporter_read(
     const uint8_t *POWERLINK_RESTRICT buffer, size_t buffer_len,
     uint8_t *POWERLINK_RESTRICT outcome, uint8_t *POWERLINK_RESTRICT octet);
 
-/* Tells EN, which a PRes of this node carries too.
+/* Tells EN, which a PRes of this node carries too. It does not tell that entries wait.
  * Refuses nothing: the answer is always 0. */
 uint8_t powerlink_reporter_en(
     const uint8_t state[POWERLINK_ARRAY(POWERLINK_REPORTER_LEN)], bool *POWERLINK_RESTRICT en);
@@ -592,7 +596,7 @@ uint8_t powerlink_collector_register(uint8_t state[POWERLINK_ARRAY(POWERLINK_COL
  * says that it was booked before. The frame's destination is not tested; a new EN without entries is booked too.
  * `outcome`: POWERLINK_KNOWN or _BOOKED; where booked, the state is saved before the next frame leaves.
  * Tests: those of powerlink_deserialize_frame, 10, 11, 1 and 5 of the StatusResponse, then 12, where the batch is not
- * known.
+ * known: the node sends it again, and powerlink_collector_take makes room.
  * Refused: nothing is written, but `octet` with 4 to 7. */
 uint8_t powerlink_collector_read(
     uint8_t state[POWERLINK_ARRAY(POWERLINK_COLLECTOR_LEN)],
@@ -601,7 +605,7 @@ uint8_t powerlink_collector_read(
 
 /* Tells what every frame of the managing node to node `id` has to carry: EA in a PReq to it, EA and ER in an SoA with it
  * as target. Any other EA may close a batch that is not booked, which is then lost. Until the node is registered (11),
- * its host sends EA 0 and ER 0, which loses nothing.
+ * its host sends EA 0 and ER 0, which loses nothing. ER is 0 in this version.
  * Tests: 11. Refused: nothing is written. */
 uint8_t powerlink_collector_flags(
     const uint8_t state[POWERLINK_ARRAY(POWERLINK_COLLECTOR_LEN)], uint8_t id,

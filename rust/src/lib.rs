@@ -75,8 +75,8 @@
 //! # What the theorem asks of a host
 //!
 //! No entry is lost and none listed twice, where head and box start fresh together and each goes on
-//! from its own last state, on a line where a repeat arrives before any later frame of the same
-//! sender. A batch is told from its repeat by one bit alone: EN of the head flips with each batch,
+//! from its own last state, on a line that keeps the order of sending: no frame, late or repeated,
+//! arrives after a later one of the same sender. A batch is told from its repeat by one bit alone: EN of the head flips with each batch,
 //! and EA of the box is the EN of the last one that it has booked. What does not keep to this is
 //! lost or listed twice with no call refused. So:
 //!
@@ -86,19 +86,21 @@
 //! registered, EA and ER are 0, which loses nothing.
 //!
 //! **Frames of a head.** Its StatusResponses come from [`Reporter::answer`] alone; its PRes has the
-//! EN of [`Reporter::en`].
+//! EN of [`Reporter::en`]. EN flips when an answer opens a batch, and not when an entry is raised:
+//! it does not tell that entries wait, so that the box sends every head a request again and again.
 //!
 //! **Threads.** Both states are `Send` and `Sync`, and no call has a state of its own: separate
 //! states go on at the same time, and for one state `&mut` is the lock, or asks for one. Where it
-//! is shared, the lock is held until the frame is in its place in the order of sending. A cyclic
+//! is shared, the lock is held until the frame is in its place in the order of sending, from a
+//! reading to its saving, and from a `take` to the saving of state and journal. A cyclic
 //! task that may not wait for the lock sends all frames to the heads itself, and takes EA from a
 //! copy as each one leaves; the task that reads answers renews the copy after every
 //! [`Collector::read`], once the state is saved and before the next answer is read.
 //!
-//! **Restarts.** A state ([`Reporter::as_bytes`], [`Collector::as_bytes`]) is saved after each call
+//! **Restarts.** Both ends begin anew together, with nothing left on the line. A state ([`Reporter::as_bytes`], [`Collector::as_bytes`]) is saved after each call
 //! that has changed it and before any later frame leaves, a head's before the answer itself leaves;
-//! whole, by a file written anew and renamed. A cycle that reads, saves and then sends does so. A
-//! fault is accepted once the state after its [`Reporter::raise`] is saved. What else happens is
+//! whole, by a file written anew, flushed and renamed. A cycle that reads, answers, saves and then
+//! sends does so. A fault is accepted once the state after its [`Reporter::raise`] is saved. What else happens is
 //! told at [`Reporter`] and [`Collector`]. Saved octets are of one [`VERSION`] alone.
 //!
 //! **The journal.** If the state is saved after the journal is written, a power cut between them

@@ -9,6 +9,12 @@ out=$(mktemp -d)
 trap 'rm -rf "$out"' EXIT
 warned='-Wall -Wextra -Wpedantic -Werror -Iinclude'
 
+# What is left out for want of a program, told to the gate, which names it.
+skip() {
+    echo "tests/c: $1: left out, there is no $2"
+    echo "skipped $1 (no $2)" >> "${SKIPS:-/dev/null}"
+}
+
 # The header by itself, with each compiler that is here.
 echo '#include "powerlink.h"' > "$out/header.c"
 cp "$out/header.c" "$out/header.cc"
@@ -33,10 +39,14 @@ if command -v c++ > /dev/null; then
         'int main() { static uint8_t s[POWERLINK_COLLECTOR_LEN]; return powerlink_collector_new(s); }' > "$out/link.cc"
     c++ -std=c++11 $warned "$out/link.cc" "$lib" -o "$out/link"
     "$out/link"
+else
+    skip 'a program in C++' c++
 fi
 
 # The archive asks for nothing but what the header says.
-if command -v nm > /dev/null && nm -u "$lib" | grep ' U ' | grep -v -e ' memset$' -e ' memmove$' -e ' memcpy$'; then
+if ! command -v nm > /dev/null; then
+    skip 'what the archive calls' nm
+elif nm -u "$lib" | grep ' U ' | grep -v -e ' memset$' -e ' memmove$' -e ' memcpy$'; then
     echo "tests/c: the archive calls more than memset, memmove and memcpy"
     exit 1
 fi
@@ -69,7 +79,7 @@ mkdir "$out/host"
 
 # Journals, as the program `journal` lists them.
 if [ ! -x target/bin/journal ]; then
-    echo 'tests/c: journals were written and not listed, there is no target/bin/journal (rt check journal)'
+    skip 'the journals of C programs, listed' 'target/bin/journal: rt check journal'
     exit 0
 fi
 lists() {

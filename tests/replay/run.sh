@@ -102,6 +102,7 @@ if command -v python3 >/dev/null; then
     says 'those with long payloads' '16 cases, 0 differ'
 else
     echo "replay: that the records are those of $from_01/*.txt, and the cases with long payloads: not looked at, there is no python3"
+    echo "skipped the records of the cases from 01, made anew (no python3)" >>"${SKIPS:-/dev/null}"
 fi
 
 records $sample >"$dir/records"
