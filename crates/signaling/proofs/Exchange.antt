@@ -1,6 +1,6 @@
--- What one exchange leaves: the head has closed what its answer carried.
+-- What one exchange leaves: the head has closed what its answer carried, by the exchange's request or by a frame that it read before.
 -- Assumes nothing.
-use Prim.Native.Nat.{ℕ, _+_, _≤_}
+use Prim.Native.Nat.{ℕ, _+_, _-_, _≤_}
 use mathlib.Core.Bool.{Bool, Bool·beq}
 use mathlib.Core.Path.{_≡_, refl, sym, ap, _∙_}
 use mathlib.Core.Logic.{_⊎_, inl, inr}
@@ -19,20 +19,21 @@ use Rattle.collector.specs.Layout.{boxOf}
 use Rattle.collector.specs.Rules.{Said, bookLength, Account, Box, bookAnswer, accountAnswer, readAnswer, bookedAccount, afterResponse, responseIn, statusIn}
 use Rattle.collector.specs.declared.ReadAnswer.{ReadAnswer as BoxReadAnswer}
 use Rattle.collector.specs.declared.ReadAnswer.the-variants as box
+use Rattle.collector.specs.declared.RequestAnswer.{RequestAnswer}
 use Rattle.collector.specs.declared.reading.Heard.the-variants as boxHears
-use Rattle.signaling.specs.Calls.{answer, sent, Event, answered, headRead, boxRead, answersSent, requestsSent, node, World, Step, headReads, boxReads, eaOf}
-use Rattle.signaling.specs.Exchanges.{Quiet, AnswerAgain, RequestAgain, NoRepeat, Quietly, Exchange}
+use Rattle.signaling.specs.Calls.{answer, sent, Event, answered, headRead, boxRead, requested, answersSent, requestsSent, node, World, Step, headReads, boxReads, eaOf}
+use Rattle.signaling.specs.Exchanges.{Quiet, AnswerAgain, NoRepeat, Quietly, Exchange}
 use Rattle.signaling.proofs.Calls.{read-here}
 use Rattle.signaling.proofs.Facts.{clash, either, beq-same, beq-true, at-lt}
 use Rattle.signaling.proofs.Frames.{Says}
 use Rattle.signaling.proofs.Invariant.{headIn, placeFor}
-use Rattle.signaling.proofs.Quiet.{IsPlace, Ready, goes-on, Calm, calm, quietly, no-repeat}
-use Rattle.signaling.proofs.Resting.{opened-twice, head-hears, shut, closed, Resting, rests-again}
+use Rattle.signaling.proofs.Pending.{opened-twice, opened-fewer, head-hears, closed, AtMost, at-most-stays}
+use Rattle.signaling.proofs.Quiet.{IsPlace, NoRaise, Ready, goes-on, shut, Calm, calm, quiet-raises-not, quietly, no-repeat, requested-stays}
 
 -- ---- both ends, while nothing changes
 
 -- Since the head became h and the box's bit became ea: all that was sent from the places n and m on says so.
-pub record Steady (i : ℕ) (h : Head) (ea : Bool) (n m : ℕ) (w : World) : Type 0 where
+record Steady (i : ℕ) (h : Head) (ea : Bool) (n m : ℕ) (w : World) : Type 0 where
   pub ready : Ready i w
   pub head : headIn w ≡ h
   pub bit : eaOf (placeFor i w) ≡ ea
@@ -65,19 +66,6 @@ module _ {i : ℕ} {h : Head} {ea : Bool} {n m : ℕ} where
         mine = λ p a le e. elim (z .answers p a e) [ inl k ↦ mine p a le k | inr k ↦ rw head at k ];
         its = λ q f x le e me. elim (z .requests q f e) [ inl k ↦ its q f x le k me | inr k ↦ k x me ∙ eb ];
       }
-
-  quiet-steady : {w v : World} {x : Event} → Step i w x v → Quiet i x → opened h ≡ h → Steady i h ea n m w → Steady i h ea n m v
-  quiet-steady s k settled y =
-      let z = calm (y .ready .held) s k in
-      steady-by (goes-on s (y .ready)) z
-      (elim (z .head) [ inl e ↦ e ∙ y .head | inr e ↦ e ∙ ap opened (y .head) ∙ settled ])
-      (y .bit)
-      (y .mine)
-      (y .its)
-
-  quietly-steady : {w v : World} → opened h ≡ h → Quietly i NoRepeat w v → Steady i h ea n m w → Steady i h ea n m v
-  quietly-steady settled =
-      quietly (Steady i h ea n m) (λ w v x s k y. quiet-steady s k settled y) (no-repeat (Steady i h ea n m))
 
 -- the answer that opens: from its place on, all answers say what the opened head holds
 first-steady : {i : ℕ} {w v : World} {n : ℕ} {bs : List ℕ} → Step i w (answered (write.Written n) bs) v → Ready i w
@@ -119,7 +107,7 @@ module _ (i : ℕ) (h : Head) (bs : List ℕ) (b : Box) (says : Says bs h) (id :
   hears-me : responseIn bs ≡ boxHears.Status (node i)
   hears-me = rw (← id) (says .status)
 
-  pub box-says : readAnswer bs b ≡ accountAnswer (statusIn bs) (b .accounts i)
+  box-says : readAnswer bs b ≡ accountAnswer (statusIn bs) (b .accounts i)
   unfolding readAnswer
   box-says = rw hears-me
 
@@ -135,7 +123,7 @@ module _ (i : ℕ) (h : Head) (bs : List ℕ) (b : Box) (says : Says bs h) (id :
       ]
 
 module _ {i : ℕ} {h : Head} {ea : Bool} {n m : ℕ} {w : World} (y : Steady i h ea n m w) where
-  pub its-id : h .id ≡ i
+  its-id : h .id ≡ i
   its-id = rw (← (y .head), y .ready .held .head) (y .ready .held .inv .id)
 
   -- the first reading, and a repeat: EA is EN behind it
@@ -165,46 +153,92 @@ module _ {i : ℕ} {h : Head} {ea : Bool} {n m : ℕ} {w : World} (y : Steady i 
       let z : box.BookFull ≡ box.Known = sym full ∙ c .answer ∙ x ∙ k in
       clash cc
 
--- the box has read an answer that was sent from the place n on
-abbrev Agreed : ℕ → Head → ℕ → World → Type 0
-Agreed i h n w = (m : ℕ) × Steady i h (h .en) n m w
-
-module _ {i : ℕ} {h : Head} {n : ℕ} (settled : opened h ≡ h) where
-  quiet-agreed : (w v : World) (x : Event) → Step i w x v → Quiet i x → Agreed i h n w → Agreed i h n v
-  quiet-agreed w v x s k y = (y .0, quiet-steady s k settled (y .1))
-
-  agrees-again : {p : ℕ} {bs : List ℕ} {w v : World} → n ≤ p → Quietly i (AnswerAgain p bs) w v → Agreed i h n w → Agreed i h n v
-  agrees-again le =
-      quietly (Agreed i h n) quiet-agreed
-      (λ w v x s k y. let read = rw (k .1) at s in (_, box-steady (y .1) le read (known-found (y .1) le refl read)))
-
 -- ---- the head reads
 
 module _ {i : ℕ} {h : Head} {n m q : ℕ} {bs : List ℕ} {x : Bool} {r : ReadAnswer} (le : m ≤ q) (me : eaTold i bs ≡ heard.Ea x) where
   carries-en : {w v : World} → Step i w (headRead (sent q) bs r) v → Steady i h (h .en) n m w → eaTold i bs ≡ heard.Ea (h .en)
   carries-en (headReads from octets told after d c) y = me ∙ ap heard.Ea (y .its q bs x le (d .1) me)
 
-  head-ends : {w u v : World} → Step i w (headRead (sent q) bs r) u → Quietly i (RequestAgain q bs) u v → Steady i h (h .en) n m w
-      → Resting i (shut h) v
-  head-ends s l y =
-      let mine = carries-en s y in
-      rests-again h mine l
-      (record {
-        ready = goes-on s (y .ready);
-        head = inl (head-hears mine (y .ready .held) s ∙ rw (y .head) (closed h));
-      })
+  head-ends : {w v : World} → Step i w (headRead (sent q) bs r) v → Steady i h (h .en) n m w → headIn v ≡ shut h
+  head-ends s y = head-hears (carries-en s y) (y .ready .held) s ∙ rw (y .head) (closed h)
 
--- ---- the exchange
+-- ---- the calls of an exchange
 
--- what was said when the box reads
-pub until-read : {i : ℕ} {w v : World} → Ready i w → (x : Exchange i w v)
-    → Steady i (opened (headIn w)) (eaOf (placeFor i w)) (length (answersSent i (w .log))) (length (requestsSent i (w .log))) (x .w₂)
-until-read {w} y x = quietly-steady (opened-twice (headIn w)) (x .quiet₁) (first-steady (x .answers) y)
+-- that, or k entries are pending at most
+abbrev Unless : ℕ → ℕ → (World → Type 0) → World → Type 0
+Unless i k P w = P w ⊎ AtMost i k w
 
-pub exchanged : {i : ℕ} {w v : World} → Ready i w → (x : Exchange i w v) → (x .boxSays ≡ box.BookFull → ⊥)
-    → Resting i (shut (opened (headIn w))) v
-exchanged {w} y x found =
-    let settled = opened-twice (headIn w) in
-    let y₂ = agrees-again settled (x .newAnswer) (x .quiet₂) (_, box-steady (until-read y x) (x .newAnswer) (x .boxReads) found) .1 in
-    let y₃ = quiet-steady (x .requests) tt settled (steady-from (y₂ .ready) (y₂ .head) (y₂ .bit)) in
-    head-ends (x .newRequest) (x .mine) (x .headReads) (x .quiet₄) (quietly-steady settled (x .quiet₃) y₃)
+-- the box has read an answer that was sent from the place n on
+abbrev Agreed : ℕ → Head → ℕ → World → Type 0
+Agreed i h n w = (m : ℕ) × Steady i h (h .en) n m w
+
+-- a call that leads from one to another
+unless : {i k : ℕ} {A B : Type 0} {w v : World} {x : Event} → Step i w x v → NoRaise i x → (A → B ⊎ AtMost i k v) → A ⊎ AtMost i k w
+    → B ⊎ AtMost i k v
+unless s unraised f (inl y) = f y
+unless s unraised f (inr y) = inr (at-most-stays _ _ _ s unraised y)
+
+-- The head became h when its answer opened a batch. Until that closes both ends are steady; then k entries are pending at most.
+module _ {i : ℕ} {h : Head} {k : ℕ} (settled : opened h ≡ h) (fewer : length (h .waiting) ≤ k) where
+  closes : {w : World} → Ready i w → headIn w ≡ shut h → AtMost i k w
+  closes y e = record { ready = y; few = rw e fewer }
+
+  quiet-steady : {ea : Bool} {n m : ℕ} {w v : World} {x : Event} → Step i w x v → Quiet i x → Steady i h ea n m w
+      → Unless i k (Steady i h ea n m) v
+  quiet-steady s quiet y =
+      let z = calm (y .ready .held) s quiet in
+      let on = goes-on s (y .ready) in
+      elim (z .head) [
+        | inl read ↦
+            elim read [
+              | inl e ↦ inl (steady-by on z (e ∙ y .head) (y .bit) (y .mine) (y .its))
+              | inr e ↦ inr (closes on (e ∙ ap shut (y .head)))
+            ]
+        | inr e ↦ inl (steady-by on z (e ∙ ap opened (y .head) ∙ settled) (y .bit) (y .mine) (y .its))
+      ]
+
+  quietly-steady : {ea : Bool} {n m : ℕ} {w v : World} → Quietly i NoRepeat w v → Unless i k (Steady i h ea n m) w
+      → Unless i k (Steady i h ea n m) v
+  quietly-steady {ea} {n} {m} =
+      let P = Unless i k (Steady i h ea n m) in
+      quietly P (λ w v x s quiet y. unless s (quiet-raises-not i x quiet) (quiet-steady s quiet) y) (no-repeat P)
+
+  quiet-agreed : {n : ℕ} {w v : World} {x : Event} → Step i w x v → Quiet i x → Agreed i h n w → Unless i k (Agreed i h n) v
+  quiet-agreed s quiet y = elim (quiet-steady s quiet (y .1)) [ inl z ↦ inl (y .0, z) | inr z ↦ inr z ]
+
+  agrees-again : {n p : ℕ} {bs : List ℕ} {w v : World} → n ≤ p → Quietly i (AnswerAgain p bs) w v → Unless i k (Agreed i h n) w
+      → Unless i k (Agreed i h n) v
+  agrees-again {n} {p} {bs} le =
+      quietly (Unless i k (Agreed i h n)) (λ w v x s quiet y. unless s (quiet-raises-not i x quiet) (quiet-agreed s quiet) y)
+      (λ w v x s again y.
+      let read : Step i w (boxRead (sent p) bs (again .0)) v = rw (again .1) at s in
+      unless read (λ t. refl) (λ z. inl (_, box-steady (z .1) le read (known-found (z .1) le refl read))) y)
+
+  -- all that is sent from the exchange's request on carries EN
+  asks : {n m : ℕ} {w v : World} {j : ℕ} {r : RequestAnswer} {bs : List ℕ} → Step i w (requested j r bs) v → Steady i h (h .en) n m w
+      → Unless i k (Steady i h (h .en) (length (answersSent i (w .log))) (length (requestsSent i (w .log)))) v
+  asks s y = quiet-steady s tt (steady-from (y .ready) (y .head) (y .bit))
+
+  -- behind the exchange's answer
+  exchanged-by : {ea : Bool} {m : ℕ} {w v : World} (x : Exchange i w v) → (x .boxSays ≡ box.BookFull → ⊥)
+      → Steady i h ea (length (answersSent i (w .log))) m (x .w₁)
+      → AtMost i k v
+  exchanged-by {w} x found y =
+      let y₂ = quietly-steady (x .quiet₁) (inl y) in
+      let y₃ : Unless i k (Agreed i h (length (answersSent i (w .log)))) (x .w₃) =
+      unless (x .boxReads) (λ t. refl) (λ z. inl (_, box-steady z (x .newAnswer) (x .boxReads) found)) y₂ in
+      let y₄ = agrees-again (x .newAnswer) (x .quiet₂) y₃ in
+      let y₅ = unless (x .requests) (λ t. refl) (λ z. asks (x .requests) (z .1)) y₄ in
+      let y₆ = quietly-steady (x .quiet₃) y₅ in
+      requested-stays (AtMost i k) at-most-stays (x .quiet₄)
+      (elim y₆ [
+        | inl z ↦ closes (goes-on (x .headReads) (z .ready)) (head-ends (x .newRequest) (x .mine) (x .headReads) z)
+        | inr z ↦ at-most-stays _ _ _ (x .headReads) (λ t. refl) z
+      ])
+
+-- each exchange closes one entry at least, while there is one
+pub exchanged : {i k : ℕ} {w v : World} → AtMost i k w → (x : Exchange i w v) → (x .boxSays ≡ box.BookFull → ⊥) → AtMost i (k - 1) v
+exchanged {k} {w} y x found =
+    let h = headIn w in
+    let fewer : length (opened h .waiting) ≤ k - 1 = omega (arith, opened-fewer h, y .few) in
+    exchanged-by (opened-twice h) fewer x found (first-steady (x .answers) (y .ready))

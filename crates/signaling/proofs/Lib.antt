@@ -14,10 +14,10 @@ pub mod Host
 pub mod Invariant
 pub mod Losses
 pub mod Making
+pub mod Pending
 pub mod Places
 pub mod Progress
 pub mod Quiet
-pub mod Resting
 pub mod Steps
 pub mod Transit
 pub mod TwoExchanges

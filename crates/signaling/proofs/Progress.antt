@@ -1,22 +1,18 @@
 -- Each exchange closes what the answer carries: w entries are closed after at most w exchanges.
 -- Assumes nothing.
-use Prim.Native.Nat.{ℕ, zero, suc, _-_, _≤_}
-use mathlib.Core.Path.{_≡_, refl, ap, _∙_}
-use mathlib.Core.Logic.{inl, inr}
+use Prim.Native.Nat.{ℕ, _-_, _≤_}
+use mathlib.Core.Path.{_≡_, refl, ap}
 use mathlib.Core.List.{List, [], _∷_, _++_}
 use native.Mathlib.Omega.{arith}
-use lib.ListN.{length, length-append, length-drop}
+use lib.ListN.{length, length-append}
 use Rattle.error_entry.specs.declared.ErrorEntry.{ErrorEntry}
-use Rattle.reporter.specs.Rules.{opens, Head, opened}
-use Rattle.collector.specs.declared.ReadAnswer.the-variants as box
-use Rattle.signaling.specs.Calls.{accepted, handedOut, ruled, unbooked, World, Run}
-use Rattle.signaling.specs.Exchanges.{pending, Exchange, Exchanges, done, more, Room, Progress, IsRegistered, Found, StepwiseProgress}
-use mathlib.Core.Bool.{false, true}
+use Rattle.signaling.specs.Calls.{Event, accepted, handedOut, ruled, unbooked, World, Step, Run}
+use Rattle.signaling.specs.Exchanges.{pending, Exchanges, done, more, Room, Progress, IsRegistered, Found, StepwiseProgress}
 use Rattle.signaling.proofs.Exchange.{exchanged}
 use Rattle.signaling.proofs.Invariant.{headIn, Held}
-use Rattle.signaling.proofs.Places.{quiet-roomy, exchange-roomy, exchange-found}
-use Rattle.signaling.proofs.Quiet.{Roomy}
-use Rattle.signaling.proofs.Resting.{opened-twice, entries, shut, Resting, resting-entries, rests}
+use Rattle.signaling.proofs.Pending.{entries, AtMost, at-most-stays}
+use Rattle.signaling.proofs.Places.{room-found}
+use Rattle.signaling.proofs.Quiet.{NoRaise, Ready, goes-on, Roomy, room-stays, quiet-stays, until-read, exchange-stays}
 use Rattle.signaling.proofs.Steps.{held}
 
 -- ---- the pending entries
@@ -24,52 +20,33 @@ use Rattle.signaling.proofs.Steps.{held}
 pending-in : {i : ℕ} {w : World} → Held i w → pending i w ≡ entries (headIn w)
 pending-in t = rw (← (t .head))
 
-open-fewer : (h : Head) (b w : List ErrorEntry) → h .batch ≡ b → h .waiting ≡ w → length (opened h .waiting) ≤ length (entries h) - 1
-unfolding opened
-open-fewer h [] [] eb ew = let o : opens h ≡ false = rw (eb, ew) in rw (o, eb, ew) (omega arith)
-open-fewer h [] (x ∷ w) eb ew = let o : opens h ≡ true = rw (eb, ew) in rw (o, eb, ew) (omega (arith, length-drop 3 w))
-open-fewer h (x ∷ b) w eb ew = let o : opens h ≡ false = rw eb in rw (o, eb) (omega (arith, length-append b (h .waiting)))
-
--- what an exchange leaves: fewer by one at least, where there was one
-opened-fewer : (h : Head) → length (opened h .waiting) ≤ length (entries h) - 1
-opened-fewer h = open-fewer h (h .batch) (h .waiting) refl refl
+eases : {i k n : ℕ} {w : World} → k ≤ n → AtMost i k w → AtMost i n w
+eases le y = record { ready = y .ready; few = omega (arith, le, y .few) }
 
 -- ---- many exchanges
 
--- a head after so many exchanges
-abbrev turns : ℕ → Head → Head
-turns zero h = h
-turns (suc n) h = turns n (shut (opened h))
+closed-often : {i k n : ℕ} {w v : World} → AtMost i k w → (xs : Exchanges i n w v) → Found xs → AtMost i (k - n) v
+closed-often {i} {k} y (done l) f = eases (omega arith) (quiet-stays (AtMost i k) at-most-stays l y)
+closed-often {i} {k} y (more l x xs) f =
+    eases (omega arith) (closed-often (exchanged (quiet-stays (AtMost i k) at-most-stays l y) x (f .0)) xs (f .1))
 
--- n are closed at least, or all
-turns-fewer : (n : ℕ) (h : Head) → length (entries (turns n h)) ≤ length (entries h) - n
-turns-fewer zero h = omega arith
-turns-fewer (suc n) h = omega (arith, turns-fewer n (shut (opened h)), opened-fewer h)
+-- places for all that is not booked
+abbrev Places : ℕ → World → Type 0
+Places i w = Ready i w × Roomy i w
 
-resting-opened : {i : ℕ} {h : Head} {w : World} → Resting i h w → opened (headIn w) ≡ opened h
-resting-opened {h} y = elim (y .head) [ inl e ↦ ap opened e | inr e ↦ ap opened e ∙ opened-twice h ]
+places-stay : {i : ℕ} (w v : World) (x : Event) → Step i w x v → NoRaise i x → Places i w → Places i v
+places-stay w v x s unraised y = (goes-on s (y .0), room-stays s unraised (y .1))
 
-module _ {i : ℕ} where
-  turned : {h : Head} {w v : World} → Resting i h w → (x : Exchange i w v) → (x .boxSays ≡ box.BookFull → ⊥) → Resting i (shut (opened h)) v
-  turned y x found = rw (resting-opened y) at (exchanged (y .ready) x found)
+-- with them each exchange finds those that it needs
+all-found : {i n : ℕ} {w v : World} → Places i w → (xs : Exchanges i n w v) → Found xs
+all-found y (done l) = tt
+all-found {i} y (more l x xs) =
+    let here = quiet-stays (Places i) places-stay l y in
+    let z = until-read (Places i) places-stay x here in
+    (room-found (z .0) (z .1) (x .boxReads), all-found (exchange-stays (Places i) places-stay x here) xs)
 
-  turned-often : {h : Head} {n : ℕ} {w v : World} → Resting i h w → (xs : Exchanges i n w v) → Found xs → Resting i (turns n h) v
-  turned-often y (done l) f = rests l y
-  turned-often y (more l x xs) f = turned-often (turned (rests l y) x (f .0)) xs (f .1)
-
-  -- with places for all that is not booked, each exchange finds them
-  all-found : {h : Head} {n : ℕ} {w v : World} → Resting i h w → Roomy i w → (xs : Exchanges i n w v) → Found xs
-  all-found y room (done l) = tt
-  all-found y room (more l x xs) =
-      let t = rests l y in
-      let here = quiet-roomy l room in
-      let first = exchange-found here x (t .ready) in
-      (first, all-found (turned t x first) (exchange-roomy here x) xs)
-
--- ---- from the start
-
-at-rest : {i : ℕ} {w : World} → Run i w → IsRegistered i w → Resting i (headIn w) w
-at-rest run is = record { ready = record { held = held run; place = rw (is .1) tt }; head = inl refl }
+ready : {i : ℕ} {w : World} → Run i w → IsRegistered i w → Ready i w
+ready run is = record { held = held run; place = rw (is .1) tt }
 
 -- free places for what is not booked
 roomy : {i : ℕ} {w : World} → Held i w → Room i w → Roomy i w
@@ -88,8 +65,9 @@ module _ (i n : ℕ) (w v : World) (run : Run i w) where
   module _ (is : IsRegistered i w) (xs : Exchanges i n w v) (found : Found xs) where
     closes : length (pending i v) ≤ length (pending i w) - n
     closes =
-        let y = turned-often (at-rest run is) xs found in
-        rw (pending-in (held run), pending-in (y .ready .held), resting-entries y) (turns-fewer n (headIn w))
+        let start : AtMost i (length (pending i w)) w = record { ready = ready run is; few = rw (pending-in (held run)) (omega arith) } in
+        let y = closed-often start xs found in
+        rw (pending-in (y .ready .held)) (y .few)
 
     closed : length (pending i w) ≤ n → pending i v ≡ []
     closed few = none-left (pending i v) (omega (arith, closes))
@@ -99,7 +77,7 @@ module _ (i n : ℕ) (w v : World) (run : Run i w) where
     is-registered = (free .account, free .registered)
 
     finds : (xs : Exchanges i n w v) → Found xs
-    finds xs = all-found (at-rest run is-registered) (roomy (held run) free) xs
+    finds xs = all-found (ready run is-registered, roomy (held run) free) xs
 
 pub stepwise-progress : StepwiseProgress
 stepwise-progress = record { closes = closes; closed = closed; found = finds }

@@ -4,7 +4,7 @@ use Prim.Native.Nat.{ℕ, _+_, _≤_}
 use mathlib.Core.Bool.{Bool, true, false}
 use mathlib.Core.Path.{_≡_, refl, _∙_}
 use mathlib.Core.Logic.{_⊎_, inl, inr}
-use mathlib.Core.List.{List}
+use mathlib.Core.List.{List, [], _∷_}
 use mathlib.Core.Option.{Option, none, some}
 use native.Mathlib.Omega.{arith}
 use lib.ListN.{length, take, getElem?, length-append}
@@ -12,12 +12,12 @@ use lib.Dec.{eqb}
 use borrow.Author.Tests.{eqb-true}
 use Rattle.types.specs.Codes.{pick}
 use Rattle.section.specs.declared.WriteAnswer.the-variants as write
-use Rattle.codec.specs.Frame.{readFrame}
 use Rattle.error_entry.specs.declared.ErrorEntry.{ErrorEntry}
-use Rattle.reporter.specs.Rules.{opened, Head, afterRaise, acknowledgeAnswer, afterAcknowledge, eaTold}
+use Rattle.reporter.specs.Rules.{withBatch, opened, Head, afterRaise, afterAcknowledge, eaTold}
 use Rattle.reporter.specs.declared.RaiseAnswer.{RaiseAnswer}
 use Rattle.reporter.specs.declared.RaiseAnswer.the-variants.{Raised, EntryInvalid, QueueFull}
-use Rattle.reporter.specs.declared.acknowledge.Heard.{Heard}
+use Rattle.reporter.specs.declared.ReadAnswer.{ReadAnswer}
+use Rattle.reporter.specs.declared.ReadAnswer.the-variants.{Closed, Kept, Ignored, Refused}
 use Rattle.reporter.specs.declared.acknowledge.Heard.the-variants as heard
 use Rattle.collector.specs.Layout.{boxOf}
 use Rattle.collector.specs.Rules.{Said, bookLength, Account, Box, withAccount, afterRegister, afterBooking, afterResponse, withoutFirst, afterTake, responseIn, statusIn}
@@ -30,13 +30,13 @@ use Rattle.collector.specs.declared.TakeAnswer.{TakeAnswer}
 use Rattle.collector.specs.declared.TakeAnswer.the-variants as taking
 use Rattle.collector.specs.declared.reading.Heard.{Heard as BoxHeard}
 use Rattle.collector.specs.declared.reading.Heard.the-variants as boxHears
-use Rattle.signaling.specs.Calls.{tally, adds, Tally, sent, foreign, Event, raised, answered, headRead, registered, boxRead, requested, taken, hosted, ifTaken, accepted, handedOut, answersSent, requestsSent, eaOf, World, Step, raise, answer, headReads, register, boxReads, request, takes, hosts}
-use Rattle.signaling.specs.Exchanges.{Quiet, NoRepeat, Quietly, still, next, again}
-use Rattle.signaling.proofs.Calls.{unheard, read-elsewhere, register-same}
-use Rattle.signaling.proofs.Facts.{either, at-snoc}
+use Rattle.signaling.specs.Calls.{tally, adds, Tally, nothingYet, sent, foreign, Event, raised, answered, headRead, registered, boxRead, requested, taken, hosted, ifTaken, accepted, handedOut, answersSent, requestsSent, eaOf, World, Step, raise, answer, headReads, register, boxReads, request, takes, hosts}
+use Rattle.signaling.specs.Exchanges.{Quiet, NoRepeat, RequestAgain, Quietly, still, next, again, Exchange}
+use Rattle.signaling.proofs.Calls.{read-elsewhere, register-same}
+use Rattle.signaling.proofs.Facts.{clash, either, at-snoc}
 use Rattle.signaling.proofs.Frames.{Says}
 use Rattle.signaling.proofs.Invariant.{headIn, placeFor, Held}
-use Rattle.signaling.proofs.Steps.{answer-says, head-now, request-says, keeps}
+use Rattle.signaling.proofs.Steps.{answer-says, request-says, keeps}
 
 -- ---- every call: a place stays
 
@@ -131,9 +131,13 @@ quiet-raises-not i (hosted bs) k = λ t. refl
 
 -- ---- quiet calls
 
--- the head but for its opening, EA, and the frames sent but for those that say what both hold
+-- a head with no open batch
+abbrev pub shut : Head → Head
+shut h = withBatch [] h
+
+-- the head but for its opening and the closing of its batch, EA, and the frames sent but for those that say what both hold
 pub record Calm (i : ℕ) (w v : World) : Type 0 where
-  pub head : (headIn v ≡ headIn w) ⊎ (headIn v ≡ opened (headIn w))
+  pub head : ((headIn v ≡ headIn w) ⊎ (headIn v ≡ shut (headIn w))) ⊎ (headIn v ≡ opened (headIn w))
   pub bit : eaOf (placeFor i v) ≡ eaOf (placeFor i w)
   pub answers : (p : ℕ) (a : List ℕ) → getElem? (answersSent i (v .log)) p ≡ some a
       → (getElem? (answersSent i (w .log)) p ≡ some a) ⊎ Says a (headIn v)
@@ -154,28 +158,29 @@ take-bit i j b (taking.Taken e) = with-bit i j _ b (taken-bit (b .accounts j))
 take-bit i j b taking.NotRegistered = refl
 take-bit i j b taking.NothingBooked = refl
 
--- a Raise that is refused leaves the head
-not-raised : (i : ℕ) (e : ErrorEntry) (r : RaiseAnswer) → Quiet i (raised e r) → (h : Head) → afterRaise r e h ≡ h
-not-raised i e Raised k h = absurd (omega arith)
+-- a Raise that accepts nothing leaves the head
+pub not-raised : (i : ℕ) (e : ErrorEntry) (r : RaiseAnswer) → NoRaise i (raised e r) → (h : Head) → afterRaise r e h ≡ h
+not-raised i e Raised k h = let some-raised : e ∷ [] ≡ [] = k (nothingYet i) in clash cc
 not-raised i e EntryInvalid k h = refl
 not-raised i e QueueFull k h = refl
 
--- what gives no EA leaves the head
-silent : (a : Heard) (h : Head) → ((ea : Bool) → a ≡ heard.Ea ea → ⊥) → afterAcknowledge (acknowledgeAnswer a h) h ≡ h
-silent (heard.Refused e) h k = refl
-silent heard.Nothing h k = refl
-silent (heard.Ea ea) h k = absurd (k ea refl)
+-- a reading leaves the head or closes its batch
+pub read-head : (r : ReadAnswer) (h : Head) → (afterAcknowledge r h ≡ h) ⊎ (afterAcknowledge r h ≡ shut h)
+read-head Closed h = inr refl
+read-head Kept h = inl refl
+read-head Ignored h = inl refl
+read-head (Refused e) h = inl refl
 
 pub calm : {i : ℕ} {w v : World} {x : Event} → Held i w → Step i w x v → Quiet i x → Calm i w v
 calm {i} {w} t (raise e r after n c) k =
     record {
-      head = inl (c .head ∙ not-raised i e r k (headIn w));
+      head = inl (inl (c .head ∙ not-raised i e r (quiet-raises-not i (raised e r) k) (headIn w)));
       bit = refl;
       answers = λ p a y. inl y;
       requests = λ q f y. inl y;
     }
 calm {i} {w} t (answer f (write.Refused e) after target written sizes c) k =
-    record { head = inl (c .head); bit = refl; answers = λ p a y. inl y; requests = λ q f y. inl y }
+    record { head = inl (inl (c .head)); bit = refl; answers = λ p a y. inl y; requests = λ q f y. inl y }
 calm {i} {w} t (answer f (write.Written n) after target written sizes c) k =
     record {
       head = inr (c .head);
@@ -187,42 +192,35 @@ calm {i} {w} t (answer f (write.Written n) after target written sizes c) k =
           ];
       requests = λ q f y. inl y;
     }
-calm {i} {w} t (headReads foreign bs r after d c) k =
+calm {i} {w} t (headReads o bs r after d c) k =
     record {
-      head = inl (head-now t bs r after c ∙ unheard i (readFrame bs) (headIn w) d);
-      bit = refl;
-      answers = λ p a y. inl y;
-      requests = λ q f y. inl y;
-    }
-calm {i} {w} t (headReads (sent q) bs r after d c) k =
-    record {
-      head = inl (head-now t bs r after c ∙ silent (eaTold i bs) (headIn w) k);
+      head = inl (elim (read-head r (headIn w)) [ inl e ↦ inl (c .head ∙ e) | inr e ↦ inr (c .head ∙ e) ]);
       bit = refl;
       answers = λ p a y. inl y;
       requests = λ q f y. inl y;
     }
 calm {i} {w} t (register j r after c) k =
     record {
-      head = inl refl;
+      head = inl (inl refl);
       bit = rw (c .box .accounts i) (register-same i j (boxOf (w .box)) r (c .answer) .0);
       answers = λ p a y. inl y;
       requests = λ q f y. inl y;
     }
 calm {i} {w} t (boxReads foreign bs r after d c) k =
     record {
-      head = inl refl;
+      head = inl (inl refl);
       bit = rw (c .box .accounts i, read-elsewhere i bs (boxOf (w .box)) r d);
       answers = λ p a y. inl y;
       requests = λ q f y. inl y;
     }
 calm {i} {w} t (boxReads (sent p) bs r after d c) k = absurd k
 calm {i} {w} t (request j f requesting.NotRegistered target written six c) k =
-    record { head = inl refl; bit = refl; answers = λ p a y. inl y; requests = λ q f y. inl y }
+    record { head = inl (inl refl); bit = refl; answers = λ p a y. inl y; requests = λ q f y. inl y }
 calm {i} {w} t (request j f (requesting.Refused e) target written six c) k =
-    record { head = inl refl; bit = refl; answers = λ p a y. inl y; requests = λ q f y. inl y }
+    record { head = inl (inl refl); bit = refl; answers = λ p a y. inl y; requests = λ q f y. inl y }
 calm {i} {w} t (request j f (requesting.Written n) target written six c) k =
     record {
-      head = inl refl;
+      head = inl (inl refl);
       bit = refl;
       answers = λ p a y. inl y;
       requests = λ q g y.
@@ -233,7 +231,7 @@ calm {i} {w} t (request j f (requesting.Written n) target written six c) k =
     }
 calm {i} {w} t (hosts bs told) k =
     record {
-      head = inl refl;
+      head = inl (inl refl);
       bit = refl;
       answers = λ p a y. inl y;
       requests = λ q g y.
@@ -241,7 +239,7 @@ calm {i} {w} t (hosts bs told) k =
     }
 calm {i} {w} t (takes j r after c) k =
     record {
-      head = inl refl;
+      head = inl (inl refl);
       bit = rw (c .box .accounts i) (take-bit i j (boxOf (w .box)) r);
       answers = λ p a y. inl y;
       requests = λ q f y. inl y;
@@ -260,3 +258,24 @@ module _ {i : ℕ} (P : World → Type 0) where
 
   pub no-repeat : (w v : World) (x : Event) → Step i w x v → NoRepeat x → P w → P v
   no-repeat w v x s k y = absurd k
+
+-- what every call but a Raise that is accepted keeps
+module _ {i : ℕ} (P : World → Type 0) (stays : (w v : World) (x : Event) → Step i w x v → NoRaise i x → P w → P v) where
+  stays-with : {Repeat : Event → Type 0} {w v : World} → ((x : Event) → Repeat x → NoRaise i x) → Quietly i Repeat w v → P w → P v
+  stays-with repeats =
+      quietly P (λ w v x s k y. stays w v x s (quiet-raises-not i x k) y) (λ w v x s k y. stays w v x s (repeats x k) y)
+
+  pub quiet-stays : {w v : World} → Quietly i NoRepeat w v → P w → P v
+  quiet-stays = stays-with (λ x k. absurd k)
+
+  pub requested-stays : {q : ℕ} {bs : List ℕ} {w v : World} → Quietly i (RequestAgain q bs) w v → P w → P v
+  requested-stays = stays-with (λ x k. rw (k .1) (λ t. refl))
+
+  pub until-read : {w v : World} (x : Exchange i w v) → P w → P (x .w₂)
+  until-read x y = quiet-stays (x .quiet₁) (stays _ _ _ (x .answers) (λ t. refl) y)
+
+  pub exchange-stays : {w v : World} → Exchange i w v → P w → P v
+  exchange-stays x y =
+      let y₃ = stays _ _ _ (x .boxReads) (λ t. refl) (until-read x y) in
+      let y₅ = stays _ _ _ (x .requests) (λ t. refl) (stays-with (λ e k. rw (k .1) (λ t. refl)) (x .quiet₂) y₃) in
+      requested-stays (x .quiet₄) (stays _ _ _ (x .headReads) (λ t. refl) (quiet-stays (x .quiet₃) y₅))

@@ -24,15 +24,15 @@ use Rattle.signaling.specs.Calls.{sent, foreign, Event, raised, answered
 abbrev pub pending : ℕ → World → List ErrorEntry
 pending i w = ruled i (w .log) .batch ++ ruled i (w .log) .waiting
 
--- "nothing raised meanwhile": a Raise that is refused raises nothing. "No answer or request of theirs read outside an exchange":
--- what gives this head no EA, as requests for other heads, and what comes from elsewhere, may be read. All else may be called.
+-- "nothing raised meanwhile": a Raise that is refused raises nothing. "No answer or request of theirs read outside an exchange": the box
+-- reads no answer of this head. The head may read whatever the box and its host sent, in the order of sending (`Delivered`), also what
+-- gives it an EA: this is wider than 01. All else may be called.
 abbrev pub Quiet : ℕ → Event → Type 0
 Quiet i (raised e Raised) = ⊥
 Quiet i (raised e EntryInvalid) = Unit {0}
 Quiet i (raised e QueueFull) = Unit {0}
 Quiet i (answered r bs) = Unit {0}
-Quiet i (headRead (sent q) bs r) = (ea : Bool) → eaTold i bs ≡ heard.Ea ea → ⊥
-Quiet i (headRead foreign bs r) = Unit {0}
+Quiet i (headRead o bs r) = Unit {0}
 Quiet i (registered j r) = Unit {0}
 Quiet i (boxRead (sent p) bs r) = ⊥
 Quiet i (boxRead foreign bs r) = Unit {0}
