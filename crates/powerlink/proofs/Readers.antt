@@ -20,7 +20,7 @@ use Rattle.error_entry.specs.Entry.{readEntry}
 use Rattle.error_entry.specs.declared.ErrorEntry.{ErrorEntry}
 use Rattle.error_entry.specs.declared.ErrorEntryAnswer.the-variants as entry
 use Rattle.status_response.specs.BitField.{fieldBytes, readField}
-use Rattle.status_response.specs.Fields.{readStatus}
+use Rattle.status_response.specs.Fields.{readFields, readStatus}
 use Rattle.status_response.specs.Steps.{stepAt}
 use Rattle.status_response.specs.declared.bit_field.DeserializedErrorField.{DeserializedErrorField}
 use Rattle.status_response.specs.declared.bit_field.ErrorFieldAnswer.the-variants as bits
@@ -73,18 +73,15 @@ module _ (s : List ℕ) (v : List ℕ) where
       → PlRead s 0 v (m ∷ h .destination .0 ∷ h .source .0 ∷ []) o o
   pl-read o m h q em = record { cause = rw q; values = rw (q, em); octet = rw q }
 
-module _ (s : List ℕ) (d : DeserializedStatus) (w : d ≡ readStatus s) (v g : List ℕ) where
-  pub status-refused : (r o o′ : ℕ) (e : PowerlinkError) → d .answer ≡ status.Refused e → Told e r o o′ → StatusRead s r v v g g o o′
-  status-refused r o o′ e ea t =
-      let q = sym (ap (λ (x : DeserializedStatus). x .answer) w) ∙ ea in
-      record { cause = t .0 ∙ rw q; values = rw q; field = rw q; octet = t .1 ∙ rw q }
+module _ (s v g : List ℕ) where
+  pub status-refused : (r o o′ : ℕ) (e : PowerlinkError) → status.Refused e ≡ readFields s → Told e r o o′ → StatusRead s r v v g g o o′
+  status-refused r o o′ e q t = record { cause = rw (← q) (t .0); values = rw (← q); field = rw (← q); octet = rw (← q) (t .1) }
 
-  pub status-read : (v′ g′ : List ℕ) (o : ℕ) (f : StatusFields) → d .answer ≡ status.Status f → v′ ≡ statusNumbers f
-      → g′ ≡ fieldBytes (d .«static_error_bit_field») → StatusRead s 0 v v′ g g′ o o
-  status-read v′ g′ o f ea ev eg =
-      let q = sym (ap (λ (x : DeserializedStatus). x .answer) w) ∙ ea in
+  pub status-read : (v′ g′ : List ℕ) (o : ℕ) (f : StatusFields) (d : DeserializedStatus) → status.Status f ≡ readFields s → d ≡ readStatus s
+      → v′ ≡ statusNumbers f → g′ ≡ fieldBytes (d .«static_error_bit_field») → StatusRead s 0 v v′ g g′ o o
+  status-read v′ g′ o f d q w ev eg =
       let b = ap (λ (x : DeserializedStatus). fieldBytes (x .«static_error_bit_field»)) w in
-      record { cause = rw q; values = ev ∙ rw q; field = eg ∙ b ∙ rw q; octet = rw q }
+      record { cause = rw (← q); values = rw (← q) ev; field = rw (← q) (eg ∙ b); octet = rw (← q) }
 
 module _ (s : List ℕ) (d : DeserializedErrorField) (w : d ≡ readField s) (g : List ℕ) where
   pub field-refused : (r : ℕ) (e : PowerlinkError) → d .answer ≡ bits.Refused e → r ≡ causeNumber e → FieldRead s r g g

@@ -19,6 +19,7 @@ use status_response::copied;
 use status_response::fields::StatusAnswer;
 use status_response::fields::StatusFields;
 use status_response::fields::deserialize;
+use status_response::fields::read_fields;
 use status_response::walk::EntryStep;
 use status_response::walk::step_from;
 use types::common::NetTime;
@@ -39,12 +40,12 @@ pub extern "C" fn powerlink_deserialize_status(
 ) -> u8
     ensures { λ r. ⌜ StatusRead (now (payload .entry)) r (now (values .entry)) (now (values .exit)) (now (field .entry)) (now (field .exit)) (now (octet .entry)) (now (octet .exit)) ⌝ }
 {
-    let status = deserialize(payload);
-    let bits = status.static_error_bit_field;
-    let answer = status.answer;
-    match answer {
+    // The answer first: behind its tests the compiler drops those of the error field.
+    match read_fields(payload) {
         StatusAnswer::Refused(e) => refusal(e, octet),
         StatusAnswer::Status(f) => {
+            let status = deserialize(payload);
+            let bits = status.static_error_bit_field;
             *values = status_values(f);
             *field = bits.to_bytes();
             0
