@@ -20,6 +20,7 @@ fn say_part(part: Part) {
     }
 }
 
+// A call is told by its place in SHAPES of tests/compare/calls/case.rs.
 pub fn difference(case: u64, call: u8, part: Part, at: usize) {
     number(b"differs: case ", case);
     number(b", call ", call as u64);
