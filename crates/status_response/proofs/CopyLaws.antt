@@ -1,24 +1,26 @@
 -- The octets of entries, copied behind what stands in front of them, are the entries written.
 -- Assumes nothing.
 use Prim.Native.Nat.{ℕ, zero, suc, _+_, _*_, _/_, _≤_, _<_}
-use mathlib.Core.Path.{_≡_, refl, sym, ap, _∙_}
-use mathlib.Core.Bool.{true, false}
+use mathlib.Core.Path.{_≡_, refl, ap, _∙_}
 use mathlib.Core.List.{List}
+use native.Mathlib.Nat.{zero-add}
 use native.Mathlib.Omega.{arith}
-use lib.ListN.{length, getD, take, drop, length-drop}
-use lib.Seq.{sets, take-add, take-length, getD-drop}
-use Rattle.types.specs.declared.hal.PowerlinkError.the-variants.{BufferTooShort}
+use lib.ListN.{length, getD, take, drop, replicate, length-append, length-drop}
+use lib.Seq.{sets, take-add, getD-drop, length-take-le}
+use Rattle.octets.proofs.Sets.{sets-append}
 use Rattle.section.specs.Write.{Writes}
-use Rattle.section.specs.declared.WriteAnswer.{WriteAnswer}
-use Rattle.section.specs.declared.WriteAnswer.the-variants.{Refused}
+use Rattle.section.specs.declared.WriteAnswer.the-variants.{Written, Refused}
+use Rattle.section.proofs.Sections.{refuses, writes}
+use Rattle.types.specs.declared.hal.PowerlinkError.the-variants.{BufferTooShort}
 use Rattle.error_entry.specs.Entry.{entryLength}
-use Rattle.error_entry.specs.declared.ErrorEntry.{ErrorEntry}
 use Rattle.error_entry.proofs.ReadBack.{entries-read-back}
+use Rattle.status_response.specs.BitField.{fieldBytes}
 use Rattle.status_response.specs.Copied.{entriesOf, entriesGiven}
-use Rattle.status_response.specs.Fields.{frontLength}
-use Rattle.status_response.specs.Parts.{entriesFit, entriesPut, statusAnswer, terminated}
-use Rattle.status_response.specs.Steps.{entriesBytes, statusBytes}
-use Rattle.status_response.proofs.WriteLaws.{put-is, list-writes}
+use Rattle.status_response.specs.Fields.{frontLength, headBytes}
+use Rattle.status_response.specs.Steps.{entriesBytes, statusBytes, statusLength}
+use Rattle.status_response.specs.declared.bit_field.StaticErrorBitField.{StaticErrorBitField}
+use Rattle.status_response.specs.declared.fields.StatusFields.{StatusFields}
+use Rattle.status_response.proofs.WriteLaws.{status-length}
 
 entries-count : (n : ℕ) (s : List ℕ) → length (entriesOf n s) ≡ n
 entries-count zero s = refl
@@ -36,34 +38,41 @@ entries-octets (suc n) s h o =
     in
     rw (entries-read-back .octets s (omega arith) o, rest, t, take-add entryLength (entryLength * n) s)
 
-module _ (s t : List ℕ) where
-  abbrev given : List ErrorEntry
-  given = entriesGiven s
+module _ (f : StatusFields) (g : StaticErrorBitField) (s : List ℕ) where
+  abbrev used : ℕ
+  used = entryLength * (length s / entryLength)
 
-  abbrev n : ℕ
-  n = length s / entryLength
+  abbrev whole : List ℕ
+  whole = statusBytes (headBytes f g) (entriesGiven s)
 
-  count : length given ≡ n
-  count = entries-count n s
+  head-length : length (headBytes f g) ≡ frontLength
+  unfolding headBytes fieldBytes
+  head-length = refl
 
-  fit : entriesFit (length given) (length t) ≡ entriesFit n (length t)
-  fit = ap (λ (k : ℕ). entriesFit k (length t)) count
+  whole-length : length whole ≡ statusLength (length s / entryLength)
+  whole-length =
+      let l = status-length (headBytes f g) (entriesGiven s) in
+      let n = entries-count (length s / entryLength) s in
+      let h = head-length in
+      omega arith
 
-  copied-put : Octets s → sets t frontLength (take (entryLength * n) s) ≡ entriesPut given t (length given)
-  copied-put o =
-      ap (sets t frontLength) (sym (entries-octets n s (omega arith) o))
-      ∙ ap (λ (es : List ErrorEntry). sets t frontLength (entriesBytes es)) (sym (take-length given))
-      ∙ sym (put-is given t (length given) (omega arith))
+  pub status-refused : (t : List ℕ) → length t < statusLength (length s / entryLength) → Writes whole (Refused BufferTooShort) t t
+  status-refused t h = refuses whole t (omega (arith, whole-length))
 
-  pub copied-refused : entriesFit n (length t) ≡ false → Writes (statusBytes (take frontLength t) given) (Refused BufferTooShort) t t
-  copied-refused f =
-      let g : entriesFit (length given) (length t) ≡ false = fit ∙ f in
-      list-writes given t (Refused BufferTooShort) t t (rw g) (rw g) (rw g)
+  module _ (t : List ℕ) (o : Octets s) (fits : statusLength (length s / entryLength) ≤ length t) where
+    three-copies : sets (sets (sets t 0 (headBytes f g)) frontLength (take used s)) (frontLength + used) (replicate entryLength 0) ≡ sets t 0 whole
+    unfolding statusBytes
+    three-copies =
+        let b = used-below in
+        let l : length (take used s) ≡ used = length-take-le used s b in
+        rw (entries-octets (length s / entryLength) s b o)
+        (simp (sets-append, length-append, zero-add, head-length, l))
+      where
+        used-below : used ≤ length s
+        used-below = omega arith
 
-  pub copied-writes : Octets s → entriesFit n (length t) ≡ true → (r : WriteAnswer) (x t₁ t₂ : List ℕ) → x ≡ take (entryLength * n) s
-      → t₁ ≡ sets t frontLength x → (r ≡ statusAnswer n (length t₁)) × (t₂ ≡ terminated n t₁) → Writes (statusBytes (take frontLength t) given) r t t₂
-  copied-writes o f r x t₁ t₂ ex e₁ e =
-      let g : entriesFit (length given) (length t) ≡ true = fit ∙ f in
-      let p : t₁ ≡ entriesPut given t (length given) = e₁ ∙ rw ex (copied-put o) in
-      list-writes given t r t₁ t₂ (rw g p) (e .0 ∙ ap (λ (k : ℕ). statusAnswer k (length t₁)) (sym count))
-      (e .1 ∙ ap (λ (k : ℕ). terminated k t₁) (sym count))
+    pub status-written : (h x t₁ t₂ t₃ : List ℕ) → h ≡ headBytes f g → x ≡ take used s → t₁ ≡ sets t 0 h → t₂ ≡ sets t₁ frontLength x
+        → t₃ ≡ sets t₂ (frontLength + used) (replicate entryLength 0) → Writes whole (Written (statusLength (length s / entryLength))) t t₃
+    status-written h x t₁ t₂ t₃ eh ex e₁ e₂ e₃ =
+        let e : t₃ ≡ sets t 0 whole = e₃ ∙ rw (e₂, e₁, eh, ex) three-copies in
+        rw e (writes whole t (statusLength (length s / entryLength)) whole-length fits)

@@ -41,7 +41,7 @@ status-length head es = simp (length-append, length-replicate) (omega (arith, en
 
 module _ (es : List ErrorEntry) (t : List ℕ) where
   -- the entries put one after the other are one write
-  pub put-is : (i : ℕ) → i ≤ length es → entriesPut es t i ≡ sets t 14 (entriesBytes (take i es))
+  put-is : (i : ℕ) → i ≤ length es → entriesPut es t i ≡ sets t 14 (entriesBytes (take i es))
   put-is zero h = refl
   put-is (suc i) h =
       let l : length (entriesBytes (take i es)) ≡ 20 * i = entries-length (take i es) ∙ omega (arith, length-take-le i es (le-of-lt h)) in

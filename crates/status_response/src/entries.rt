@@ -21,7 +21,7 @@ use types::hal::PowerlinkError;
 pub(crate) const EMPTY_LEN: usize = FRONT_LEN + ENTRY_LEN;
 
 // Whether `n` entries and the terminator fit into `len` octets, behind what stands in front.
-pub(crate) fn fits(n: usize, len: usize) -> bool
+fn fits(n: usize, len: usize) -> bool
     ensures { λ r. ⌜ r ≡ entriesFit n len ⌝ }
 {
     if len < EMPTY_LEN {
@@ -40,7 +40,7 @@ fn put_entry(e: ErrorEntry, i: usize, target: &mut [u8])
 }
 
 // Writes the terminator behind `n` entries.
-fn put_terminator(n: usize, target: &mut [u8])
+pub(crate) fn put_terminator(n: usize, target: &mut [u8])
     requires { ⌜ statusLength n ≤ length (now target) ⌝ }
     ensures { λ _. ⌜ now (target .exit) ≡ sets (now (target .entry)) (entryPlace n) (replicate entryLength 0) ⌝ }
 {
@@ -49,7 +49,7 @@ fn put_terminator(n: usize, target: &mut [u8])
 }
 
 // Writes the terminator behind `n` entries, if it fits, and answers for them all.
-pub(crate) fn finish(n: usize, target: &mut [u8]) -> WriteAnswer
+fn finish(n: usize, target: &mut [u8]) -> WriteAnswer
     ensures { λ r. ⌜ (r ≡ statusAnswer n (length (now (target .entry)))) × (now (target .exit) ≡ terminated n (now (target .entry))) ⌝ }
 {
     let len = target.len();
@@ -86,7 +86,7 @@ fn write_list(entries: &[ErrorEntry], target: &mut [u8]) -> WriteAnswer
 }
 
 // Writes what stands in front where the list was written, and hands its answer on.
-pub(crate) fn put_head(
+fn put_head(
     fields: StatusFields,
     field: StaticErrorBitField,
     answer: WriteAnswer,
