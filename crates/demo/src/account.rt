@@ -1,8 +1,8 @@
 // A head's account: what 01's rules make of the calls, counted from their answers alone. Nothing here looks into the octets of
 // a state.
 use crate::Head;
-use crate::tally::less;
-use crate::tally::plus;
+use crate::sums::less;
+use crate::sums::plus;
 
 impl Head {
     pub fn fresh(number: usize, id: u8) -> Self {

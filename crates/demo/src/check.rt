@@ -3,7 +3,7 @@ use crate::Head;
 use crate::Scene;
 use crate::entries::entry;
 use crate::entries::same;
-use crate::tally::plus;
+use crate::sums::plus;
 use collector::Collector;
 use collector::TakeAnswer;
 use types::NodeId;

@@ -3,7 +3,7 @@ use crate::Head;
 use crate::Scene;
 use crate::World;
 use crate::check;
-use crate::tally::plus;
+use crate::sums::plus;
 use crate::target::ROOM;
 use crate::text::tell;
 use crate::turns;

@@ -4,7 +4,7 @@ use crate::outcome::DONE;
 use crate::outcome::IGNORED;
 use crate::outcome::KEPT;
 use crate::outcome::KNOWN;
-use crate::tally::plus;
+use crate::sums::plus;
 use crate::target::Space;
 
 // The places of a book.
@@ -39,19 +39,15 @@ pub fn booking(head: Head, number: u64) -> u64 {
     if !head.registered {
         return 11;
     }
-    if head.open == 0 {
-        return KNOWN;
-    }
-    if head.open_is_booked {
-        return KNOWN;
-    }
-    if number < head.opened_at {
+    let is_new = (0 < head.open) & !head.open_is_booked & (head.opened_at <= number);
+    if !is_new {
         return KNOWN;
     }
     if BOOK_LEN < plus(head.in_book(), head.open) {
-        return 12;
+        12
+    } else {
+        DONE
     }
-    DONE
 }
 
 // The box's request to the head.
@@ -76,16 +72,8 @@ pub fn hearing(head: Head, number: u64, node: u8) -> u64 {
     if node != head.id {
         return IGNORED;
     }
-    if head.open == 0 {
-        return KEPT;
-    }
-    if !head.open_is_booked {
-        return KEPT;
-    }
-    if number < head.told_from {
-        return KEPT;
-    }
-    DONE
+    let is_told = (0 < head.open) & head.open_is_booked & (head.told_from <= number);
+    if is_told { DONE } else { KEPT }
 }
 
 // Take for the head's ID.

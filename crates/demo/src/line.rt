@@ -1,8 +1,8 @@
 // The line: what each sender has sent last, and which of it an end is given. It drops, delays and repeats, and never
 // turns an order round.
 ghost use Prim.Native.Nat.{_<_};
-use crate::tally::less;
-use crate::tally::plus;
+use crate::sums::less;
+use crate::sums::plus;
 
 // The last frames that are kept of a sender; older ones are lost.
 const KEPT: u64 = 8;
@@ -23,8 +23,8 @@ pub fn pick(next: u64, sent: u64, chance: u64) -> u64 {
     let oldest = less(sent, KEPT);
     let first = if oldest < next { next } else { oldest };
     let chosen = match chance % 16 {
-        0..=3 => less(next, 1),
-        4..=5 => plus(first, 1),
+        0 | 1 | 2 | 3 => less(next, 1),
+        4 | 5 => plus(first, 1),
         6 => plus(first, 2),
         _ => first,
     };

@@ -4,7 +4,7 @@ use crate::calls;
 use crate::host;
 use crate::line::MANAGING_NODE;
 use crate::outcome::IGNORED;
-use crate::tally::less;
+use crate::sums::less;
 use crate::target::Space;
 
 // A node that takes no part in the exchange, 21h.

@@ -5,7 +5,7 @@ use crate::Node;
 use crate::Scene;
 use crate::World;
 use crate::line::place;
-use crate::tally::plus;
+use crate::sums::plus;
 use crate::target::Space;
 
 impl World {

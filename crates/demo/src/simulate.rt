@@ -33,16 +33,16 @@ fn take(w: World) -> World {
 fn act(w: World, chance: u64) -> World {
     let rest = chance / 32;
     match chance % 32 {
-        0..=1 => turns::raise(w, rest),
-        2..=5 => turns::answer(w, room(rest)),
-        6..=9 => turns::box_reads(w, rest),
-        10..=11 => turns::request(w, room(rest)),
-        12..=13 => turns::host_sends(w, rest),
-        14..=23 => turns::head_reads(w, rest),
-        24..=28 => take(w),
+        0 | 1 => turns::raise(w, rest),
+        2 | 3 | 4 | 5 => turns::answer(w, room(rest)),
+        6 | 7 | 8 | 9 => turns::box_reads(w, rest),
+        10 | 11 => turns::request(w, room(rest)),
+        12 | 13 => turns::host_sends(w, rest),
+        24 | 25 | 26 | 27 | 28 => take(w),
         29 => odd::to_box(w, rest),
         30 => odd::to_head(w, rest),
-        _ => odd::for_box(w, rest),
+        31 => odd::for_box(w, rest),
+        _ => turns::head_reads(w, rest),
     }
 }
 

@@ -3,7 +3,7 @@ use crate::Head;
 use crate::Scene;
 use crate::World;
 use crate::journal;
-use crate::tally::less;
+use crate::sums::less;
 use crate::text::column;
 use crate::text::next_line;
 use crate::text::row;

@@ -1,7 +1,7 @@
 // Text and numbers on standard output.
 use crate::outcome::DONE;
-use crate::tally::less;
-use crate::tally::plus;
+use crate::sums::less;
+use crate::sums::plus;
 use libc::STDOUT_FILENO;
 use octets::slices::front;
 use octets::slices::tail;

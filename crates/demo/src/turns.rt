@@ -14,7 +14,7 @@ use crate::line::MANAGING_NODE;
 use crate::line::pick;
 use crate::outcome::DONE;
 use crate::outcome::of_take;
-use crate::tally::plus;
+use crate::sums::plus;
 use crate::target::is_clean;
 use collector::TakeAnswer;
 use error_entry::ErrorEntry;
