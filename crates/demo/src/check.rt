@@ -1,6 +1,7 @@
 // Demand 3, by answers alone: a copy of the box is emptied, so the box itself is left as it is.
 use crate::Head;
 use crate::Scene;
+use crate::World;
 use crate::entries::entry;
 use crate::entries::same;
 use crate::sums::plus;
@@ -34,6 +35,12 @@ fn booked(head: Head, at_box: Collector) -> u64 {
 // once.
 fn is_accounted(head: Head, at_box: Collector) -> bool {
     plus(booked(head, at_box), head.unbooked()) == head.accepted
+}
+
+// Looks at the head whose turn it is.
+pub fn one(w: World) -> World {
+    let at_box = w.at_box;
+    w.demands(is_accounted(w.head, at_box))
 }
 
 // Looks at every head.

@@ -43,7 +43,7 @@ fn close(world: World) -> World {
         if head.held() == 0 {
             break;
         }
-        w = exchange(w);
+        w = check::one(exchange(w));
         turn += 1;
     }
     tell(

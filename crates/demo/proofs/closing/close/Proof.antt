@@ -22,6 +22,7 @@ close-spec =
     (λ c. omega arith)
     (λ c κs. tt)
     (λ c κs. tt)
+    (λ c κs. tt)
     (λ c. omega arith)
     (λ c. omega arith)
     (λ c. omega arith)
