@@ -8,7 +8,7 @@
 //! call. No function keeps a pointer, and none unwinds.
 //!
 //! The two `*_new` are linked by a name with the interface's number, [`VERSION`](crate::VERSION),
-//! so that an archive of another one does not link.
+//! so that a program that makes a state does not link with another one.
 use crate::codes::MessageType;
 use crate::collector::{RequestFields, COLLECTOR_LEN};
 use crate::error::Error;

@@ -128,7 +128,7 @@
 //! conversions between their numbers and the types here, the tables of codes, `new`, and what is
 //! plain Rust. Neither is the compiler that made the archive, nor what the host does.
 //!
-//! An archive of another [`VERSION`] does not link. No call panics, unless the archive does not
+//! A program that makes a state does not link with an archive of another [`VERSION`]. No call panics, unless the archive does not
 //! keep what its source promises, or there is no memory to allocate: a [`Collector`] is boxed, and
 //! [`StatusFields::serialize`] gathers its entries.
 //!
@@ -167,7 +167,7 @@ mod reporter;
 mod types;
 
 /// The number of the library's interface. It rises with each change of a function's parameters or
-/// of a state's length; an archive of another one does not link, and states that were saved with
+/// of a state's length; a program that makes a state does not link with another one, and states that were saved with
 /// another one are not gone on from.
 pub const VERSION: u32 = 1;
 
