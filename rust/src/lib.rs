@@ -76,9 +76,9 @@
 //!
 //! No entry is lost and none listed twice, where head and box start fresh together and each goes on
 //! from its own last state, on a line that keeps the order of sending: no frame, late or repeated,
-//! arrives after a later one of the same sender. A batch is told from its repeat by one bit alone: EN of the head flips with each batch,
-//! and EA of the box is the EN of the last one that it has booked. What does not keep to this is
-//! lost or listed twice with no call refused. So:
+//! arrives after a later one of the same sender. A batch is told from its repeat by one bit alone:
+//! EN of the head flips with each batch, and EA of the box is the EN of the last one that it has
+//! booked. What does not keep to this is lost or listed twice with no call refused. So:
 //!
 //! **Frames of the managing node.** Every PReq to a head and every SoA with it as target tells it
 //! EA, whatever the frame is for. It is [`Collector::flags`], of the moment of sending, and frames
@@ -97,10 +97,11 @@
 //! copy as each one leaves; the task that reads answers renews the copy after every
 //! [`Collector::read`], once the state is saved and before the next answer is read.
 //!
-//! **Restarts.** Both ends begin anew together, with nothing left on the line. A state ([`Reporter::as_bytes`], [`Collector::as_bytes`]) is saved after each call
-//! that has changed it and before any later frame leaves, a head's before the answer itself leaves;
-//! whole, by a file written anew, flushed and renamed. A cycle that reads, answers, saves and then
-//! sends does so. A fault is accepted once the state after its [`Reporter::raise`] is saved. What else happens is
+//! **Restarts.** Both ends begin anew together, with nothing left on the line. A state
+//! ([`Reporter::as_bytes`], [`Collector::as_bytes`]) is saved after each call that has changed it
+//! and before any later frame leaves, a head's before the answer itself leaves; whole, by a file
+//! written anew, flushed and renamed. A cycle that reads, answers, saves and then sends does so. A
+//! fault is accepted once the state after its [`Reporter::raise`] is saved. What else happens is
 //! told at [`Reporter`] and [`Collector`]. Saved octets are of one [`VERSION`] alone.
 //!
 //! **The journal.** If the state is saved after the journal is written, a power cut between them
@@ -128,9 +129,9 @@
 //! conversions between their numbers and the types here, the tables of codes, `new`, and what is
 //! plain Rust. Neither is the compiler that made the archive, nor what the host does.
 //!
-//! A program that makes a state does not link with an archive of another [`VERSION`]. No call panics, unless the archive does not
-//! keep what its source promises, or there is no memory to allocate: a [`Collector`] is boxed, and
-//! [`StatusFields::serialize`] gathers its entries.
+//! A program that makes a state does not link with an archive of another [`VERSION`]. No call
+//! panics, unless the archive does not keep what its source promises, or there is no memory to
+//! allocate: a [`Collector`] is boxed, and [`StatusFields::serialize`] gathers its entries.
 //!
 //! # For readers of powerlink-rs
 //!
@@ -167,8 +168,8 @@ mod reporter;
 mod types;
 
 /// The number of the library's interface. It rises with each change of a function's parameters or
-/// of a state's length; a program that makes a state does not link with another one, and states that were saved with
-/// another one are not gone on from.
+/// of a state's length; a program that makes a state does not link with another one, and states
+/// that were saved with another one are not gone on from.
 pub const VERSION: u32 = 1;
 
 pub use codes::{
