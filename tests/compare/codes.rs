@@ -43,7 +43,7 @@ fn main() {
     list("NMT states", 256, |b| NmtState::try_from(b).ok(), |v| v as u8);
     list("services", 256, |b| ServiceId::try_from(b).ok(), |v| v as u8);
     list("requested services", 256, |b| RequestedServiceId::try_from(b).ok(), |v| v as u8);
-    list("priorities", 8, |b| PRFlag::try_from(b).ok(), |v| v as u8);
+    list("priorities", 256, |b| PRFlag::try_from(b).ok(), |v| v as u8);
     list("error entry modes", 256, |b| ErrorEntryMode::try_from(b).ok(), |v| v as u8);
 
     address("SoC address", types::C_DLL_MULTICAST_SOC);
@@ -58,9 +58,4 @@ fn main() {
     // docs/DIFFERENCES.md: ASnd then StatusResponse loses what trimming takes; tests/replay/from_01/reading.txt has both payloads untrimmed.
     assert_eq!(chain(46, &[]), Err(PowerlinkError::BufferTooShort));
     assert_eq!(chain(46, &[(19, 0x10)]), Ok(0));
-
-    // docs/DIFFERENCES.md: a priority above 7 is masked there and refused here.
-    for b in 8..=255u8 {
-        assert_eq!(PRFlag::try_from(b).unwrap() as u8, b & 7);
-    }
 }

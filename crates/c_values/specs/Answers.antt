@@ -2,9 +2,9 @@
 -- Assumes nothing.
 use Prim.Native.Nat.{ℕ}
 use lib.ListN.{getD}
-use lib.Dec.{leb}
-use Rattle.types.specs.Causes.{causeOf}
-use Rattle.types.specs.Codes.{need}
+use lib.Dec.{leb, eqb}
+use Rattle.types.specs.Causes.{Cause, causeOf}
+use Rattle.types.specs.Codes.{pick, need}
 use Rattle.types.specs.declared.hal.PowerlinkError.{PowerlinkError}
 use Rattle.types.specs.declared.hal.PowerlinkError.the-variants.{BufferTooShort}
 use Rattle.section.specs.declared.WriteAnswer.{WriteAnswer}
@@ -18,6 +18,10 @@ lengthAfter (Refused e) before = before
 -- the octet that 01's table returns with an error, or what stood there before
 abbrev pub errorOctet : PowerlinkError → ℕ → ℕ
 errorOctet e before = getD (causeOf e .returned) 0 before
+
+-- the same of any answer's row: only a refusal returns an octet
+abbrev pub refusedOctet : Cause → ℕ → ℕ
+refusedOctet c before = pick (eqb (c .number) 0) before (getD (c .returned) 0 before)
 
 abbrev pub octetAfter : WriteAnswer → ℕ → ℕ
 octetAfter (Written n) before = before

@@ -10,6 +10,7 @@ use Rattle.types.specs.Causes.{Cause, row, causeOf}
 use Rattle.types.specs.Codes.{need}
 use Rattle.types.specs.Header.{ethLength, ethHeaderOf, ethertypeEPL}
 use Rattle.types.specs.Messages.{messageOf}
+use Rattle.types.specs.declared.hal.PowerlinkError.{PowerlinkError}
 use Rattle.types.specs.declared.hal.PowerlinkError.the-variants.{BufferTooShort, InvalidEthernetFrame, InvalidPlFrame, InvalidMessageType}
 use Rattle.types.specs.declared.message_type.MessageType.{MessageType}
 use Rattle.types.specs.declared.message_type.MessageType.the-variants as message
@@ -82,7 +83,8 @@ abbrev pub frameCause : FrameAnswer → Cause
 frameCause (Frame f) = row 0 []
 frameCause (Refused e) = causeOf e
 
--- r is what reading the octets f answers, with 01's number
+-- r is what reading the octets f answers, with 01's number: 0 for a frame, and else that of the error, with what is returned
 pub record Reads (f : List ℕ) (r : DeserializedFrame) : Type 0 where
   pub read : r ≡ deserializeFrame f
-  pub cause : frameCause (r .answer) ≡ frameCause (readFrame f)
+  pub good : (x : PowerlinkFrame) → readFrame f ≡ Frame x → frameCause (r .answer) ≡ row 0 []
+  pub refused : (e : PowerlinkError) → readFrame f ≡ Refused e → frameCause (r .answer) ≡ causeOf e

@@ -1,4 +1,5 @@
 pub mod ASnd
+pub mod CausesTell
 pub mod Frame
 pub mod Headers
 pub mod PReq

@@ -3,7 +3,7 @@ ghost use mathlib.Core.Path.{_≡_};
 ghost use Prim.Native.Nat.{_≤_};
 ghost use lib.ListN.{length};
 ghost use Rattle.types.specs.Header.{ethLength, ethHeaderOf, macOf};
-ghost use Rattle.codec.specs.Headers.{deserializeEthHeader, deserializePlHeader};
+ghost use Rattle.codec.specs.Headers.{ReadsEthHeader, ReadsPlHeader};
 use octets::big_endian::get_u16_be;
 use octets::slices::byte_at;
 use octets::slices::tail;
@@ -94,7 +94,7 @@ pub(crate) fn whole_header(buffer: &[u8]) -> EthernetHeader
 
 // Reads the Ethernet header in front of a frame, whatever its EtherType.
 pub fn deserialize_eth_header(buffer: &[u8]) -> DeserializedEthHeader
-    ensures { λ r. ⌜ r ≡ deserializeEthHeader (now (buffer .entry)) ⌝ }
+    ensures { λ r. ⌜ ReadsEthHeader (now (buffer .entry)) r ⌝ }
 {
     let eth_header = eth_header_at(buffer);
     if buffer.len() < ETH_LEN {
@@ -111,7 +111,7 @@ pub fn deserialize_eth_header(buffer: &[u8]) -> DeserializedEthHeader
 
 // Reads what every section begins with.
 pub fn deserialize_pl_header(s: &[u8]) -> PlHeaderAnswer
-    ensures { λ r. ⌜ r ≡ deserializePlHeader (now (s .entry)) ⌝ }
+    ensures { λ r. ⌜ ReadsPlHeader (now (s .entry)) r ⌝ }
 {
     if s.len() < 3 {
         return PlHeaderAnswer::Refused(PowerlinkError::BufferTooShort);

@@ -1,6 +1,7 @@
 // Reading any frame (powerlink-rs: frame/codec.rs): the tests are
 // `kind_of` and then the `judge` of the kind, and `read_frame` and any other reading go by their verdicts.
 ghost use mathlib.Core.Path.{_≡_};
+ghost use Rattle.octets.specs.Part.{Part};
 ghost use Rattle.codec.specs.Frame.{readFrame, byKind, placeInFrame, placeOf, payloadOf, Reads};
 ghost use Rattle.codec.specs.Verdicts.{kindIn, kindOf};
 
@@ -80,10 +81,10 @@ pub fn deserialize_frame(buffer: &[u8]) -> DeserializedFrame
     }
 }
 
-// The payload of a frame that was read from `buffer`: empty for SoC, SoA and a refusal. A place that does not lie in these
-// bytes is cut at their end.
+// The payload of a frame that was read from `buffer`, as that part of it: empty for SoC, SoA and a refusal. A place that does not
+// lie in these bytes is cut at their end.
 pub fn payload(place: PayloadPlace, buffer: &[u8]) -> &[u8]
-    ensures { λ r. ⌜ now r ≡ payloadOf place (now (buffer .entry)) ⌝ }
+    ensures { λ r. ⌜ Part (buffer .entry) (place .start) (payloadOf place (now (buffer .entry))) r ⌝ }
 {
     let start = place.start;
     let len = place.len;

@@ -16,6 +16,7 @@ use print::octet;
 use print::octets;
 use print::say;
 use tables::Listed;
+use types::constants;
 use types::poll_flags::RSFlag;
 
 enum Table {
@@ -90,7 +91,7 @@ fn multicast(k: u8) -> [u8; 6] {
         0 => SocFrame::MULTICAST,
         1 => PResFrame::MULTICAST,
         2 => SoAFrame::MULTICAST,
-        _ => ASndFrame::MULTICAST,
+        _ => ASndFrame::multicast().0,
     }
 }
 
@@ -103,15 +104,16 @@ fn addresses(names: &[u8]) {
 }
 
 fn constant(k: u8) -> u64 {
+    let constants = constants::all();
     match k {
-        0 => types::C_DLL_ETHERTYPE_EPL as u64,
-        1 => types::C_ADR_MN_DEF_NODE_ID as u64,
-        2 => types::C_ADR_MAX_CN_NODE_ID as u64,
-        _ => types::C_ADR_BROADCAST_NODE_ID as u64,
+        0 => constants.ethertype_epl as u64,
+        1 => constants.mn_def_node_id as u64,
+        2 => constants.max_cn_node_id as u64,
+        _ => constants.broadcast_node_id as u64,
     }
 }
 
-fn constants(names: &[u8]) {
+fn numbers(names: &[u8]) {
     for k in 0..4u8 {
         name(names, k);
         column(constant(k));
@@ -132,7 +134,7 @@ fn main() {
     addresses(
         b"SoC address             PRes address            SoA address             ASnd address            ",
     );
-    constants(
+    numbers(
         b"EtherType               managing node           last controlled node    all nodes               ",
     );
     requests();

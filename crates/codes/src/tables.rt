@@ -5,7 +5,6 @@ use types::error_mode::ErrorEntryModeAnswer;
 use types::message_type::MessageType;
 use types::message_type::MessageTypeAnswer;
 use types::poll_flags::PRFlag;
-use types::poll_flags::PRFlagAnswer;
 use types::requested_service::RequestedServiceId;
 use types::requested_service::RequestedServiceIdAnswer;
 use types::service::ServiceId;
@@ -101,9 +100,7 @@ pub fn requested_service(b: u8) -> Listed {
 }
 
 pub fn priority(b: u8) -> Listed {
-    let PRFlagAnswer::Known(value) = PRFlag::from_u8(b) else {
-        return Listed::Nothing;
-    };
+    let value = PRFlag::from_u8(b);
     let place = match value {
         PRFlag::PrioNmtRequest => 1,
         PRFlag::High3 => 2,

@@ -1,5 +1,6 @@
 // Asynchronous Send (EPSG DS 301, 4.6.1.1.6).
 ghost use mathlib.Core.Path.{_≡_};
+ghost use Rattle.types.specs.Addresses.{multicastASnd};
 ghost use Rattle.section.specs.Write.{Writes};
 ghost use Rattle.control.specs.ASnd.{newASnd, asndBytes, asndSection};
 use section::WriteAnswer;
@@ -33,6 +34,13 @@ pub struct NewASndFrame {
 impl ASndFrame {
     // The address of an ASnd to all nodes; `new` takes any.
     pub const MULTICAST: [u8; 6] = C_DLL_MULTICAST_ASND;
+
+    // The same, as an address.
+    pub fn multicast() -> MacAddress
+        ensures { λ r. ⌜ r .0 ≡ multicastASnd ⌝ }
+    {
+        MacAddress(ASndFrame::MULTICAST)
+    }
 
     // An ASnd with all addresses and IDs given. A StatusResponse of a node that has a reporter comes from `reporter::answer`
     // alone: any other EN makes its next batch known.

@@ -1,8 +1,8 @@
 // What a frame holds beside the exchange, as the callers here have it.
 use collector::RequestFields;
+use control::asnd::ASndFrame;
 use reporter::AnswerFields;
 use status_response::bit_field::StaticErrorBitField;
-use types::C_DLL_MULTICAST_ASND;
 use types::EPLVersion;
 use types::basic::MacAddress;
 use types::poll_flags::PRFlag;
@@ -24,9 +24,9 @@ pub fn answer_fields(id: u8, some: u8) -> AnswerFields {
     };
     AnswerFields {
         source_mac: station(id),
-        dest_mac: MacAddress(C_DLL_MULTICAST_ASND),
+        dest_mac: ASndFrame::multicast(),
         ec_flag: some % 2 == 1,
-        pr: PRFlag::from_bits(some % 8),
+        pr: PRFlag::from_u8(some % 8),
         rs: RSFlag(some % 8),
         nmt_state,
         static_error_bit_field: StaticErrorBitField {

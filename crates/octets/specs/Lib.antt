@@ -1,3 +1,4 @@
 pub mod Numbers
+pub mod Part
 pub mod ReadBack
 pub mod Trim

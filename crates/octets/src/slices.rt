@@ -3,6 +3,7 @@ ghost use mathlib.Core.Path.{_≡_};
 ghost use Prim.Native.Nat.{_+_, _≤_};
 ghost use lib.ListN.{getD, length, take, drop};
 ghost use lib.Seq.{sets};
+ghost use Rattle.octets.specs.Part.{Part};
 ghost use Rattle.octets.specs.Trim.{trimmedLength, TrimsTo};
 use crate::little_endian::get_u64_le;
 
@@ -11,14 +12,14 @@ const PART: usize = 2048;
 
 // The octets of `s` from place `at` on; none where that is past the end.
 pub fn tail(s: &[u8], at: usize) -> &[u8]
-    ensures { λ r. ⌜ now r ≡ drop at (now (s .entry)) ⌝ }
+    ensures { λ r. ⌜ Part (s .entry) at (drop at (now (s .entry))) r ⌝ }
 {
     if at <= s.len() { &s[at..] } else { &s[..0] }
 }
 
 // The first `n` octets of `s`, or all where it has fewer.
 pub fn front(s: &[u8], n: usize) -> &[u8]
-    ensures { λ r. ⌜ now r ≡ take n (now (s .entry)) ⌝ }
+    ensures { λ r. ⌜ Part (s .entry) 0 (take n (now (s .entry))) r ⌝ }
 {
     if n <= s.len() { &s[..n] } else { &s[..] }
 }

@@ -129,7 +129,7 @@ pub extern "C" fn powerlink_new_pres(
                     ms,
                     en,
                     rd,
-                    pr: PRFlag::from_bits(pr),
+                    pr: PRFlag::from_u8(pr),
                     rs: RSFlag(rs),
                 },
                 PDOVersion(pdo_version),

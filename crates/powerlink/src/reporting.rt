@@ -115,7 +115,7 @@ pub extern "C" fn powerlink_reporter_answer(
                 source_mac: MacAddress(*source_mac),
                 dest_mac: MacAddress(*dest_mac),
                 ec_flag: ec,
-                pr: PRFlag::from_bits(pr),
+                pr: PRFlag::from_u8(pr),
                 rs: RSFlag(rs),
                 nmt_state,
                 static_error_bit_field: field_at(field),

@@ -127,7 +127,7 @@ pub extern "C" fn powerlink_serialize_pres(
                     ms,
                     en,
                     rd,
-                    pr: PRFlag::from_bits(pr),
+                    pr: PRFlag::from_u8(pr),
                     rs: RSFlag(rs),
                 },
                 pdo_version: PDOVersion(pdo_version),

@@ -182,7 +182,7 @@ pub extern "C" fn powerlink_serialize_status(
             let fields = StatusFields {
                 en_flag: en,
                 ec_flag: ec,
-                pr: PRFlag::from_bits(pr),
+                pr: PRFlag::from_u8(pr),
                 rs: RSFlag(rs),
                 nmt_state,
             };

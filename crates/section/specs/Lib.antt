@@ -1,1 +1,2 @@
+pub mod CausesTell
 pub mod Write

@@ -1,5 +1,9 @@
+pub mod Apart
 pub mod Broadcast
+pub mod CausesTell
+pub mod CodeCauses
 pub mod Codes
+pub mod ConstantsTell
 pub mod Modes
 pub mod PollBack
 pub mod Priorities

@@ -3,7 +3,7 @@
 use mathlib.Core.Path.{_≡_, refl}
 use Rattle.types.specs.Messages.{messageCode, messageOf}
 use Rattle.types.specs.States.{stateCode, stateOf}
-use Rattle.types.specs.PollFlags.{priorityCode, priorityOf}
+use Rattle.types.specs.PollFlags.{priorityCode, priorityIn}
 use Rattle.types.specs.Services.{serviceCode, serviceOf}
 use Rattle.types.specs.RequestedServices.{requestedCode, requestedOf}
 use Rattle.types.specs.Modes.{modeCode, modeOf}
@@ -16,7 +16,6 @@ use Rattle.types.specs.declared.states.NmtState.the-variants.{NmtGsOff, 
 use Rattle.types.specs.declared.states.NmtStateAnswer.the-variants as state
 use Rattle.types.specs.declared.poll_flags.PRFlag.{PRFlag}
 use Rattle.types.specs.declared.poll_flags.PRFlag.the-variants.{PrioNmtRequest, High3, High2, High1, PrioGenericRequest, Low3, Low2, Low1}
-use Rattle.types.specs.declared.poll_flags.PRFlagAnswer.the-variants as priority
 use Rattle.types.specs.declared.service.ServiceId.{ServiceId}
 use Rattle.types.specs.declared.service.ServiceId.the-variants.{IdentResponse, StatusResponse, NmtRequest, NmtCommand, Sdo, NMTPublishTime, NMTPublishNMTState, NMTPublishNodeState, NMTPublishNodeList, NMTPublishEmergNew, NMTPublishHeartbeat, NMTPublishActiveNodes}
 use Rattle.types.specs.declared.service.ServiceIdAnswer.the-variants as service
@@ -50,8 +49,8 @@ state-known NmtOperational = refl
 state-known NmtCsStopped = refl
 state-known NmtBasicEthernet = refl
 
-pub priority-known : (x : PRFlag) → priorityOf (priorityCode x) ≡ priority.Known x
-unfolding priorityOf
+pub priority-known : (x : PRFlag) → priorityIn (priorityCode x) ≡ x
+unfolding priorityIn
 priority-known PrioNmtRequest = refl
 priority-known High3 = refl
 priority-known High2 = refl

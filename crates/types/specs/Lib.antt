@@ -1,7 +1,10 @@
 pub mod Addresses
 pub mod CauseNumbers
 pub mod Causes
+pub mod CausesTell
+pub mod CodeCauses
 pub mod Codes
+pub mod Constants
 pub mod Header
 pub mod Messages
 pub mod Modes

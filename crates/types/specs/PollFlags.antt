@@ -5,8 +5,6 @@ use mathlib.Core.List.{List, [], _∷_}
 use Rattle.types.specs.Codes.{decoded}
 use Rattle.types.specs.declared.poll_flags.PRFlag.{PRFlag}
 use Rattle.types.specs.declared.poll_flags.PRFlag.the-variants.{PrioNmtRequest, High3, High2, High1, PrioGenericRequest, Low3, Low2, Low1}
-use Rattle.types.specs.declared.poll_flags.PRFlagAnswer.{PRFlagAnswer}
-use Rattle.types.specs.declared.poll_flags.PRFlagAnswer.the-variants.{Known, Unknown}
 use Rattle.types.specs.declared.poll_flags.RSFlag.{RSFlag}
 
 abbrev pub priorityCode : PRFlag → ℕ
@@ -21,10 +19,6 @@ priorityCode Low1 = 0
 
 abbrev pub priorities : List PRFlag
 priorities = PrioNmtRequest ∷ High3 ∷ High2 ∷ High1 ∷ PrioGenericRequest ∷ Low3 ∷ Low2 ∷ Low1 ∷ []
-
--- the priority whose code is b, or b itself where it is the code of none
-unfoldable pub priorityOf : ℕ → PRFlagAnswer
-priorityOf b = decoded priorityCode Known (Unknown b) priorities b
 
 -- the priority in the three low bits of an octet
 unfoldable pub priorityIn : ℕ → PRFlag

@@ -3,7 +3,7 @@
 use mathlib.Core.Path.{_≡_}
 use Rattle.types.specs.Messages.{messageCode, messageOf}
 use Rattle.types.specs.Modes.{modeCode, modeOf}
-use Rattle.types.specs.PollFlags.{priorityCode, priorityOf}
+use Rattle.types.specs.PollFlags.{priorityCode, priorityIn}
 use Rattle.types.specs.RequestedServices.{requestedCode, requestedOf}
 use Rattle.types.specs.Services.{serviceCode, serviceOf}
 use Rattle.types.specs.States.{stateCode, stateOf}
@@ -12,7 +12,6 @@ use Rattle.types.specs.declared.error_mode.ErrorEntryModeAnswer.the-vari
 use Rattle.types.specs.declared.message_type.MessageType.{MessageType}
 use Rattle.types.specs.declared.message_type.MessageTypeAnswer.the-variants as message
 use Rattle.types.specs.declared.poll_flags.PRFlag.{PRFlag}
-use Rattle.types.specs.declared.poll_flags.PRFlagAnswer.the-variants as priority
 use Rattle.types.specs.declared.requested_service.RequestedServiceId.{RequestedServiceId}
 use Rattle.types.specs.declared.requested_service.RequestedServiceIdAnswer.the-variants as requested
 use Rattle.types.specs.declared.service.ServiceId.{ServiceId}
@@ -23,7 +22,7 @@ use Rattle.types.specs.declared.states.NmtStateAnswer.the-variants as st
 pub record CodesReadBack : Type 0 where
   pub messages : (m : MessageType) → messageOf (messageCode m) ≡ message.Known m
   pub states : (s : NmtState) → stateOf (stateCode s) ≡ state.Known s
-  pub priorities : (p : PRFlag) → priorityOf (priorityCode p) ≡ priority.Known p
+  pub priorities : (p : PRFlag) → priorityIn (priorityCode p) ≡ p
   pub services : (s : ServiceId) → serviceOf (serviceCode s) ≡ service.Known s
   pub requestedServices : (s : RequestedServiceId) → requestedOf (requestedCode s) ≡ requested.Known s
   pub modes : (m : ErrorEntryMode) → modeOf (modeCode m) ≡ mode.Known m

@@ -1,6 +1,7 @@
 // The modes of an error entry and their codes (EPSG DS 301, Table 96).
 ghost use mathlib.Core.Path.{_≡_};
-ghost use Rattle.types.specs.Modes.{modeCode, modeOf, modeIn};
+ghost use Rattle.types.specs.CodeCauses.{ReadsMode};
+ghost use Rattle.types.specs.Modes.{modeCode, modeIn};
 
 pub enum ErrorEntryMode {
     Terminator,
@@ -17,7 +18,7 @@ pub enum ErrorEntryModeAnswer {
 
 impl ErrorEntryMode {
     pub fn from_u8(b: u8) -> ErrorEntryModeAnswer
-        ensures { λ r. ⌜ r ≡ modeOf b ⌝ }
+        ensures { λ r. ⌜ ReadsMode b r ⌝ }
     {
         match b {
             0 => ErrorEntryModeAnswer::Known(ErrorEntryMode::Terminator),

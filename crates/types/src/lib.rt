@@ -5,6 +5,7 @@ ghost use Rattle.types.specs.Nodes.{isCnNodeId};
 pub mod basic;
 pub mod causes;
 pub mod common;
+pub mod constants;
 pub mod error_mode;
 pub mod hal;
 pub mod mapping;

@@ -1,6 +1,7 @@
 // Message types and their codes (EPSG DS 301, Appendix 3.1).
 ghost use mathlib.Core.Path.{_≡_};
-ghost use Rattle.types.specs.Messages.{messageCode, messageOf};
+ghost use Rattle.types.specs.CodeCauses.{ReadsMessage};
+ghost use Rattle.types.specs.Messages.{messageCode};
 
 pub enum MessageType {
     SoC,
@@ -18,7 +19,7 @@ pub enum MessageTypeAnswer {
 
 impl MessageType {
     pub fn from_u8(b: u8) -> MessageTypeAnswer
-        ensures { λ r. ⌜ r ≡ messageOf b ⌝ }
+        ensures { λ r. ⌜ ReadsMessage b r ⌝ }
     {
         match b {
             1 => MessageTypeAnswer::Known(MessageType::SoC),

@@ -1,6 +1,6 @@
 // The priority and the number of waiting requests that a node shows (EPSG DS 301, 4.2.4.1.2.2 and Appendix 3.2).
 ghost use mathlib.Core.Path.{_≡_};
-ghost use Rattle.types.specs.PollFlags.{priorityCode, priorityOf, priorityIn, requestsToSend, pollOctet, priorityAt, requestsAt};
+ghost use Rattle.types.specs.PollFlags.{priorityCode, priorityIn, requestsToSend, pollOctet, priorityAt, requestsAt};
 
 // The priority of the oldest request, highest first.
 pub enum PRFlag {
@@ -14,31 +14,9 @@ pub enum PRFlag {
     Low1,
 }
 
-// A code that was read: its priority, or the octet that is the code of none.
-pub enum PRFlagAnswer {
-    Known(PRFlag),
-    Unknown(u8),
-}
-
 impl PRFlag {
-    pub fn from_u8(b: u8) -> PRFlagAnswer
-        ensures { λ r. ⌜ r ≡ priorityOf b ⌝ }
-    {
-        match b {
-            7 => PRFlagAnswer::Known(PRFlag::PrioNmtRequest),
-            6 => PRFlagAnswer::Known(PRFlag::High3),
-            5 => PRFlagAnswer::Known(PRFlag::High2),
-            4 => PRFlagAnswer::Known(PRFlag::High1),
-            3 => PRFlagAnswer::Known(PRFlag::PrioGenericRequest),
-            2 => PRFlagAnswer::Known(PRFlag::Low3),
-            1 => PRFlagAnswer::Known(PRFlag::Low2),
-            0 => PRFlagAnswer::Known(PRFlag::Low1),
-            _ => PRFlagAnswer::Unknown(b),
-        }
-    }
-
-    // The priority in the three low bits of an octet.
-    pub fn from_bits(b: u8) -> PRFlag
+    // The priority in the three low bits of an octet: the others are masked, as in the Rust.
+    pub fn from_u8(b: u8) -> PRFlag
         ensures { λ r. ⌜ r ≡ priorityIn b ⌝ }
     {
         let low = b % 8;
@@ -99,7 +77,7 @@ pub fn poll_octet(pr: PRFlag, rs: RSFlag) -> u8
 pub fn priority_at(octet: u8) -> PRFlag
     ensures { λ r. ⌜ r ≡ priorityAt octet ⌝ }
 {
-    PRFlag::from_bits(octet / 8)
+    PRFlag::from_u8(octet / 8)
 }
 
 pub fn requests_at(octet: u8) -> RSFlag

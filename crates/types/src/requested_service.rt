@@ -1,6 +1,7 @@
 // The services that an SoA frame requests, and their codes (EPSG DS 301, Appendix 3.4).
 ghost use mathlib.Core.Path.{_≡_};
-ghost use Rattle.types.specs.RequestedServices.{requestedCode, requestedOf};
+ghost use Rattle.types.specs.CodeCauses.{ReadsRequested};
+ghost use Rattle.types.specs.RequestedServices.{requestedCode};
 
 pub enum RequestedServiceId {
     NoService,
@@ -18,7 +19,7 @@ pub enum RequestedServiceIdAnswer {
 
 impl RequestedServiceId {
     pub fn from_u8(b: u8) -> RequestedServiceIdAnswer
-        ensures { λ r. ⌜ r ≡ requestedOf b ⌝ }
+        ensures { λ r. ⌜ ReadsRequested b r ⌝ }
     {
         match b {
             0x00 => RequestedServiceIdAnswer::Known(RequestedServiceId::NoService),

@@ -1,6 +1,7 @@
 // The services of ASnd frames and their codes (EPSG DS 301, Appendix 3.3 and Table 138).
 ghost use mathlib.Core.Path.{_≡_};
-ghost use Rattle.types.specs.Services.{serviceCode, serviceOf, serviceNamed};
+ghost use Rattle.types.specs.CodeCauses.{ReadsService};
+ghost use Rattle.types.specs.Services.{serviceCode, serviceNamed};
 
 pub enum ServiceId {
     IdentResponse,
@@ -25,7 +26,7 @@ pub enum ServiceIdAnswer {
 
 impl ServiceId {
     pub fn from_u8(b: u8) -> ServiceIdAnswer
-        ensures { λ r. ⌜ r ≡ serviceOf b ⌝ }
+        ensures { λ r. ⌜ ReadsService b r ⌝ }
     {
         match b {
             0x01..=0x05 | 0x0B | 0x0D..=0x12 => ServiceIdAnswer::Known(ServiceId::named(b)),

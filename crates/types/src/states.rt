@@ -1,6 +1,7 @@
 // NMT states and their codes (EPSG DS 301, Appendix 3.6). A state of both kinds of node has one name and one code.
 ghost use mathlib.Core.Path.{_≡_};
-ghost use Rattle.types.specs.States.{stateCode, stateOf};
+ghost use Rattle.types.specs.CodeCauses.{ReadsState};
+ghost use Rattle.types.specs.States.{stateCode};
 
 pub enum NmtState {
     NmtGsOff,
@@ -25,7 +26,7 @@ pub enum NmtStateAnswer {
 
 impl NmtState {
     pub fn from_u8(b: u8) -> NmtStateAnswer
-        ensures { λ r. ⌜ r ≡ stateOf b ⌝ }
+        ensures { λ r. ⌜ ReadsState b r ⌝ }
     {
         match b {
             0x00 => NmtStateAnswer::Known(NmtState::NmtGsOff),

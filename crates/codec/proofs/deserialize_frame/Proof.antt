@@ -1,8 +1,9 @@
 -- `codec::deserialize_frame` meets its contract: each field is what its call gives.
 -- Assumes nothing.
 use borrow.Author.Needs.{needs}
+use mathlib.Core.Path.{ap, _∙_}
 use Rattle.types.specs.declared.hal.PowerlinkError.the-variants.{BufferTooShort}
-use Rattle.codec.specs.Frame.{deserializeFrame}
+use Rattle.codec.specs.Frame.{deserializeFrame, frameCause}
 use Rattle.codec.specs.declared.KindAnswer.the-variants as kind
 use Rattle.codec.proofs.FrameLaws.{frame-short, kind-reads}
 use Rattle.codec.proofs.deserialize_frame.Statement.{statement}
@@ -14,8 +15,9 @@ returns c =
     let p = c .before in
     let r = p .before .before .read-frame .ensures in
     record {
-      read = rw (c .whole-header .ensures, p .place-of .ensures, p .before .tail .ensures, r);
-      cause = rw r;
+      read = rw (c .whole-header .ensures, p .place-of .ensures, p .before .tail .ensures .octets, r);
+      good = λ x e. ap frameCause (r ∙ e);
+      refused = λ x e. ap frameCause (r ∙ e);
     }
 
 returns-2 : tie.Need-returns-2
@@ -23,7 +25,7 @@ unfolding deserializeFrame
 returns-2 c =
     let f = c .before .before .before .args .buffer .now in
     let q = kind-reads f (kind.Refused BufferTooShort) (frame-short f (c .before .if1 .left)) in
-    record { read = rw (c .eth-header-at .ensures, ← q); cause = rw (← q) }
+    record { read = rw (c .eth-header-at .ensures, ← q); good = λ x e. ap frameCause (q ∙ e); refused = λ x e. ap frameCause (q ∙ e) }
 
 pub deserialize-frame-spec : {M : Type 1} → statement M
 deserialize-frame-spec =

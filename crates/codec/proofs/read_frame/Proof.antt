@@ -14,7 +14,7 @@ returns-2 : tie.Need-returns-2
 returns-2 c =
     let t = c .before in
     let m = t .before .before in
-    rw (c .read-kind .ensures, t .tail .ensures) (rw (m .kind .given .1) at (kind-reads _ _ (m .before .before .kind-of .ensures)))
+    rw (c .read-kind .ensures, t .tail .ensures .octets) (rw (m .kind .given .1) at (kind-reads _ _ (m .before .before .kind-of .ensures)))
 
 pub read-frame-spec : {M : Type 1} → statement M
 read-frame-spec =

@@ -26,7 +26,7 @@ returns-3 c =
     let h = w .before .before in
     let a = h .before .before .args in
     reads-status (a .state .now) (a .buffer .now) (c .read-status .ensures .1) (λ i. omega (arith, h .before .shared-slice-known .given i))
-    (w .source .given .0 .0) (sym (w .source .given .1) ∙ h .hear .ensures) _ (t .tail .ensures) _ _ (c .read-status .ensures .0)
+    (w .source .given .0 .0) (sym (w .source .given .1) ∙ h .hear .ensures) _ (t .tail .ensures .octets) _ _ (c .read-status .ensures .0)
 
 pub read-spec : {M : Type 1} → statement M
 read-spec =

@@ -21,28 +21,28 @@ same-length c =
     let p = c .before .before .before .before .before .before in
     let t = p .before .before in
     let l = t .before .loop in
-    same-size (l .inv .0) (t .tail .ensures) (p .list-part .ensures) ∙ l .inv .1
+    same-size (l .inv .0) (t .tail .ensures .octets) (p .list-part .ensures) ∙ l .inv .1
 
 add-at : tie.Need-add-at Inv-loop μ-loop
 add-at c =
     let p = c .before .before .before .before .before .before in
     let t = p .before .before in
     let l = t .before .loop in
-    record { fits = omega (arith, further (l .inv .0) (t .tail .ensures) (p .list-part .ensures)) }
+    record { fits = omega (arith, further (l .inv .0) (t .tail .ensures .octets) (p .list-part .ensures)) }
 
 same-length-2 : tie.Need-same-length-2 Inv-loop μ-loop
 same-length-2 c =
     let p = c .before .before .before .before .before .before .before .before in
     let t = p .before .before in
     let l = t .before .loop in
-    same-size (l .inv .0) (t .tail .ensures) (p .list-part .ensures) ∙ l .inv .1
+    same-size (l .inv .0) (t .tail .ensures .octets) (p .list-part .ensures) ∙ l .inv .1
 
 same-length-3 : tie.Need-same-length-3 Inv-loop μ-loop
 same-length-3 c =
     let p = c .before .before .before .before .before .before .before .before .before in
     let t = p .before .before in
     let l = t .before .loop in
-    same-size (l .inv .0) (t .tail .ensures) (p .list-part .ensures) ∙ l .inv .1
+    same-size (l .inv .0) (t .tail .ensures .octets) (p .list-part .ensures) ∙ l .inv .1
 
 returns-3 : tie.Need-returns-3 Inv-loop μ-loop
 returns-3 c =
@@ -50,21 +50,21 @@ returns-3 c =
     let t = p .before .before in
     let l = t .before .loop in
     let o = c .before .before in
-    settled (l .inv .0) (t .tail .ensures) (p .list-part .ensures) (t .before .before .before .before .pre ∙ sym (l .inv .1)) (sym (o .is-over .ensures) ∙ c .before .if2 .left) (c .if3 .taken)
+    settled (l .inv .0) (t .tail .ensures .octets) (p .list-part .ensures) (t .before .before .before .before .pre ∙ sym (l .inv .1)) (sym (o .is-over .ensures) ∙ c .before .if2 .left) (c .if3 .taken)
 
 loop-less : tie.Need-loop-less Inv-loop μ-loop
 loop-less c =
     let p = c .before .before .before .before .before .before .before .before .before in
     let t = p .before .before in
     let l = t .before .loop in
-    less (l .inv .0) (t .tail .ensures) (p .list-part .ensures) (c .if3 .left)
+    less (l .inv .0) (t .tail .ensures .octets) (p .list-part .ensures) (c .if3 .left)
 
 loop-again : tie.Need-loop-again Inv-loop μ-loop
 loop-again c =
     let p = c .before .before .before .before .before .before .before .before .before in
     let t = p .before .before in
     let l = t .before .loop in
-    (on (l .inv .0) (t .tail .ensures) (p .list-part .ensures), same-size (l .inv .0) (t .tail .ensures) (p .list-part .ensures) ∙ l .inv .1)
+    (on (l .inv .0) (t .tail .ensures .octets) (p .list-part .ensures), same-size (l .inv .0) (t .tail .ensures .octets) (p .list-part .ensures) ∙ l .inv .1)
 
 pub list-spec : {M : Type 1} → statement M
 list-spec =

@@ -23,7 +23,7 @@ keep-requires c κs =
     let l = k .before .before .before .before in
     let f = l .before .before in
     let a = f .before .before .before .before in
-    (in-range (a .args .text .now) (a .args .n) (goes _ _ _ _ _ _ (l .list .ensures) (k .phase .given .1)) (f .front .ensures) (a .pre .0), a .pre .0)
+    (in-range (a .args .text .now) (a .args .n) (goes _ _ _ _ _ _ (l .list .ensures) (k .phase .given .1)) (f .front .ensures .octets) (a .pre .0), a .pre .0)
 
 same-length : tie.Need-same-length
 same-length c = search needs
@@ -47,7 +47,7 @@ returns-2 c =
     let l = k .before .before .before .before in
     let f = l .before .before in
     let a = f .before .before .before .before in
-    keeps (a .args .text .now) (a .args .n) (goes _ _ _ _ _ _ (l .list .ensures) (k .phase .given .1)) (f .front .ensures) (a .pre .0) (p .keep .ensures .0) (p .keep .ensures .1)
+    keeps (a .args .text .now) (a .args .n) (goes _ _ _ _ _ _ (l .list .ensures) (k .phase .given .1)) (f .front .ensures .octets) (a .pre .0) (p .keep .ensures .0) (p .keep .ensures .1)
 
 pub list-held-spec : {M : Type 1} → statement M
 list-held-spec =

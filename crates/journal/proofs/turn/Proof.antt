@@ -48,7 +48,7 @@ list-held-requires c κs =
     let d = t .before .before .before .before .before in
     let a = d .before .before .before .before in
     let held : a .args .held ≤ length (a .args .text .now) = omega (arith, a .pre .0, a .pre .1 .0) in
-    (read-within _ (d .read .last .1 .0) _ (d .read .kept .1 .0) held _ (t .tail .ensures) (n .count .ensures .0 .0), search needs)
+    (read-within _ (d .read .last .1 .0) _ (d .read .kept .1 .0) held _ (t .tail .ensures .octets) (n .count .ensures .0 .0), search needs)
 
 same-length-2 : tie.Need-same-length-2
 same-length-2 c = search needs

@@ -9,7 +9,7 @@ returns : tie.Need-returns
 returns c =
     let t = c .before .before in
     let a = t .before .before .args in
-    part-length (a .text .now) (c .before .mark .result) (a .at) (c .front .ensures) (t .tail .ensures)
+    part-length (a .text .now) (c .before .mark .result) (a .at) (c .front .ensures .octets) (t .tail .ensures .octets)
 
 pub record-at-spec : {M : Type 1} → statement M
 record-at-spec =

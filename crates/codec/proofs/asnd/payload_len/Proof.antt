@@ -13,5 +13,5 @@ payload-len-spec =
     (tie.spec
     (search needs)
     (search needs)
-    (λ c. rw (c .trimmed-len .ensures, c .before .before .tail .ensures, eq-eqb _ 46 (c .before .if1 .taken)))
-    (λ c. rw (c .before .tail .ensures, ne-eqb _ 46 (c .if1 .left))))
+    (λ c. rw (c .trimmed-len .ensures, c .before .before .tail .ensures .octets, eq-eqb _ 46 (c .before .if1 .taken)))
+    (λ c. rw (c .before .tail .ensures .octets, ne-eqb _ 46 (c .if1 .left))))

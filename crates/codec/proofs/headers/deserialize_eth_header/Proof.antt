@@ -6,10 +6,14 @@ use Rattle.codec.proofs.headers.deserialize_eth_header.Statement.{state
 use Rattle.codec.proofs.headers.deserialize_eth_header.Tie as tie
 
 returns : tie.Need-returns
-returns c = rw (c .before .eth-header-at .ensures, lt-leb 14 _ (c .if1 .taken))
+returns c =
+    let short = lt-leb 14 _ (c .if1 .taken) in
+    record { read = rw (c .before .eth-header-at .ensures, short); cause = rw short }
 
 returns-2 : tie.Need-returns-2
-returns-2 c = rw (c .before .eth-header-at .ensures, le-leb 14 _ (c .if1 .left))
+returns-2 c =
+    let long = le-leb 14 _ (c .if1 .left) in
+    record { read = rw (c .before .eth-header-at .ensures, long); cause = rw long }
 
 pub deserialize-eth-header-spec : {M : Type 1} → statement M
 deserialize-eth-header-spec = tie.close (tie.spec (search needs) returns returns-2)

@@ -2,7 +2,7 @@
 -- Assumes nothing.
 use borrow.Author.Needs.{needs}
 use native.Mathlib.Omega.{arith}
-use Rattle.codec.proofs.HeaderLaws.{pl-short, pl-laws}
+use Rattle.codec.proofs.HeaderLaws.{pl-short, pl-laws, pl-told}
 use Rattle.codec.proofs.headers.deserialize_pl_header.Statement.{statement}
 use Rattle.codec.proofs.headers.deserialize_pl_header.Tie as tie
 
@@ -10,12 +10,12 @@ pub deserialize-pl-header-spec : {M : Type 1} → statement M
 deserialize-pl-header-spec =
     tie.close
     (tie.spec
-    (λ c. pl-short _ (omega arith))
+    (λ c. pl-told _ _ (pl-short _ (omega arith)))
     (search needs)
     (search needs)
     (search needs)
     (search needs)
     (search needs)
     (search needs)
-    (λ c. search pl-laws)
-    (λ c. search pl-laws))
+    (λ c. pl-told _ _ (search pl-laws))
+    (λ c. pl-told _ _ (search pl-laws)))

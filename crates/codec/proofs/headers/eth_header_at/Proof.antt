@@ -14,4 +14,4 @@ eth-header-at-spec =
     (search needs)
     (search needs)
     (search needs)
-    (λ c. rw (c .before .before .before .mac-at .ensures, c .before .mac-at2 .ensures, c .before .before .tail .ensures, c .get-u16-be .ensures)))
+    (λ c. rw (c .before .before .before .mac-at .ensures, c .before .mac-at2 .ensures, c .before .before .tail .ensures .octets, c .get-u16-be .ensures)))

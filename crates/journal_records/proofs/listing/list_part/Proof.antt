@@ -37,37 +37,37 @@ add-consumed : tie.Need-add-consumed Inv-loop μ-loop
 add-consumed c =
     let p = c .before .before .before in
     let t = p .before .before in
-    record { fits = omega (arith, turn-most (t .before .loop .inv) (t .tail .ensures) (p .step .ensures)) }
+    record { fits = omega (arith, turn-most (t .before .loop .inv) (t .tail .ensures .octets) (p .step .ensures)) }
 
 add-written : tie.Need-add-written Inv-loop μ-loop
 add-written c =
     let p = c .before .before .before .before in
     let t = p .before .before in
-    record { fits = omega (arith, t .before .before .before .before .good .1 .1 .1, t .before .loop .inv .size, turn-fits (t .before .loop .inv) (t .tail .ensures) (p .step .ensures)) }
+    record { fits = omega (arith, t .before .before .before .before .good .1 .1 .1, t .before .loop .inv .size, turn-fits (t .before .loop .inv) (t .tail .ensures .octets) (p .step .ensures)) }
 
 same-length : tie.Need-same-length Inv-loop μ-loop
 same-length c =
     let p = c .before .before .before .before .before .before in
     let t = p .before .before in
-    turn-size (t .before .loop .inv) (t .tail .ensures) (p .step .ensures)
+    turn-size (t .before .loop .inv) (t .tail .ensures .octets) (p .step .ensures)
 
 returns : tie.Need-returns Inv-loop μ-loop
 returns c =
     let p = c .before .before .before .before .before .before in
     let t = p .before .before in
-    turn-stop (t .before .loop .inv) (t .tail .ensures) (p .step .ensures) (c .if1 .taken)
+    turn-stop (t .before .loop .inv) (t .tail .ensures .octets) (p .step .ensures) (c .if1 .taken)
 
 loop-less : tie.Need-loop-less Inv-loop μ-loop
 loop-less c =
     let p = c .before .before .before .before .before .before in
     let t = p .before .before in
-    turn-less (t .before .loop .inv) (t .tail .ensures) (p .step .ensures) (c .if1 .left)
+    turn-less (t .before .loop .inv) (t .tail .ensures .octets) (p .step .ensures) (c .if1 .left)
 
 loop-again : tie.Need-loop-again Inv-loop μ-loop
 loop-again c =
     let p = c .before .before .before .before .before .before in
     let t = p .before .before in
-    turn-on (t .before .loop .inv) (t .tail .ensures) (p .step .ensures) (c .if1 .left)
+    turn-on (t .before .loop .inv) (t .tail .ensures .octets) (p .step .ensures) (c .if1 .left)
 
 pub list-part-spec : {M : Type 1} → statement M
 list-part-spec =

@@ -25,7 +25,7 @@ returns-2 c =
     let t = e .before in
     prints-as
     (record-fault _ _ (t .before .before .if1 .left)
-    (ap (validRecord _) (sym (e .entry-at .ensures ∙ ap entryOf (t .tail .ensures))) ∙ sym (v .valid .ensures) ∙ not-true _ (i .if2 .taken)))
+    (ap (validRecord _) (sym (e .entry-at .ensures ∙ ap entryOf (t .tail .ensures .octets))) ∙ sym (v .valid .ensures) ∙ not-true _ (i .if2 .taken)))
     (r .refuse .ensures)
 
 returns-3 : tie.Need-returns-3
@@ -35,7 +35,7 @@ returns-3 c =
     let v = i .before in
     let e = v .before in
     let t = e .before in
-    let read = e .entry-at .ensures ∙ ap entryOf (t .tail .ensures) in
+    let read = e .entry-at .ensures ∙ ap entryOf (t .tail .ensures .octets) in
     prints-as
     (record-good _ _ (t .before .before .if1 .left)
     (ap (validRecord _) (sym read) ∙ sym (v .valid .ensures) ∙ not-false _ (i .if2 .left)))

@@ -15,14 +15,14 @@ put-part-requires c κs =
     let f = c .before .before in
     let e = f .before in
     let a = e .before .before .before .args in
-    (omega (arith, cut-fits (a .dst .now) (a .at) (a .src .now) _ (e .if1 .left) (f .front .ensures)), c .before .if2 .taken)
+    (omega (arith, cut-fits (a .dst .now) (a .at) (a .src .now) _ (e .if1 .left) (f .front .ensures .octets)), c .before .if2 .taken)
 
 put-each-requires : tie.Need-put-each-requires
 put-each-requires c κs =
     let f = c .before .before in
     let e = f .before in
     let a = e .before .before .before .args in
-    omega (arith, cut-fits (a .dst .now) (a .at) (a .src .now) _ (e .if1 .left) (f .front .ensures))
+    omega (arith, cut-fits (a .dst .now) (a .at) (a .src .now) _ (e .if1 .left) (f .front .ensures .octets))
 
 returns-2 : tie.Need-returns-2
 returns-2 c = search (needs, cut-copied)

@@ -18,7 +18,7 @@ returns-2 c =
     let g = e .before in
     let b = g .before .before in
     let f = b .before .before in
-    asks-none _ _ _ _ _ _ _ _ _ _ (sym (f .from-u8 .ensures) ∙ b .b .given .1) (sym (not-false _ (e .if1 .left)) ∙ g .is-registered .ensures) (c .unnamed .ensures)
+    asks-none _ _ _ _ _ _ _ _ _ _ (sym (f .from-u8 .ensures .answer) ∙ b .b .given .1) (sym (not-false _ (e .if1 .left)) ∙ g .is-registered .ensures) (c .unnamed .ensures)
 
 returns-3 : tie.Need-returns-3
 returns-3 c =
@@ -27,7 +27,7 @@ returns-3 c =
     let m = z .before .before .before .before in
     let f = m .before .before in
     let q = n .n .given .1 in
-    asks-told _ _ _ _ (sym (f .from-u8 .ensures) ∙ m .nmt-state .given .1) _ _ _ _ _ _ _ _ (z .request .ensures) (rw q) (rw q)
+    asks-told _ _ _ _ (sym (f .from-u8 .ensures .answer) ∙ m .nmt-state .given .1) _ _ _ _ _ _ _ _ (z .request .ensures) (rw q) (rw q)
 
 returns-4 : tie.Need-returns-4
 returns-4 c =
@@ -35,7 +35,7 @@ returns-4 c =
     let m = z .before .before .before .before in
     let f = m .before .before in
     let q = c .enum-told .given .1 in
-    asks-told _ _ _ _ (sym (f .from-u8 .ensures) ∙ m .nmt-state .given .1) _ _ _ _ _ _ _ _ (z .request .ensures) (rw q) (rw q)
+    asks-told _ _ _ _ (sym (f .from-u8 .ensures .answer) ∙ m .nmt-state .given .1) _ _ _ _ _ _ _ _ (z .request .ensures) (rw q) (rw q)
 
 returns-5 : tie.Need-returns-5
 returns-5 c =
@@ -44,7 +44,7 @@ returns-5 c =
     let m = z .before .before .before .before in
     let f = m .before .before in
     let q = e .e .given .1 in
-    asks-told _ _ _ _ (sym (f .from-u8 .ensures) ∙ m .nmt-state .given .1) _ _ _ _ _ _ _ _ (z .request .ensures) (c .number .ensures ∙ rw q) (rw q)
+    asks-told _ _ _ _ (sym (f .from-u8 .ensures .answer) ∙ m .nmt-state .given .1) _ _ _ _ _ _ _ _ (z .request .ensures) (c .number .ensures ∙ rw q) (rw q)
 
 pub powerlink-collector-request-spec : {M : Type 1} → statement M
 powerlink-collector-request-spec =

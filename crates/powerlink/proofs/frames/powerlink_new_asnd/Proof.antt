@@ -12,7 +12,7 @@ returns c =
     let p = c .before .before in
     let b = p .before .before in
     let f = b .before .before in
-    refuses-coded _ _ _ _ _ _ _ _ (rw (← f .from-u8 .ensures, b .b .given .1, p .padded-len .ensures)) (c .unnamed .ensures)
+    refuses-coded _ _ _ _ _ _ _ _ (rw (← f .from-u8 .ensures .answer, b .b .given .1, p .padded-len .ensures)) (c .unnamed .ensures)
 
 returns-2 : tie.Need-returns-2
 unfolding frameBytes asndSection
@@ -23,7 +23,7 @@ returns-2 c =
     let n = h .before .before .before in
     let s = n .before .before .before .before in
     let r = s .before .before in
-    writes-coded _ _ _ _ _ _ _ _ _ (rw (← r .from-u8 .ensures, s .service-id .given .1))
+    writes-coded _ _ _ _ _ _ _ _ _ (rw (← r .from-u8 .ensures .answer, s .service-id .given .1))
     (rw (f .to-bytes2 .ensures, h .to-bytes .ensures, n .new .ensures) at (w .write-behind .ensures)) (c .written-or .ensures)
 
 pub powerlink-new-asnd-spec : {M : Type 1} → statement M

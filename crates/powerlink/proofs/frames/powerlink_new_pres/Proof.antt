@@ -12,7 +12,7 @@ returns c =
     let p = c .before .before in
     let b = p .before .before in
     let f = b .before .before in
-    refuses-coded _ _ _ _ _ _ _ _ (rw (← f .from-u8 .ensures, b .b .given .1, p .padded-len .ensures)) (c .unnamed .ensures)
+    refuses-coded _ _ _ _ _ _ _ _ (rw (← f .from-u8 .ensures .answer, b .b .given .1, p .padded-len .ensures)) (c .unnamed .ensures)
 
 returns-2 : tie.Need-returns-2
 unfolding frameBytes presSection
@@ -24,7 +24,7 @@ returns-2 c =
     let p = n .before in
     let s = p .before .before .before in
     let r = s .before .before in
-    writes-coded _ _ _ _ _ _ _ _ _ (rw (← r .from-u8 .ensures, s .nmt-state .given .1, p .from-bits .ensures))
+    writes-coded _ _ _ _ _ _ _ _ _ (rw (← r .from-u8 .ensures .answer, s .nmt-state .given .1, p .from-u82 .ensures))
     (rw (f .to-bytes2 .ensures, h .to-bytes .ensures, n .new .ensures) at (w .write-behind .ensures)) (c .written-or .ensures)
 
 pub powerlink-new-pres-spec : {M : Type 1} → statement M

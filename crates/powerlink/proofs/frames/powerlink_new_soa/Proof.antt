@@ -11,7 +11,7 @@ returns : tie.Need-returns
 returns c =
     let b = c .before .before .before in
     let f = b .before .before in
-    refuses-coded _ _ _ _ _ _ _ _ (rw (← f .from-u8 .ensures, b .b .given .1)) (c .unnamed .ensures)
+    refuses-coded _ _ _ _ _ _ _ _ (rw (← f .from-u8 .ensures .answer, b .b .given .1)) (c .unnamed .ensures)
 
 returns-2 : tie.Need-returns-2
 returns-2 c =
@@ -19,7 +19,7 @@ returns-2 c =
     let g = b .before .before in
     let n = g .before .before in
     let f = n .before .before in
-    refuses-coded _ _ _ _ _ _ _ _ (rw (← f .from-u8 .ensures, n .nmt-state .given .1, ← g .from-u82 .ensures, b .b2 .given .1)) (c .unnamed2 .ensures)
+    refuses-coded _ _ _ _ _ _ _ _ (rw (← f .from-u8 .ensures .answer, n .nmt-state .given .1, ← g .from-u82 .ensures .answer, b .b2 .given .1)) (c .unnamed2 .ensures)
 
 returns-3 : tie.Need-returns-3
 unfolding frameBytes soaSection
@@ -32,7 +32,7 @@ returns-3 c =
     let g = q .before .before in
     let s = g .before .before in
     let r = s .before .before in
-    writes-coded _ _ _ _ _ _ _ _ _ (rw (← r .from-u8 .ensures, s .nmt-state .given .1, ← g .from-u82 .ensures, q .service .given .1))
+    writes-coded _ _ _ _ _ _ _ _ _ (rw (← r .from-u8 .ensures .answer, s .nmt-state .given .1, ← g .from-u82 .ensures .answer, q .service .given .1))
     (rw (f .to-bytes2 .ensures, h .to-bytes .ensures, n .new .ensures) at (w .write-behind .ensures)) (c .written-or .ensures)
 
 pub powerlink-new-soa-spec : {M : Type 1} → statement M

@@ -10,14 +10,14 @@ returns : tie.Need-returns
 returns c =
     let e = c .before .before .before in
     let d = e .before .before in
-    pl-refused _ _ _ _ _ _ (sym (d .deserialize-pl-header .ensures) ∙ e .e .given .1) (c .refusal .ensures)
+    pl-refused _ _ _ _ _ _ (sym (d .deserialize-pl-header .ensures .answer) ∙ e .e .given .1) (c .refusal .ensures)
 
 returns-2 : tie.Need-returns-2
 returns-2 c =
     let t = c .before .before .before in
     let h = t .before .before in
     let d = h .before .before in
-    pl-read _ _ _ _ _ (sym (d .deserialize-pl-header .ensures) ∙ h .h .given .1) (t .to-u8 .ensures)
+    pl-read _ _ _ _ _ (sym (d .deserialize-pl-header .ensures .answer) ∙ h .h .given .1) (t .to-u8 .ensures)
 
 pub powerlink-deserialize-pl-header-spec : {M : Type 1} → statement M
 powerlink-deserialize-pl-header-spec =

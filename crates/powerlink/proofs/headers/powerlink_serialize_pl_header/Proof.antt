@@ -9,14 +9,14 @@ returns : tie.Need-returns
 returns c =
     let b = c .before .before .before in
     let f = b .before .before in
-    refuses-coded _ _ _ _ _ _ _ _ (rw (← f .from-u8 .ensures, b .b .given .1)) (c .unnamed .ensures)
+    refuses-coded _ _ _ _ _ _ _ _ (rw (← f .from-u8 .ensures .answer, b .b .given .1)) (c .unnamed .ensures)
 
 returns-2 : tie.Need-returns-2
 returns-2 c =
     let s = c .before .before .before .before in
     let n = s .before .before .before in
     let f = n .before .before in
-    writes-coded _ _ _ _ _ _ _ _ _ (rw (← f .from-u8 .ensures, n .message .given .1)) (s .serialize-pl-header .ensures) (c .written-or .ensures)
+    writes-coded _ _ _ _ _ _ _ _ _ (rw (← f .from-u8 .ensures .answer, n .message .given .1)) (s .serialize-pl-header .ensures) (c .written-or .ensures)
 
 pub powerlink-serialize-pl-header-spec : {M : Type 1} → statement M
 powerlink-serialize-pl-header-spec =

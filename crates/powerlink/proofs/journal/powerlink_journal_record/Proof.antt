@@ -9,12 +9,12 @@ use Rattle.powerlink.proofs.journal.powerlink_journal_record.Tie as tie
 returns : tie.Need-returns
 returns c =
     let u = c .before in
-    records-short _ _ _ _ _ _ (sym (u .before .before .from-u8 .ensures) ∙ u .enum-told .given .1) (c .if1 .taken)
+    records-short _ _ _ _ _ _ (sym (u .before .before .from-u8 .ensures .answer) ∙ u .enum-told .given .1) (c .if1 .taken)
 
 returns-2 : tie.Need-returns-2
 returns-2 c =
     let u = c .before in
-    records-none _ _ _ _ _ _ (sym (u .before .before .from-u8 .ensures) ∙ u .enum-told .given .1) (c .if1 .left)
+    records-none _ _ _ _ _ _ (sym (u .before .before .from-u8 .ensures .answer) ∙ u .enum-told .given .1) (c .if1 .left)
 
 returns-3 : tie.Need-returns-3
 returns-3 c =
@@ -23,7 +23,7 @@ returns-3 c =
     let m = w .before .before .before in
     let f = m .before .before in
     let q = n .n .given .1 in
-    records-told _ _ _ _ _ _ _ _ _ _ (sym (f .from-u8 .ensures) ∙ m .mode .given .1) (w .write .ensures) (rw q) (rw q)
+    records-told _ _ _ _ _ _ _ _ _ _ (sym (f .from-u8 .ensures .answer) ∙ m .mode .given .1) (w .write .ensures) (rw q) (rw q)
 
 returns-4 : tie.Need-returns-4
 returns-4 c =
@@ -31,7 +31,7 @@ returns-4 c =
     let m = w .before .before .before in
     let f = m .before .before in
     let q = c .enum-told2 .given .1 in
-    records-told _ _ _ _ _ _ _ _ _ _ (sym (f .from-u8 .ensures) ∙ m .mode .given .1) (w .write .ensures) (rw q) (rw q)
+    records-told _ _ _ _ _ _ _ _ _ _ (sym (f .from-u8 .ensures .answer) ∙ m .mode .given .1) (w .write .ensures) (rw q) (rw q)
 
 returns-5 : tie.Need-returns-5
 returns-5 c =
@@ -39,7 +39,7 @@ returns-5 c =
     let m = w .before .before .before in
     let f = m .before .before in
     let q = c .enum-told3 .given .1 in
-    records-told _ _ _ _ _ _ _ _ _ _ (sym (f .from-u8 .ensures) ∙ m .mode .given .1) (w .write .ensures) (rw q) (rw q)
+    records-told _ _ _ _ _ _ _ _ _ _ (sym (f .from-u8 .ensures .answer) ∙ m .mode .given .1) (w .write .ensures) (rw q) (rw q)
 
 pub powerlink-journal-record-spec : {M : Type 1} → statement M
 powerlink-journal-record-spec =

@@ -15,8 +15,8 @@ returns-2 : tie.Need-returns-2
 returns-2 c =
     let t = c .before .before .before in
     let m = t .before .before in
-    let q = rw (← t .tail .ensures) at (rw (m .kind .given .1) at (kind-reads _ _ (m .before .before .kind-of .ensures))) in
-    frame-section _ _ _ q (t .tail .ensures) _ _ _ _ _ (c .read-kind .ensures)
+    let q = rw (← t .tail .ensures .octets) at (rw (m .kind .given .1) at (kind-reads _ _ (m .before .before .kind-of .ensures))) in
+    frame-section _ _ _ q (t .tail .ensures .octets) _ _ _ _ _ (c .read-kind .ensures)
 
 pub powerlink-deserialize-frame-spec : {M : Type 1} → statement M
 powerlink-deserialize-frame-spec =

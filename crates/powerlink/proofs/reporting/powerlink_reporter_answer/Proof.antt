@@ -11,7 +11,7 @@ returns c =
     let l = c .before .before in
     let b = l .before .before .before in
     let f = b .before .before in
-    answers-none _ _ _ _ _ _ _ _ _ _ (sym (f .from-u8 .ensures) ∙ b .b .given .1) (l .answer-len .ensures) (c .unnamed .ensures)
+    answers-none _ _ _ _ _ _ _ _ _ _ (sym (f .from-u8 .ensures .answer) ∙ b .b .given .1) (l .answer-len .ensures) (c .unnamed .ensures)
 
 returns-2 : tie.Need-returns-2
 returns-2 c =
@@ -20,7 +20,7 @@ returns-2 c =
     let p = g .before .before in
     let n = p .before .before .before .before in
     let f = n .before .before in
-    answers-told _ _ _ _ _ _ _ _ _ _ _ _ (sym (f .from-u8 .ensures) ∙ n .nmt-state .given .1) (rw (p .from-bits .ensures, g .field-at .ensures) at (s .answer .ensures)) (c .written-or .ensures)
+    answers-told _ _ _ _ _ _ _ _ _ _ _ _ (sym (f .from-u8 .ensures .answer) ∙ n .nmt-state .given .1) (rw (p .from-u82 .ensures, g .field-at .ensures) at (s .answer .ensures)) (c .written-or .ensures)
 
 pub powerlink-reporter-answer-spec : {M : Type 1} → statement M
 powerlink-reporter-answer-spec =

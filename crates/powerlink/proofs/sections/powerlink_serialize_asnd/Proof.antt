@@ -10,14 +10,14 @@ returns c =
     let p = c .before .before in
     let b = p .before .before in
     let f = b .before .before in
-    refuses-coded _ _ _ _ _ _ _ _ (rw (← f .from-u8 .ensures, b .b .given .1, p .padded-len .ensures)) (c .unnamed .ensures)
+    refuses-coded _ _ _ _ _ _ _ _ (rw (← f .from-u8 .ensures .answer, b .b .given .1, p .padded-len .ensures)) (c .unnamed .ensures)
 
 returns-2 : tie.Need-returns-2
 returns-2 c =
     let s = c .before .before .before .before in
     let n = s .before .before .before in
     let f = n .before .before in
-    writes-coded _ _ _ _ _ _ _ _ _ (rw (← f .from-u8 .ensures, n .service-id .given .1)) (s .serialize .ensures) (c .written-or .ensures)
+    writes-coded _ _ _ _ _ _ _ _ _ (rw (← f .from-u8 .ensures .answer, n .service-id .given .1)) (s .serialize .ensures) (c .written-or .ensures)
 
 pub powerlink-serialize-asnd-spec : {M : Type 1} → statement M
 powerlink-serialize-asnd-spec =

@@ -10,7 +10,7 @@ returns c =
     let p = c .before .before in
     let b = p .before .before in
     let f = b .before .before in
-    refuses-coded _ _ _ _ _ _ _ _ (rw (← f .from-u8 .ensures, b .b .given .1, p .padded-len .ensures)) (c .unnamed .ensures)
+    refuses-coded _ _ _ _ _ _ _ _ (rw (← f .from-u8 .ensures .answer, b .b .given .1, p .padded-len .ensures)) (c .unnamed .ensures)
 
 returns-2 : tie.Need-returns-2
 returns-2 c =
@@ -18,7 +18,7 @@ returns-2 c =
     let p = s .before .before in
     let n = p .before .before in
     let f = n .before .before in
-    writes-coded _ _ _ _ _ _ _ _ _ (rw (← f .from-u8 .ensures, n .nmt-state .given .1, p .from-bits .ensures)) (s .serialize .ensures) (c .written-or .ensures)
+    writes-coded _ _ _ _ _ _ _ _ _ (rw (← f .from-u8 .ensures .answer, n .nmt-state .given .1, p .from-u82 .ensures)) (s .serialize .ensures) (c .written-or .ensures)
 
 pub powerlink-serialize-pres-spec : {M : Type 1} → statement M
 powerlink-serialize-pres-spec =

@@ -8,7 +8,7 @@ use Rattle.replay.proofs.record.part.Tie as tie
 returns : tie.Need-returns
 returns c =
     let f = c .before .before in
-    between (f .before .before .before .args .s .now) (f .front .ensures) (f .before .get-u32-le .ensures) (c .before .mark .ensures) (c .tail .ensures)
+    between (f .before .before .before .args .s .now) (f .front .ensures .octets) (f .before .get-u32-le .ensures) (c .before .mark .ensures) (c .tail .ensures .octets)
 
 pub part-spec : {M : Type 1} → statement M
 part-spec =

@@ -24,7 +24,7 @@ returns-2 c =
     let a = k .before .args in
     rw (v .payload-len .ensures)
     (status-written (a .fields) (a .field) (a .entries .now) (a .target .now) (λ i. omega (arith, k .shared-slice-known .given i)) (omega (arith, v .payload-len .ensures, e .if1 .left)) _ _ _ _ _
-    (b .to-bytes .ensures) (p₂ .before .front .ensures) (p₁ .put .ensures) (p₂ .put2 .ensures) (z .put-terminator .ensures))
+    (b .to-bytes .ensures) (p₂ .before .front .ensures .octets) (p₁ .put .ensures) (p₂ .put2 .ensures) (z .put-terminator .ensures))
 
 pub serialize-spec : {M : Type 1} → statement M
 serialize-spec =

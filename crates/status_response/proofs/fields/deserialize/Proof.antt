@@ -5,7 +5,7 @@ use Rattle.status_response.proofs.fields.deserialize.Statement.{stateme
 use Rattle.status_response.proofs.fields.deserialize.Tie as tie
 
 returns : tie.Need-returns
-returns c = rw (c .read-fields .ensures, c .before .field-at .ensures, c .before .before .tail .ensures)
+returns c = rw (c .read-fields .ensures, c .before .field-at .ensures, c .before .before .tail .ensures .octets)
 
 pub deserialize-spec : {M : Type 1} → statement M
 deserialize-spec = tie.close (tie.spec (search needs) (search needs) (search needs) returns)

@@ -16,14 +16,14 @@ unfolding readFields
 returns-2 c =
     let b = c .before in
     let u = b .before .before in
-    rw (le-leb 14 _ (u .before .before .if1 .left), sym (u .from-u8 .ensures) ∙ b .b .given .1)
+    rw (le-leb 14 _ (u .before .before .if1 .left), sym (u .from-u8 .ensures .answer) ∙ b .b .given .1)
 
 returns-3 : tie.Need-returns-3
 unfolding readFields
 returns-3 c =
     let k = c .before .before in
     let u = k .before .before in
-    rw (c .fields .ensures, le-leb 14 _ (u .before .before .if1 .left), sym (u .from-u8 .ensures) ∙ k .state .given .1)
+    rw (c .fields .ensures, le-leb 14 _ (u .before .before .if1 .left), sym (u .from-u8 .ensures .answer) ∙ k .state .given .1)
 
 pub read-fields-spec : {M : Type 1} → statement M
 read-fields-spec =

@@ -1,13 +1,16 @@
--- `PRFlag::from_u8` meets its contract: each arm is a code of the table, and the default arm none.
+-- `PRFlag::from_u8` meets its contract: each arm is a code of the table, and the default arm its last value.
 -- Assumes nothing.
-use Rattle.types.specs.PollFlags.{priorityCode, priorities, priorityOf}
-use Rattle.types.specs.declared.poll_flags.PRFlagAnswer.the-variants.{Known}
-use Rattle.types.proofs.Codes.{unlisted}
+use Prim.Native.Nat.{_%_}
+use mathlib.Core.Path.{_∙_}
+use lib.ListN.{take}
+use Rattle.types.specs.PollFlags.{priorityCode, priorities, priorityIn}
+use Rattle.types.specs.declared.poll_flags.PRFlag.the-variants.{Low1}
+use Rattle.types.proofs.Codes.{unlisted, last-unlisted}
 use Rattle.types.proofs.poll_flags.PRFlag.from_u8.Statement.{statement}
 use Rattle.types.proofs.poll_flags.PRFlag.from_u8.Tie as tie
 
 pub from-u8-spec : {M : Type 1} → statement M
-unfolding priorityOf
+unfolding priorityIn
 from-u8-spec =
     tie.close
     (tie.spec
@@ -18,5 +21,7 @@ from-u8-spec =
     (λ c. rw (c .match .keys5))
     (λ c. rw (c .match .keys6))
     (λ c. rw (c .match .keys7))
-    (λ c. rw (c .match .keys8))
-    (λ c. unlisted priorityCode Known _ _ Unit priorities (c .match .rest) .1))
+    (λ c.
+    let b = c .before .args .b % 8 in
+    unlisted priorityCode (λ p. p) Low1 b Unit (take 7 priorities) (c .match .rest) .1
+    ∙ last-unlisted priorityCode Low1 b (take 7 priorities)))

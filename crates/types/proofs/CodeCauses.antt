@@ -1,0 +1,84 @@
+-- A code that was read has the number and the values of 01's row for its octet.
+-- Assumes nothing.
+use Prim.Native.Nat.{ℕ}
+use mathlib.Core.Bool.{Bool, true, false}
+use mathlib.Core.Path.{_≡_, refl, ap, sym, _∙_}
+use mathlib.Core.List.{List, [], _∷_}
+use borrow.Author.Tests.{eqb-true}
+use lib.Dec.{eqb}
+use Rattle.types.specs.Causes.{Cause, row}
+use Rattle.types.specs.CodeCauses.{messageCause, stateCause, serviceCause, requestedCause, modeCause, ReadsMessage, ReadsState, ReadsService, ReadsRequested, ReadsMode}
+use Rattle.types.specs.Codes.{pick, decoded}
+use Rattle.types.specs.Messages.{messageCode, messages, messageOf}
+use Rattle.types.specs.Modes.{modeCode, modes, modeOf}
+use Rattle.types.specs.RequestedServices.{requestedCode, requestedServices, requestedOf}
+use Rattle.types.specs.Services.{serviceCode, services, serviceOf}
+use Rattle.types.specs.States.{stateCode, states, stateOf}
+use Rattle.types.specs.declared.error_mode.ErrorEntryModeAnswer.{ErrorEntryModeAnswer}
+use Rattle.types.specs.declared.error_mode.ErrorEntryModeAnswer.the-variants as mode
+use Rattle.types.specs.declared.message_type.MessageTypeAnswer.{MessageTypeAnswer}
+use Rattle.types.specs.declared.message_type.MessageTypeAnswer.the-variants as message
+use Rattle.types.specs.declared.requested_service.RequestedServiceIdAnswer.{RequestedServiceIdAnswer}
+use Rattle.types.specs.declared.requested_service.RequestedServiceIdAnswer.the-variants as requested
+use Rattle.types.specs.declared.service.ServiceIdAnswer.{ServiceIdAnswer}
+use Rattle.types.specs.declared.service.ServiceIdAnswer.the-variants as service
+use Rattle.types.specs.declared.states.NmtStateAnswer.{NmtStateAnswer}
+use Rattle.types.specs.declared.states.NmtStateAnswer.the-variants as state
+
+-- what is told of a value by its code is told of the octet that was read: one law for every table of codes
+module _ {A R C : Type 0} (code : A → ℕ) (known : A → R) (other : R) (told : R → C) (by : ℕ → C) (b : ℕ) where
+  either : (e : Bool) (x : A) (r : R) (c : C) → eqb b (code x) ≡ e → told (known x) ≡ by (code x) → told r ≡ c
+      → told (pick e (known x) r) ≡ pick e (by b) c
+  either true x r c same here rest = here ∙ ap by (sym (eqb-true b (code x) same))
+  either false x r c same here rest = rest
+
+  pub decoded-told : ((x : A) → told (known x) ≡ by (code x)) → (xs : List A)
+      → told (decoded code known other xs b) ≡ decoded code (λ x. by b) (told other) xs b
+  decoded-told all [] = refl
+  decoded-told all (x ∷ xs) = either (eqb b (code x)) x _ _ refl (all x) (decoded-told all xs)
+
+abbrev pub read : ℕ → Cause
+read k = row 0 (k ∷ [])
+
+module _ (b : ℕ) where
+  pub message-told : (r : MessageTypeAnswer) → r ≡ messageOf b → ReadsMessage b r
+  unfolding messageOf
+  message-told r e =
+      record {
+        answer = e;
+        cause = ap messageCause e ∙ decoded-told messageCode message.Known (message.Unknown b) messageCause read b (λ x. refl) messages;
+      }
+
+  pub state-told : (r : NmtStateAnswer) → r ≡ stateOf b → ReadsState b r
+  unfolding stateOf
+  state-told r e =
+      record {
+        answer = e;
+        cause = ap stateCause e ∙ decoded-told stateCode state.Known (state.Unknown b) stateCause read b (λ x. refl) states;
+      }
+
+  pub service-told : (r : ServiceIdAnswer) → r ≡ serviceOf b → ReadsService b r
+  unfolding serviceOf
+  service-told r e =
+      record {
+        answer = e;
+        cause = ap serviceCause e ∙ decoded-told serviceCode service.Known (service.Unknown b) serviceCause read b (λ x. refl) services;
+      }
+
+  pub requested-told : (r : RequestedServiceIdAnswer) → r ≡ requestedOf b → ReadsRequested b r
+  unfolding requestedOf
+  requested-told r e =
+      record {
+        answer = e;
+        cause =
+            ap requestedCause e
+            ∙ decoded-told requestedCode requested.Known (requested.Unknown b) requestedCause read b (λ x. refl) requestedServices;
+      }
+
+  pub mode-told : (r : ErrorEntryModeAnswer) → r ≡ modeOf b → ReadsMode b r
+  unfolding modeOf
+  mode-told r e =
+      record {
+        answer = e;
+        cause = ap modeCause e ∙ decoded-told modeCode mode.Known (mode.Unknown b) modeCause read b (λ x. refl) modes;
+      }
