@@ -10,4 +10,4 @@ fields-spec =
     (tie.spec
     (search needs)
     (search needs)
-    (λ c. cc))
+    (λ c. rw (c .byte-at2 .ensures, c .before .byte-at .ensures)))

@@ -11,4 +11,4 @@ fields-spec =
     (search needs)
     (search needs)
     (search needs)
-    (λ c. cc))
+    (λ c. rw (c .byte-at3 .ensures, c .before .byte-at2 .ensures, c .before .before .byte-at .ensures)))

@@ -12,4 +12,4 @@ asnd-values-spec =
     (search needs)
     (search needs)
     (search needs)
-    (λ c. cc))
+    (λ c. rw (c .to-u8 .ensures)))

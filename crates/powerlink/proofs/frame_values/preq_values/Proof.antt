@@ -15,4 +15,4 @@ preq-values-spec =
     (search needs)
     (search needs)
     (search needs)
-    (λ c. cc))
+    (λ c. rw (c .before .before .number3 .ensures, c .before .before .before .number2 .ensures, c .before .before .before .before .number .ensures)))

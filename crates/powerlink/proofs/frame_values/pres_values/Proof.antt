@@ -20,4 +20,4 @@ pres-values-spec =
     (search needs)
     (search needs)
     (search needs)
-    (λ c. cc))
+    (λ c. rw (c .before .to-u82 .ensures, c .before .before .to-u8 .ensures, c .before .before .before .before .before .number3 .ensures, c .before .before .before .before .before .before .number2 .ensures, c .before .before .before .before .before .before .before .number .ensures)))

@@ -18,4 +18,4 @@ soa-values-spec =
     (search needs)
     (search needs)
     (search needs)
-    (λ c. cc))
+    (λ c. rw (c .to-u82 .ensures, c .before .before .before .to-u8 .ensures, c .before .before .before .before .number2 .ensures, c .before .before .before .before .before .number .ensures)))

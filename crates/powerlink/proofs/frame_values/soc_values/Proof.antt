@@ -14,4 +14,4 @@ soc-values-spec =
     (search needs)
     (search needs)
     (search needs)
-    (λ c. cc))
+    (λ c. rw (c .before .before .number2 .ensures, c .before .before .before .number .ensures)))
