@@ -2,7 +2,6 @@
 -- Assumes nothing.
 use Prim.Native.Nat.{ℕ, zero, suc, _+_, _-_, _≤_, _<_}
 use mathlib.Core.Bool.{Bool, true, false}
-use mathlib.Core.Logic.{_⊎_, inl, inr}
 use mathlib.Core.Path.{_≡_, refl, sym, ap, subst, _∙_}
 use mathlib.Core.List.{List, [], _++_, append-assoc, append-nil}
 use native.Mathlib.Nat.{not-suc-le-zero}
@@ -12,14 +11,62 @@ use lib.ListN.{length, take, drop, replicate, length-append, length-drop, length
 use lib.Seq.{drop-drop, take-append-seam}
 use borrow.Author.Tests.{eqb-true, eqb-false}
 use Rattle.journal_records.specs.InParts.{Run, over, call, ListsInParts}
-use Rattle.journal_records.specs.Listing.{version1, listing}
-use Rattle.journal_records.specs.Parts.{Piece, ahead, stepOf, partOf, told, Lists, textFrom, needed}
+use Rattle.journal_records.specs.Listing.{version1}
+use Rattle.journal_records.specs.Parts.{Piece, ahead, stepOf, partOf, told, Lists, listCause, textFrom, goesOn, dueAfter, needed}
+use Rattle.types.specs.Codes.{pick}
+use Rattle.journal_records.specs.declared.listing.ListAnswer.{ListAnswer}
+use Rattle.journal_records.specs.declared.listing.ListAnswer.the-variants.{More, End, BufferTooShort, NotAJournal, UnknownVersion, RecordInvalid}
 use Rattle.journal_records.specs.declared.listing.Part.{Part}
 use Rattle.journal_records.specs.declared.listing.Phase.{Phase}
-use Rattle.journal_records.specs.declared.listing.Phase.the-variants.{Over}
 use Rattle.journal_records.proofs.PartLaws.{fewer, part-stops, part-goes-on}
 use Rattle.journal_records.proofs.Steps.{Bounded, step-due, step-bounded}
-use Rattle.journal_records.proofs.Views.{Stepped, View, view, full, stepped, ended, head-waits, head-cut, unmarked, other-version, head-good, record-waits, all-read, short, fault, good}
+use Rattle.journal_records.proofs.Views.{Lined, View, view, waits, ends, full, lined, head-cut, unmarked, other-version, head-good, short, fault, good}
+
+-- ---- what the answer of a step tells
+
+numbers : {a b : ListAnswer} → a ≡ b → listCause a .number ≡ listCause b .number
+numbers e = ap (λ (x : ListAnswer). listCause x .number) e
+
+lined-line : {p : Phase} {s : List ℕ} {last : Bool} {q : Piece} → Lined p s last q → (q .consumed ≡ 0 → ⊥) → q .answer ≡ More
+lined-line (head-cut h) f = absurd (f refl)
+lined-line (unmarked h m) f = absurd (f refl)
+lined-line (other-version h m v) f = absurd (f refl)
+lined-line (head-good h m v) f = refl
+lined-line (short h n) f = absurd (f refl)
+lined-line (fault h e) f = absurd (f refl)
+lined-line (good h e) f = refl
+
+-- a line is consumed for, or it is that of a refusal
+lined-refused : {p : Phase} {s : List ℕ} {last : Bool} {q : Piece} → Lined p s last q → (listCause (q .answer) .number ≡ 1 → ⊥) × (q .consumed ≡ 0 → listCause (q .answer) .number ≡ 0 → ⊥)
+lined-refused (head-cut h) = (λ e. omega arith, λ z e. omega arith)
+lined-refused (unmarked h m) = (λ e. omega arith, λ z e. omega arith)
+lined-refused (other-version h m v) = (λ e. omega arith, λ z e. omega arith)
+lined-refused (head-good h m v) = (λ e. omega arith, λ z e. omega arith)
+lined-refused (short h n) = (λ e. omega arith, λ z e. omega arith)
+lined-refused (fault h k) = (λ e. omega arith, λ z e. omega arith)
+lined-refused (good h k) = (λ e. omega arith, λ z e. omega arith)
+
+view-line : {p : Phase} {s : List ℕ} {last : Bool} {room : ℕ} {q : Piece} → View p s last room q → (q .consumed ≡ 0 → ⊥) → q .answer ≡ More
+view-line (waits h) f = refl
+view-line (ends h) f = absurd (f refl)
+view-line (full h) f = absurd (f refl)
+view-line (lined r l) f = lined-line l f
+
+view-full : {p : Phase} {s : List ℕ} {last : Bool} {room : ℕ} {q : Piece} → View p s last room q → q .answer ≡ BufferTooShort → room < 55
+view-full (waits h) e = let z : _≡_ {A = ℕ} 0 1 = numbers e in omega arith
+view-full (ends h) e = let z : _≡_ {A = ℕ} 0 1 = numbers e in omega arith
+view-full (full h) e = h
+view-full (lined r l) e = absurd (lined-refused l .0 (numbers e))
+
+view-more : {p : Phase} {s : List ℕ} {last : Bool} {room : ℕ} {q : Piece} → View p s last room q → q .consumed ≡ 0 → q .answer ≡ More
+    → (last ≡ false) × (length s < q .consumed + needed (q .phase))
+view-more (waits h) z e = (refl, omega arith)
+view-more (ends h) z e = let y : _≡_ {A = ℕ} 0 1 = cc in let x : ⊥ = omega arith in absurd x
+view-more (full h) z e = let y : _≡_ {A = ℕ} 1 0 = numbers e in let x : ⊥ = omega arith in absurd x
+view-more (lined r l) z e = absurd (lined-refused l .1 z (numbers e))
+
+line-more : (p : Phase) (s : List ℕ) (last : Bool) (room : ℕ) → (stepOf p s last room .consumed ≡ 0 → ⊥) → stepOf p s last room .answer ≡ More
+line-more p s last room f = view-line (view p s last room) f
 
 -- what holds of the steps' piece, for octets of which there are fewer than n
 module _ (last : Bool) where
@@ -49,18 +96,19 @@ module _ (last : Bool) where
   -- ---- the text
 
   abbrev Due : List ℕ → Fact
-  Due rest p s room q = textFrom p (s ++ rest) ≡ q .text ++ textFrom (q .phase) (drop (q .consumed) s ++ rest)
+  Due rest p s room q = textFrom p (s ++ rest) ≡ q .text ++ dueAfter (q .answer) (q .phase) (drop (q .consumed) s ++ rest)
 
   pub part-due : (rest : List ℕ) → (last ≡ true → rest ≡ []) → (p : Phase) (s : List ℕ) (room : ℕ) → Due rest p s room (partOf p s last room)
   part-due rest l =
       of-part (Due rest) (λ p s room e. step-due rest p s last room l)
       (λ p s room q f e.
       step-due rest p s last room l
+      ∙ ap (λ (a : ListAnswer). stepOf p s last room .text ++ dueAfter a (stepOf p s last room .phase) (drop (stepOf p s last room .consumed) s ++ rest)) (line-more p s last room f)
       ∙ ap (λ (t : List ℕ). stepOf p s last room .text ++ t) e
-      ∙ joins (stepOf p s last room .text) (q .text) (q .phase) (stepOf p s last room .consumed) (q .consumed) s rest)
+      ∙ joins (stepOf p s last room .text) (q .text) (q .answer) (q .phase) (stepOf p s last room .consumed) (q .consumed) s rest)
     where
-      joins : (t u : List ℕ) (q : Phase) (c d : ℕ) (s rest : List ℕ) → t ++ (u ++ textFrom q (drop d (drop c s) ++ rest)) ≡ (t ++ u) ++ textFrom q (drop (c + d) s ++ rest)
-      joins t u q c d s rest = rw (append-assoc, drop-drop d c s)
+      joins : (t u : List ℕ) (a : ListAnswer) (q : Phase) (c d : ℕ) (s rest : List ℕ) → t ++ (u ++ dueAfter a q (drop d (drop c s) ++ rest)) ≡ (t ++ u) ++ dueAfter a q (drop (c + d) s ++ rest)
+      joins t u a q c d s rest = rw (append-assoc, drop-drop d c s)
 
   -- ---- bounds
 
@@ -76,44 +124,40 @@ module _ (last : Bool) where
         fits = rw length-append (omega (arith, a .fits));
       })
 
+  -- ---- answers
+
+  pub part-more : (p : Phase) (s : List ℕ) (room : ℕ) → partOf p s last room .answer ≡ More
+      → (last ≡ false) × (length s < partOf p s last room .consumed + needed (partOf p s last room .phase))
+  part-more =
+      of-part (λ p s room q. q .answer ≡ More → (last ≡ false) × (length s < q .consumed + needed (q .phase)))
+      (λ p s room z. view-more (view p s last room) z)
+      (λ p s room q f h e.
+      let k = h e .1 in
+      (h e .0, omega (arith, length-drop (stepOf p s last room .consumed) s, step-bounded p s last room .most)))
+
+  pub part-full : (p : Phase) (s : List ℕ) (room : ℕ) → partOf p s last room .answer ≡ BufferTooShort → room < length (partOf p s last room .text) + 55
+  part-full =
+      of-part (λ p s room q. q .answer ≡ BufferTooShort → room < length (q .text) + 55)
+      (λ p s room z e. omega (arith, view-full (view p s last room) e))
+      (λ p s room q f h e. rw length-append (omega (arith, h e, step-bounded p s last room .fits)))
+
 -- ---- progress
-
-stepped-progress : {p : Phase} {s : List ℕ} {last : Bool} {q : Piece} → Stepped p s last q
-    → (0 < q .consumed) ⊎ ((q .phase ≡ Over) ⊎ ((last ≡ false) × (length s < needed p)))
-unfolding version1
-stepped-progress ended = inr (inl refl)
-stepped-progress (head-waits h) = inr (inr (refl, h))
-stepped-progress (head-cut h) = inr (inl refl)
-stepped-progress (unmarked h m) = inr (inl refl)
-stepped-progress (other-version h m v) = inr (inl refl)
-stepped-progress (head-good h m v) = inl (omega arith)
-stepped-progress (record-waits h) = inr (inr (refl, h))
-stepped-progress (all-read h) = inr (inl refl)
-stepped-progress (short h n) = inr (inl refl)
-stepped-progress (fault h e) = inr (inl refl)
-stepped-progress (good h e) = inl (omega arith)
-
-abbrev Progress : Phase → List ℕ → Bool → Piece → Type 0
-Progress p s last q = (0 < q .consumed) ⊎ ((q .phase ≡ Over) ⊎ ((last ≡ false) × (length s < needed p)))
-
-view-progress : {p : Phase} {s : List ℕ} {last : Bool} {room : ℕ} {q : Piece} → 55 ≤ room → View p s last room q → Progress p s last q
-view-progress h (full f) = let z : ⊥ = omega arith in absurd z
-view-progress h (stepped r v) = stepped-progress v
 
 some-sum : (c d : ℕ) → (c ≡ 0 → ⊥) → 0 < c + d
 some-sum zero d f = absurd (f refl)
 some-sum (suc c) d f = omega arith
 
-pub part-progress : (p : Phase) (s : List ℕ) (last : Bool) (room : ℕ) → 55 ≤ room → Progress p s last (partOf p s last room)
-part-progress p s last room h = split (eqb (stepOf p s last room .consumed) 0) refl
+part-progress : (p : Phase) (s : List ℕ) (last : Bool) (room : ℕ) → partOf p s last room .answer ≡ BufferTooShort → 55 ≤ room → 0 < partOf p s last room .consumed
+part-progress p s last room e h = split (eqb (stepOf p s last room .consumed) 0) refl
   where
-    split : (b : Bool) → eqb (stepOf p s last room .consumed) 0 ≡ b → Progress p s last (partOf p s last room)
-    split true e =
-        rw (part-stops p s last room (eqb-true (stepOf p s last room .consumed) 0 e))
-        (view-progress h (view p s last room))
-    split false e =
-        let f = eqb-false (stepOf p s last room .consumed) 0 e in
-        rw (part-goes-on p s last room f) (inl (some-sum (stepOf p s last room .consumed) _ f))
+    split : (b : Bool) → eqb (stepOf p s last room .consumed) 0 ≡ b → 0 < partOf p s last room .consumed
+    split true z =
+        let stops = part-stops p s last room (eqb-true (stepOf p s last room .consumed) 0 z) in
+        let y : ⊥ = omega (arith, view-full (view p s last room) (ap (λ (q : Piece). q .answer) (sym stops) ∙ e)) in
+        absurd y
+    split false z =
+        let f = eqb-false (stepOf p s last room .consumed) 0 z in
+        rw (part-goes-on p s last room f) (some-sum (stepOf p s last room .consumed) _ f)
 
 -- ---- calls
 
@@ -124,7 +168,7 @@ module _ {p : Phase} {s : List ℕ} {last : Bool} {r : Part} {out after : List �
       (take-append-seam (partOf p s last (length out) .text) (drop (length (partOf p s last (length out) .text)) out))
 
   call-text : (rest : List ℕ) → (last ≡ true → rest ≡ [])
-      → textFrom p (s ++ rest) ≡ take (r .written) after ++ textFrom (r .phase) (drop (r .consumed) s ++ rest)
+      → textFrom p (s ++ rest) ≡ take (r .written) after ++ dueAfter (r .answer) (r .phase) (drop (r .consumed) s ++ rest)
   call-text rest l = rw printed (rw (L .answer) (part-due last rest l p s (length out)))
 
   call-within : (r .consumed ≤ length s) × (r .written ≤ length out) × (length after ≡ length out)
@@ -135,13 +179,27 @@ module _ {p : Phase} {s : List ℕ} {last : Bool} {r : Part} {out after : List �
       kept : (t : List ℕ) → length t ≤ length out → length (t ++ drop (length t) out) ≡ length out
       kept t h = rw (length-append, length-drop) (omega arith)
 
-  call-progress : 55 ≤ length out → (0 < r .consumed) ⊎ ((r .phase ≡ Over) ⊎ ((last ≡ false) × (length s < needed p)))
-  call-progress h = rw (L .answer) (part-progress p s last (length out) h)
+  answered : partOf p s last (length out) .answer ≡ r .answer
+  answered = sym (ap (λ (x : Part). x .answer) (L .answer))
+
+  call-more : r .answer ≡ More → (last ≡ false) × (length s < r .consumed + needed (r .phase))
+  call-more e = rw (L .answer) (part-more last p s (length out) (answered ∙ e))
+
+  call-full : r .answer ≡ BufferTooShort → length out < r .written + 55
+  call-full e = rw (L .answer) (part-full last p s (length out) (answered ∙ e))
+
+  call-progress : r .answer ≡ BufferTooShort → 55 ≤ length out → 0 < r .consumed
+  call-progress e h = rw (L .answer) (part-progress p s last (length out) (answered ∙ e) h)
 
 run-text : {room : ℕ} {p : Phase} {input text : List ℕ} → Run room p input text → text ≡ textFrom p input
-run-text over = refl
-run-text (call {s = s} {rest = rest} {r = r} {after = after} L h l run) =
-    ap (λ (t : List ℕ). take (r .written) after ++ t) (run-text run) ∙ sym (call-text L rest (λ e. let all = l e in cc))
+run-text (over {s = s} {rest = rest} {r = r} {after = after} L h l g) =
+    sym (append-nil (take (r .written) after))
+    ∙ ap (λ (b : Bool). take (r .written) after ++ pick b (textFrom (r .phase) (drop (r .consumed) s ++ rest)) []) (sym g)
+    ∙ sym (call-text L rest (λ e. let all = l e in cc))
+run-text (call {s = s} {rest = rest} {r = r} {after = after} L h l g run) =
+    ap (λ (t : List ℕ). take (r .written) after ++ t) (run-text run)
+    ∙ ap (λ (b : Bool). take (r .written) after ++ pick b (textFrom (r .phase) (drop (r .consumed) s ++ rest)) []) (sym g)
+    ∙ sym (call-text L rest (λ e. let all = l e in cc))
 
 -- ---- a run of calls that are lent all that is left
 
@@ -158,35 +216,51 @@ module _ (room : ℕ) (line : 55 ≤ room) where
   last-call p s = partOf p s true (length out)
 
   made : (p : Phase) (s : List ℕ) → Lists p s true (told (last-call p s)) out (last-call p s .text ++ drop (length (last-call p s .text)) out)
-  made p s = record { answer = refl; holds = refl }
+  made p s = record { answer = refl; cause = refl; holds = refl }
 
-  one-call : (p : Phase) (s : List ℕ) → Run room (last-call p s .phase) (drop (last-call p s .consumed) s ++ []) (textFrom (last-call p s .phase) (drop (last-call p s .consumed) s ++ []))
+  -- what it prints, and leaves
+  abbrev print-of : Phase → List ℕ → List ℕ
+  print-of p s = take (length (last-call p s .text)) (last-call p s .text ++ drop (length (last-call p s .text)) out)
+
+  abbrev left-of : Phase → List ℕ → List ℕ
+  left-of p s = drop (last-call p s .consumed) s ++ []
+
+  due-of : (p : Phase) (s : List ℕ) → textFrom p (s ++ []) ≡ print-of p s ++ dueAfter (last-call p s .answer) (last-call p s .phase) (left-of p s)
+  due-of p s = call-text (made p s) [] (λ e. refl)
+
+  one-call : (p : Phase) (s : List ℕ) → goesOn (last-call p s .answer) ≡ true → Run room (last-call p s .phase) (left-of p s) (textFrom (last-call p s .phase) (left-of p s))
       → Run room p s (textFrom p s)
-  one-call p s run =
+  one-call p s g run =
       subst (λ (l : List ℕ). Run room p l (textFrom p l)) (append-nil s)
-      (subst (Run room p (s ++ [])) (sym (call-text (made p s) [] (λ e. refl))) (call (made p s) (omega (arith, all-room)) (λ e. refl) run))
+      (rw (due-of p s, g) (call (made p s) (omega (arith, all-room)) (λ e. refl) g run))
+
+  last-one : (p : Phase) (s : List ℕ) → goesOn (last-call p s .answer) ≡ false → Run room p s (textFrom p s)
+  last-one p s g =
+      subst (λ (l : List ℕ). Run room p l (textFrom p l)) (append-nil s)
+      (rw (due-of p s, g, append-nil (print-of p s)) (over (made p s) (omega (arith, all-room)) (λ e. refl) g))
 
   runs : (n : ℕ) (p : Phase) (s : List ℕ) → length s < n → Run room p s (textFrom p s)
   runs zero p s h = absurd (not-suc-le-zero h)
-  runs (suc n) p s h = one-call p s (by-progress (call-progress (made p s) (omega (arith, all-room))) (runs n))
+  runs (suc n) p s h = by-answer (last-call p s .answer) refl (runs n)
     where
-      q : Piece
-      q = last-call p s
-
-      by-progress : (0 < q .consumed) ⊎ ((q .phase ≡ Over) ⊎ ((true ≡ false) × (length s < needed p)))
-          → ((p : Phase) (s : List ℕ) → length s < n → Run room p s (textFrom p s))
-          → Run room (q .phase) (drop (q .consumed) s ++ []) (textFrom (q .phase) (drop (q .consumed) s ++ []))
-      by-progress (inl c) ih =
-          ih (q .phase) (drop (q .consumed) s ++ [])
-          (rw (append-nil, length-drop) (omega (arith, part-bounded true p s (length out) .most)))
-      by-progress (inr (inl e)) ih = rw e over
-      by-progress (inr (inr c)) ih = let e = c .0 in let z : _≡_ {A = ℕ} 0 1 = cc in let y : ⊥ = omega arith in absurd y
+      by-answer : (a : ListAnswer) → last-call p s .answer ≡ a → ((p : Phase) (s : List ℕ) → length s < n → Run room p s (textFrom p s)) → Run room p s (textFrom p s)
+      by-answer More e ih = let f = call-more (made p s) e .0 in let z : _≡_ {A = ℕ} 0 1 = cc in let y : ⊥ = omega arith in absurd y
+      by-answer BufferTooShort e ih =
+          one-call p s (ap goesOn e)
+          (ih (last-call p s .phase) (left-of p s)
+          (rw (append-nil, length-drop) (omega (arith, part-bounded true p s (length out) .most, call-progress (made p s) e (omega (arith, all-room))))))
+      by-answer End e ih = last-one p s (ap goesOn e)
+      by-answer NotAJournal e ih = last-one p s (ap goesOn e)
+      by-answer UnknownVersion e ih = last-one p s (ap goesOn e)
+      by-answer RecordInvalid e ih = last-one p s (ap goesOn e)
 
 pub lists-in-parts : ListsInParts
 lists-in-parts =
     record {
       text = call-text;
       within = call-within;
+      more = call-more;
+      full = call-full;
       progress = call-progress;
       listed = run-text;
       ends = λ room line p left. runs room line (suc (length left)) p left (omega arith);

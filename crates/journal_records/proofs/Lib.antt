@@ -7,5 +7,7 @@ pub mod Views
 pub mod Steps
 pub mod PartLaws
 pub mod InParts
+pub mod Start
 pub mod ReadBack
 pub mod Whole
+pub mod Causes

@@ -143,12 +143,13 @@ module _ {p : Phase} {s : List ℕ} {last : Bool} {out₀ out : List ℕ} {q : P
               ∙ ap (λ (l : List ℕ). ahead (c + k .consumed) l (partOf (k .phase) (drop (c + k .consumed) s) last (length out₀ - (w + length (k .text))))) (sym (front-after out₀ out w (k .text) fit));
         }
 
-    stop : k .consumed ≡ 0 → Lists p s last (record { phase = k .phase; consumed = c + k .consumed; written = w + length (k .text) }) out₀ (sets out w (k .text))
+    stop : k .consumed ≡ 0 → Lists p s last (record { answer = k .answer; phase = k .phase; consumed = c + k .consumed; written = w + length (k .text) }) out₀ (sets out w (k .text))
     stop f =
         let e : partOf p s last (length out₀) ≡ ahead c (take w out) k =
         H .done ∙ ap (ahead c (take w out)) (subst (λ (j : Piece). j .consumed ≡ 0 → partOf q (drop c s) last (length out₀ - w) ≡ j) is (part-stops q (drop c s) last (length out₀ - w)) f) in
         record {
-          answer = rw e (ap (λ (n : ℕ). record { phase = k .phase; consumed = c + k .consumed; written = n }) (sym (front-length out₀ out w (k .text) fit)));
+          answer = rw e (ap (λ (n : ℕ). record { answer = k .answer; phase = k .phase; consumed = c + k .consumed; written = n }) (sym (front-length out₀ out w (k .text) fit)));
+          cause = rw e;
           holds = rw e (whole-after out₀ out w (k .text) fit (H .behind));
         }
 
@@ -189,5 +190,5 @@ module _ {p : Phase} {s : List ℕ} {last : Bool} {out₀ out : List ℕ} {q : P
     turn-on f = rw (left, told-so) (on taken refl (λ e. f (ap (λ (j : Part). j .consumed) told-so ∙ e)))
 
     pub turn-stop : r .consumed ≡ 0
-        → Lists p s last (record { phase = r .phase; consumed = c + r .consumed; written = w + r .written }) out₀ (putMid w (length out - w) out part)
+        → Lists p s last (record { answer = r .answer; phase = r .phase; consumed = c + r .consumed; written = w + r .written }) out₀ (putMid w (length out - w) out part)
     turn-stop e = rw (left, told-so) (stop taken refl (ap (λ (j : Part). j .consumed) (sym told-so) ∙ e))

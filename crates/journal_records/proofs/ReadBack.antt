@@ -24,6 +24,7 @@ use Rattle.journal_records.specs.declared.JournalAnswer.the-variants.{Wr
 use Rattle.journal_records.specs.Text.{digit, hex, decimalIn, decimal}
 use Rattle.journal_records.proofs.ListLaws.{lines-none, lines-good, listing-good}
 use Rattle.journal_records.proofs.RecordLaws.{record-length}
+use Rattle.journal_records.proofs.Start.{start-mark, version-octets}
 
 -- the mask takes nothing away that is written
 masked-bytes : (e : ErrorEntry) → entryBytes e ≡ entryBytes (masked e)
@@ -85,14 +86,6 @@ records-lines (more {x} {xs} {r} {n} {octets = octets} ranges W a j) =
 start-long : (t : List ℕ) → 5 ≤ length (journalStart ++ t)
 start-long t = rw length-append (omega arith)
 
-start-marked : (t : List ℕ) → marked (journalStart ++ t) ≡ true
-unfolding marked
-start-marked t = refl
-
-start-version : (t : List ℕ) → leAt 2 3 (journalStart ++ t) ≡ 1
-unfolding leAt
-start-version t = refl
-
 example-listed : listing exampleOctets ≡ exampleLines
 unfolding listing layoutOf marked leAt headerLine version1 lines linesIn goodRecord validRecord recordLine entryOf entryTypeOf modeIn digit hex decimal decimalIn
 example-listed = refl
@@ -102,7 +95,7 @@ records-read-back =
     record {
       records =
           λ xs octets j.
-          listing-good (journalStart ++ octets) (start-long octets) (start-marked octets) (start-version octets)
+          listing-good (journalStart ++ octets) (start-long octets) (start-mark (1 ∷ 0 ∷ octets)) (version-octets 80 76 66 1 0 octets)
           ∙ ap (λ (l : List ℕ). headerLine version1 ++ l) (records-lines j);
       example = example-listed;
     }

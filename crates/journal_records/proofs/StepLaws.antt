@@ -5,84 +5,90 @@ use mathlib.Core.Bool.{Bool, true, false}
 use mathlib.Core.Path.{_≡_, refl}
 use mathlib.Core.List.{List}
 use native.Mathlib.Nat.{zero-add}
+use lib.Dec.{ltb}
 use lib.ListN.{length}
 use borrow.Author.Tests.{le-leb, lt-leb, eq-eqb, ne-eqb}
 use Rattle.octets.specs.Numbers.{leAt}
 use Rattle.journal_records.specs.Listing.{nodeOf, recordedEntry, version1, layoutOf, headerLine, recordLine, goodRecord, marked, fieldsLine}
-use Rattle.journal_records.specs.Parts.{Piece, waiting, refusal, headerStep, cutStep, recordStep, phaseStep, stepOf, Prints}
+use Rattle.journal_records.specs.Parts.{Piece, stopped, refusal, oneLine, headerStep, recordStep, phaseStep, needed, awaits, ended, stepOf, told, Prints}
 use Rattle.journal_records.specs.Record.{validRecord}
 use Rattle.journal_records.specs.Text.{Puts}
+use Rattle.journal_records.specs.declared.listing.ListAnswer.{ListAnswer}
+use Rattle.journal_records.specs.declared.listing.ListAnswer.the-variants.{More, End, BufferTooShort, NotAJournal, UnknownVersion, RecordInvalid}
 use Rattle.journal_records.specs.declared.listing.Part.{Part}
 use Rattle.journal_records.specs.declared.listing.Phase.{Phase}
-use Rattle.journal_records.specs.declared.listing.Phase.the-variants.{Header, Records, Over}
+use Rattle.journal_records.specs.declared.listing.Phase.the-variants.{Header, Records}
 
-module _ (s : List ℕ) (last : Bool) where
-  module _ (short : length s < 5) where
-    pub header-cut : last ≡ true → headerStep s last ≡ refusal 17
-    unfolding headerStep
-    header-cut e = rw (lt-leb 5 (length s) short, e)
-
-    pub header-waits : last ≡ false → headerStep s last ≡ waiting Header
-    unfolding headerStep
-    header-waits e = rw (lt-leb 5 (length s) short, e)
+module _ (s : List ℕ) where
+  pub header-cut : length s < 5 → headerStep s ≡ refusal NotAJournal Header
+  unfolding headerStep
+  header-cut h = rw (lt-leb 5 (length s) h)
 
   module _ (long : 5 ≤ length s) where
-    pub header-unmarked : marked s ≡ false → headerStep s last ≡ refusal 17
+    pub header-unmarked : marked s ≡ false → headerStep s ≡ refusal NotAJournal Header
     unfolding headerStep
     header-unmarked e = rw (le-leb 5 (length s) long, e)
 
-    pub header-version : marked s ≡ true → (leAt 2 3 s ≡ 1 → ⊥) → headerStep s last ≡ refusal 18
+    pub header-version : marked s ≡ true → (leAt 2 3 s ≡ 1 → ⊥) → headerStep s ≡ refusal UnknownVersion Header
     unfolding headerStep layoutOf
     header-version e f = rw (le-leb 5 (length s) long, e, ne-eqb (leAt 2 3 s) 1 f)
 
-    pub header-good : marked s ≡ true → leAt 2 3 s ≡ 1 → headerStep s last ≡ record { phase = Records; consumed = 5; text = headerLine version1 }
+    pub header-good : marked s ≡ true → leAt 2 3 s ≡ 1 → headerStep s ≡ oneLine 5 (headerLine version1)
     unfolding headerStep layoutOf
     header-good e f = rw (le-leb 5 (length s) long, e, eq-eqb (leAt 2 3 s) 1 f)
 
-  pub record-cut : length s < 21 → recordStep s last ≡ cutStep (length s) last
-  unfolding recordStep version1
+  pub record-cut : length s < 21 → recordStep s ≡ refusal RecordInvalid Records
+  unfolding recordStep version1 goodRecord
   record-cut h = rw (lt-leb 21 (length s) h)
 
   module _ (long : 21 ≤ length s) where
-    pub record-fault : validRecord (nodeOf s) (recordedEntry s) ≡ false → recordStep s last ≡ refusal 19
+    pub record-fault : validRecord (nodeOf s) (recordedEntry s) ≡ false → recordStep s ≡ refusal RecordInvalid Records
     unfolding recordStep version1 goodRecord
     record-fault e = rw (le-leb 21 (length s) long, e)
 
-    pub record-good : validRecord (nodeOf s) (recordedEntry s) ≡ true
-        → recordStep s last ≡ record { phase = Records; consumed = 21; text = fieldsLine (nodeOf s) (recordedEntry s) }
+    pub record-good : validRecord (nodeOf s) (recordedEntry s) ≡ true → recordStep s ≡ oneLine 21 (fieldsLine (nodeOf s) (recordedEntry s))
     unfolding recordStep version1 goodRecord recordLine fieldsLine
     record-good e = rw (le-leb 21 (length s) long, e)
 
-module _ (n : ℕ) (last : Bool) where
-  pub cut-waits : last ≡ false → cutStep n last ≡ waiting Records
-  unfolding cutStep
-  cut-waits e = rw e
+module _ (p : Phase) (n : ℕ) (last : Bool) where
+  pub awaits-none : last ≡ true → false ≡ awaits p n last
+  unfolding awaits
+  awaits-none e = rw e
 
-  pub cut-ends : last ≡ true → n ≡ 0 → cutStep n last ≡ waiting Over
-  unfolding cutStep
-  cut-ends e f = rw (e, eq-eqb n 0 f)
+  pub awaits-by : (q : Phase) → last ≡ false → p ≡ q → ltb n (needed q) ≡ awaits p n last
+  unfolding awaits
+  awaits-by q l e = rw (l, e)
 
-  pub cut-fault : last ≡ true → (n ≡ 0 → ⊥) → cutStep n last ≡ refusal 19
-  unfolding cutStep
-  cut-fault e f = rw (e, ne-eqb n 0 f)
+pub ended-by : (p : Phase) (n : ℕ) (q : Phase) → p ≡ q → ended q n ≡ ended p n
+ended-by p n q e = rw e
 
 module _ (p : Phase) (s : List ℕ) (last : Bool) (room : ℕ) where
-  pub step-full : room < 55 → stepOf p s last room ≡ waiting p
+  pub step-waits : awaits p (length s) last ≡ true → stepOf p s last room ≡ stopped More p
   unfolding stepOf
-  step-full h = rw (lt-leb 55 room h)
+  step-waits e = rw e
 
-  pub step-by : (q : Phase) → 55 ≤ room → p ≡ q → stepOf p s last room ≡ phaseStep q s last
-  unfolding stepOf
-  step-by q h e = rw (le-leb 55 room h, e)
+  module _ (enough : awaits p (length s) last ≡ false) where
+    pub step-ends : ended p (length s) ≡ true → stepOf p s last room ≡ stopped End p
+    unfolding stepOf
+    step-ends e = rw (enough, e)
+
+    module _ (some : ended p (length s) ≡ false) where
+      pub step-full : room < 55 → stepOf p s last room ≡ stopped BufferTooShort p
+      unfolding stepOf
+      step-full h = rw (enough, some, lt-leb 55 room h)
+
+      pub step-by : (q : Phase) → 55 ≤ room → p ≡ q → stepOf p s last room ≡ phaseStep q s
+      unfolding stepOf
+      step-by q h e = rw (enough, some, le-leb 55 room h, e)
 
 -- ---- what is printed
 
 pub prints-as : {p q : Piece} {r : Part} {out after : List ℕ} → p ≡ q → Prints q r out after → Prints p r out after
 prints-as e h = rw e h
 
-pub prints-none : {q : Phase} {out : List ℕ} → Prints (waiting q) (record { phase = q; consumed = 0; written = 0 }) out out
-prints-none = record { answer = refl; holds = refl }
+pub prints-none : {a : ListAnswer} {q : Phase} {r : Part} {out : List ℕ} → r ≡ told (stopped a q) → Prints (stopped a q) r out out
+prints-none e = record { answer = e; holds = refl }
 
 pub prints-text : {p : Piece} {r : ℕ} {out after : List ℕ} → Puts (p .text) 0 r out after
-    → Prints p (record { phase = p .phase; consumed = p .consumed; written = r }) out after
+    → Prints p (record { answer = p .answer; phase = p .phase; consumed = p .consumed; written = r }) out after
 prints-text {p} h = record { answer = rw (h .next, zero-add); holds = h .holds }

@@ -11,46 +11,44 @@ use lib.Seq.{drop-append-le}
 use Rattle.octets.specs.Numbers.{leAt}
 use Rattle.error_entry.specs.Entry.{entryOf, entryTypeOf}
 use Rattle.journal_records.specs.Listing.{nodeOf, recordedEntry, version1, headerLine, refusedLine, lines}
-use Rattle.journal_records.specs.Parts.{Piece, stepOf, textFrom}
+use Rattle.journal_records.specs.Parts.{Piece, stepOf, textFrom, dueAfter}
 use Rattle.journal_records.specs.declared.listing.Phase.{Phase}
 use Rattle.journal_records.proofs.LineLaws.{line-short}
 use Rattle.journal_records.proofs.RecordLaws.{valid-id}
 use Rattle.journal_records.proofs.ListLaws.{lines-none, lines-cut, lines-fault, lines-good, listing-cut, listing-unmarked, listing-version, listing-good, number-front, mark-front, node-front, entry-front}
 use Rattle.journal_records.proofs.TextLaws.{decimal-ten}
-use Rattle.journal_records.proofs.Views.{Stepped, View, view, full, stepped, ended, head-waits, head-cut, unmarked, other-version, head-good, record-waits, all-read, short, fault, good}
+use Rattle.journal_records.proofs.Views.{Lined, View, view, waits, ends, full, lined, head-cut, unmarked, other-version, head-good, short, fault, good}
 
 -- ---- one step
 
 module _ (rest : List ℕ) where
   -- the text that is due from octets on, given whether they are the last
   abbrev Due : Phase → List ℕ → Bool → Piece → Type 0
-  Due p s last q = (last ≡ true → rest ≡ []) → textFrom p (s ++ rest) ≡ q .text ++ textFrom (q .phase) (drop (q .consumed) s ++ rest)
+  Due p s last q = (last ≡ true → rest ≡ []) → textFrom p (s ++ rest) ≡ q .text ++ dueAfter (q .answer) (q .phase) (drop (q .consumed) s ++ rest)
 
   longer : (n : ℕ) (s : List ℕ) → n ≤ length s → n ≤ length (s ++ rest)
   longer n s h = rw length-append (omega arith)
 
-  stepped-due : {p : Phase} {s : List ℕ} {last : Bool} {q : Piece} → Stepped p s last q → Due p s last q
-  stepped-due ended l = refl
-  stepped-due (head-waits h) l = refl
-  stepped-due {s = s} (head-cut h) l = rw (l refl, append-nil, append-nil) (listing-cut s h)
-  stepped-due {s = s} (unmarked h m) l = rw append-nil (listing-unmarked (s ++ rest) (longer 5 s h) (mark-front s rest h ∙ m))
-  stepped-due {s = s} (other-version h m v) l =
+  lined-due : {p : Phase} {s : List ℕ} {last : Bool} {q : Piece} → Lined p s last q → Due p s last q
+  lined-due {s = s} (head-cut h) l = rw (l refl, append-nil, append-nil) (listing-cut s h)
+  lined-due {s = s} (unmarked h m) l = rw append-nil (listing-unmarked (s ++ rest) (longer 5 s h) (mark-front s rest h ∙ m))
+  lined-due {s = s} (other-version h m v) l =
       rw append-nil (listing-version (s ++ rest) (longer 5 s h) (mark-front s rest h ∙ m) (λ e. v (sym (number-front 2 3 s rest h) ∙ e)))
-  stepped-due {s = s} (head-good h m v) l =
+  lined-due {s = s} (head-good h m v) l =
       listing-good (s ++ rest) (longer 5 s h) (mark-front s rest h ∙ m) (number-front 2 3 s rest h ∙ v)
       ∙ ap (λ (t : List ℕ). headerLine version1 ++ lines version1 t) (drop-append-le 5 s rest h)
-  stepped-due (record-waits h) l = refl
-  stepped-due {s = s} (all-read h) l = rw (l refl, append-nil) (lines-none s h)
-  stepped-due {s = s} (short h n) l = rw (l refl, append-nil, append-nil) (lines-cut s h n)
-  stepped-due {s = s} (fault h e) l =
+  lined-due {s = s} (short h n) l = rw (l refl, append-nil, append-nil) (lines-cut s h n)
+  lined-due {s = s} (fault h e) l =
       rw append-nil (lines-fault (s ++ rest) (longer 21 s h) (rw (node-front s rest h, entry-front s rest h) e))
-  stepped-due {s = s} (good h e) l =
+  lined-due {s = s} (good h e) l =
       lines-good (s ++ rest) (longer 21 s h) (rw (node-front s rest h, entry-front s rest h) e)
       ∙ rw (node-front s rest h, entry-front s rest h, drop-append-le 21 s rest h)
 
   view-due : {p : Phase} {s : List ℕ} {last : Bool} {room : ℕ} {q : Piece} → View p s last room q → Due p s last q
+  view-due (waits h) l = refl
+  view-due {s = s} (ends h) l = rw (l refl, append-nil) (lines-none s h)
   view-due (full h) l = refl
-  view-due (stepped h v) l = stepped-due v l
+  view-due (lined h v) l = lined-due v l
 
   pub step-due : (p : Phase) (s : List ℕ) (last : Bool) (room : ℕ) → Due p s last (stepOf p s last room)
   step-due p s last room = view-due (view p s last room)
@@ -74,26 +72,24 @@ profile-small : (s : List ℕ) → recordedEntry s .«entry_type» .profile < 40
 unfolding entryOf entryTypeOf
 profile-small s = mod-lt (leAt 2 0 (drop 1 s)) (omega arith)
 
-stepped-bounded : {p : Phase} {s : List ℕ} {last : Bool} {q : Piece} (room : ℕ) → 55 ≤ room → Stepped p s last q → Bounded s room q
-stepped-bounded room r ended = record { most = omega arith; fits = omega arith }
-stepped-bounded room r (head-waits h) = record { most = omega arith; fits = omega arith }
-stepped-bounded room r (head-cut h) = record { most = omega arith; fits = omega (arith, refused-long 17) }
-stepped-bounded room r (unmarked h m) = record { most = omega arith; fits = omega (arith, refused-long 17) }
-stepped-bounded room r (other-version h m v) = record { most = omega arith; fits = omega (arith, refused-long 18) }
-stepped-bounded room r (head-good h m v) = record { most = h; fits = omega (arith, header-long) }
-stepped-bounded room r (record-waits h) = record { most = omega arith; fits = omega arith }
-stepped-bounded room r (all-read h) = record { most = omega arith; fits = omega arith }
-stepped-bounded room r (short h n) = record { most = omega arith; fits = omega (arith, refused-long 19) }
-stepped-bounded room r (fault h e) = record { most = omega arith; fits = omega (arith, refused-long 19) }
-stepped-bounded {s = s} room r (good h e) =
+lined-bounded : {p : Phase} {s : List ℕ} {last : Bool} {q : Piece} (room : ℕ) → 55 ≤ room → Lined p s last q → Bounded s room q
+lined-bounded room r (head-cut h) = record { most = omega arith; fits = omega (arith, refused-long 17) }
+lined-bounded room r (unmarked h m) = record { most = omega arith; fits = omega (arith, refused-long 17) }
+lined-bounded room r (other-version h m v) = record { most = omega arith; fits = omega (arith, refused-long 18) }
+lined-bounded room r (head-good h m v) = record { most = h; fits = omega (arith, header-long) }
+lined-bounded room r (short h n) = record { most = omega arith; fits = omega (arith, refused-long 19) }
+lined-bounded room r (fault h e) = record { most = omega arith; fits = omega (arith, refused-long 19) }
+lined-bounded {s = s} room r (good h e) =
     record {
       most = h;
       fits = omega (arith, line-short (nodeOf s) (recordedEntry s) (valid-id (nodeOf s) (recordedEntry s) e) (profile-small s));
     }
 
 view-bounded : {p : Phase} {s : List ℕ} {last : Bool} {room : ℕ} {q : Piece} → View p s last room q → Bounded s room q
+view-bounded (waits h) = record { most = omega arith; fits = omega arith }
+view-bounded (ends h) = record { most = omega arith; fits = omega arith }
 view-bounded (full h) = record { most = omega arith; fits = omega arith }
-view-bounded (stepped h v) = stepped-bounded _ h v
+view-bounded (lined h v) = lined-bounded _ h v
 
 pub step-bounded : (p : Phase) (s : List ℕ) (last : Bool) (room : ℕ) → Bounded s room (stepOf p s last room)
 step-bounded p s last room = view-bounded (view p s last room)

@@ -4,80 +4,102 @@ use Prim.Native.Nat.{ℕ, _≤_, _<_}
 use mathlib.Core.Bool.{Bool, true, false}
 use mathlib.Core.Path.{_≡_, refl}
 use mathlib.Core.List.{List}
-use lib.Dec.{leb, eqb}
+use lib.Dec.{leb, ltb, eqb}
 use lib.ListN.{length}
-use borrow.Author.Tests.{leb-true, leb-false, eqb-true, eqb-false}
+use native.Mathlib.Omega.{arith}
+use borrow.Author.Tests.{leb-true, leb-false, ltb-true, ltb-false, eqb-true, eqb-false}
 use Rattle.octets.specs.Numbers.{leAt}
 use Rattle.journal_records.specs.Listing.{nodeOf, recordedEntry, version1, headerLine, fieldsLine, marked}
-use Rattle.journal_records.specs.Parts.{Piece, waiting, refusal, headerStep, cutStep, recordStep, stepOf}
+use Rattle.journal_records.specs.Parts.{Piece, stopped, refusal, oneLine, headerStep, recordStep, phaseStep, needed, awaits, ended, stepOf}
 use Rattle.journal_records.specs.Record.{validRecord}
+use Rattle.journal_records.specs.declared.listing.ListAnswer.the-variants.{More, End, BufferTooShort, NotAJournal, UnknownVersion, RecordInvalid}
 use Rattle.journal_records.specs.declared.listing.Phase.{Phase}
-use Rattle.journal_records.specs.declared.listing.Phase.the-variants.{Header, Records, Over}
-use Rattle.journal_records.proofs.StepLaws.{header-cut, header-waits, header-unmarked, header-version, header-good, record-cut, record-fault, record-good, cut-waits, cut-ends, cut-fault, step-full, step-by}
+use Rattle.journal_records.specs.declared.listing.Phase.the-variants.{Header, Records}
+use Rattle.journal_records.proofs.StepLaws.{header-cut, header-unmarked, header-version, header-good, record-cut, record-fault, record-good, step-waits, step-ends, step-full, step-by}
 
--- a step that had room for a line
-pub data Stepped : Phase → List ℕ → Bool → Piece → Type 0 where
-  ended : {s : List ℕ} {last : Bool} → Stepped Over s last (waiting Over)
-  head-waits : {s : List ℕ} → length s < 5 → Stepped Header s false (waiting Header)
-  head-cut : {s : List ℕ} → length s < 5 → Stepped Header s true (refusal 17)
-  unmarked : {s : List ℕ} {last : Bool} → 5 ≤ length s → marked s ≡ false → Stepped Header s last (refusal 17)
-  other-version : {s : List ℕ} {last : Bool} → 5 ≤ length s → marked s ≡ true → (leAt 2 3 s ≡ 1 → ⊥) → Stepped Header s last (refusal 18)
-  head-good : {s : List ℕ} {last : Bool} → 5 ≤ length s → marked s ≡ true → leAt 2 3 s ≡ 1
-      → Stepped Header s last (record { phase = Records; consumed = 5; text = headerLine version1 })
-  record-waits : {s : List ℕ} → length s < 21 → Stepped Records s false (waiting Records)
-  all-read : {s : List ℕ} → length s ≡ 0 → Stepped Records s true (waiting Over)
-  short : {s : List ℕ} → length s < 21 → (length s ≡ 0 → ⊥) → Stepped Records s true (refusal 19)
-  fault : {s : List ℕ} {last : Bool} → 21 ≤ length s → validRecord (nodeOf s) (recordedEntry s) ≡ false → Stepped Records s last (refusal 19)
+-- a step that writes a line
+pub data Lined : Phase → List ℕ → Bool → Piece → Type 0 where
+  head-cut : {s : List ℕ} → length s < 5 → Lined Header s true (refusal NotAJournal Header)
+  unmarked : {s : List ℕ} {last : Bool} → 5 ≤ length s → marked s ≡ false → Lined Header s last (refusal NotAJournal Header)
+  other-version : {s : List ℕ} {last : Bool} → 5 ≤ length s → marked s ≡ true → (leAt 2 3 s ≡ 1 → ⊥) → Lined Header s last (refusal UnknownVersion Header)
+  head-good : {s : List ℕ} {last : Bool} → 5 ≤ length s → marked s ≡ true → leAt 2 3 s ≡ 1 → Lined Header s last (oneLine 5 (headerLine version1))
+  short : {s : List ℕ} → length s < 21 → (length s ≡ 0 → ⊥) → Lined Records s true (refusal RecordInvalid Records)
+  fault : {s : List ℕ} {last : Bool} → 21 ≤ length s → validRecord (nodeOf s) (recordedEntry s) ≡ false → Lined Records s last (refusal RecordInvalid Records)
   good : {s : List ℕ} {last : Bool} → 21 ≤ length s → validRecord (nodeOf s) (recordedEntry s) ≡ true
-      → Stepped Records s last (record { phase = Records; consumed = 21; text = fieldsLine (nodeOf s) (recordedEntry s) })
+      → Lined Records s last (oneLine 21 (fieldsLine (nodeOf s) (recordedEntry s)))
 
-pub data View (p : Phase) (s : List ℕ) (last : Bool) (room : ℕ) : Piece → Type 0 where
-  full : room < 55 → View p s last room (waiting p)
-  stepped : {q : Piece} → 55 ≤ room → Stepped p s last q → View p s last room q
+pub data View : Phase → List ℕ → Bool → ℕ → Piece → Type 0 where
+  waits : {p : Phase} {s : List ℕ} {room : ℕ} → length s < needed p → View p s false room (stopped More p)
+  ends : {s : List ℕ} {room : ℕ} → length s ≡ 0 → View Records s true room (stopped End Records)
+  full : {p : Phase} {s : List ℕ} {last : Bool} {room : ℕ} → room < 55 → View p s last room (stopped BufferTooShort p)
+  lined : {p : Phase} {s : List ℕ} {last : Bool} {room : ℕ} {q : Piece} → 55 ≤ room → Lined p s last q → View p s last room q
 
-seen : {p : Phase} {s : List ℕ} {last : Bool} {q q′ : Piece} → q ≡ q′ → Stepped p s last q′ → Stepped p s last q
+few : {A : Type 0} {n m : ℕ} → m < n → n ≤ m → A
+few h k = let z : ⊥ = omega arith in absurd z
+
+seen : {p : Phase} {s : List ℕ} {last : Bool} {q q′ : Piece} → q ≡ q′ → Lined p s last q′ → Lined p s last q
 seen e h = rw e h
 
-header-view : (s : List ℕ) (last : Bool) → Stepped Header s last (headerStep s last)
-header-view s last = by-length (leb 5 (length s)) refl last
+header-view : (s : List ℕ) (last : Bool) → (last ≡ false → 5 ≤ length s) → Lined Header s last (headerStep s)
+header-view s last enough = by-length (leb 5 (length s)) refl last enough
   where
-    by-version : (b last : Bool) → 5 ≤ length s → marked s ≡ true → eqb (leAt 2 3 s) 1 ≡ b → Stepped Header s last (headerStep s last)
-    by-version true last l m e = seen (header-good s last l m (eqb-true _ _ e)) (head-good l m (eqb-true _ _ e))
-    by-version false last l m e = seen (header-version s last l m (eqb-false _ _ e)) (other-version l m (eqb-false _ _ e))
+    by-version : (b last : Bool) → 5 ≤ length s → marked s ≡ true → eqb (leAt 2 3 s) 1 ≡ b → Lined Header s last (headerStep s)
+    by-version true last l m e = seen (header-good s l m (eqb-true _ _ e)) (head-good l m (eqb-true _ _ e))
+    by-version false last l m e = seen (header-version s l m (eqb-false _ _ e)) (other-version l m (eqb-false _ _ e))
 
-    by-mark : (b last : Bool) → 5 ≤ length s → marked s ≡ b → Stepped Header s last (headerStep s last)
+    by-mark : (b last : Bool) → 5 ≤ length s → marked s ≡ b → Lined Header s last (headerStep s)
     by-mark true last l m = by-version (eqb (leAt 2 3 s) 1) last l m refl
-    by-mark false last l m = seen (header-unmarked s last l m) (unmarked l m)
+    by-mark false last l m = seen (header-unmarked s l m) (unmarked l m)
 
-    by-length : (b : Bool) → leb 5 (length s) ≡ b → (last : Bool) → Stepped Header s last (headerStep s last)
-    by-length true e last = by-mark (marked s) last (leb-true _ _ e) refl
-    by-length false e true = seen (header-cut s true (leb-false _ _ e) refl) (head-cut (leb-false _ _ e))
-    by-length false e false = seen (header-waits s false (leb-false _ _ e) refl) (head-waits (leb-false _ _ e))
+    by-length : (b : Bool) → leb 5 (length s) ≡ b → (last : Bool) → (last ≡ false → 5 ≤ length s) → Lined Header s last (headerStep s)
+    by-length true e last f = by-mark (marked s) last (leb-true _ _ e) refl
+    by-length false e true f = seen (header-cut s (leb-false _ _ e)) (head-cut (leb-false _ _ e))
+    by-length false e false f = few (leb-false _ _ e) (f refl)
 
-record-view : (s : List ℕ) (last : Bool) → Stepped Records s last (recordStep s last)
-record-view s last = by-length (leb 21 (length s)) refl last
+record-view : (s : List ℕ) (last : Bool) → (last ≡ false → 21 ≤ length s) → (length s ≡ 0 → ⊥) → Lined Records s last (recordStep s)
+record-view s last enough some = by-length (leb 21 (length s)) refl last enough
   where
-    by-fault : (b last : Bool) → 21 ≤ length s → validRecord (nodeOf s) (recordedEntry s) ≡ b → Stepped Records s last (recordStep s last)
-    by-fault true last l e = seen (record-good s last l e) (good l e)
-    by-fault false last l e = seen (record-fault s last l e) (fault l e)
+    by-fault : (b last : Bool) → 21 ≤ length s → validRecord (nodeOf s) (recordedEntry s) ≡ b → Lined Records s last (recordStep s)
+    by-fault true last l e = seen (record-good s l e) (good l e)
+    by-fault false last l e = seen (record-fault s l e) (fault l e)
 
-    by-end : (b : Bool) → length s < 21 → eqb (length s) 0 ≡ b → Stepped Records s true (cutStep (length s) true)
-    by-end true l e = seen (cut-ends (length s) true refl (eqb-true _ _ e)) (all-read (eqb-true _ _ e))
-    by-end false l e = seen (cut-fault (length s) true refl (eqb-false _ _ e)) (short l (eqb-false _ _ e))
+    by-length : (b : Bool) → leb 21 (length s) ≡ b → (last : Bool) → (last ≡ false → 21 ≤ length s) → Lined Records s last (recordStep s)
+    by-length true e last f = by-fault (validRecord (nodeOf s) (recordedEntry s)) last (leb-true _ _ e) refl
+    by-length false e true f = seen (record-cut s (leb-false _ _ e)) (short (leb-false _ _ e) some)
+    by-length false e false f = few (leb-false _ _ e) (f refl)
 
-    by-length : (b : Bool) → leb 21 (length s) ≡ b → (last : Bool) → Stepped Records s last (recordStep s last)
-    by-length true e last = by-fault (validRecord (nodeOf s) (recordedEntry s)) last (leb-true _ _ e) refl
-    by-length false e true = seen (record-cut s true (leb-false _ _ e)) (by-end (eqb (length s) 0) (leb-false _ _ e) refl)
-    by-length false e false = seen (record-cut s false (leb-false _ _ e)) (seen (cut-waits (length s) false refl) (record-waits (leb-false _ _ e)))
+-- a step that has octets enough
+module _ (s : List ℕ) (last : Bool) (room : ℕ) where
+  line-view : (p : Phase) → awaits p (length s) last ≡ false → ended p (length s) ≡ false → Lined p s last (phaseStep p s)
+      → View p s last room (stepOf p s last room)
+  line-view p a e l = by-room (leb 55 room) refl
+    where
+      by-room : (b : Bool) → leb 55 room ≡ b → View p s last room (stepOf p s last room)
+      by-room true r = rw (step-by p s last room a e p (leb-true _ _ r) refl) (lined (leb-true _ _ r) l)
+      by-room false r = rw (step-full p s last room a e (leb-false _ _ r)) (full (leb-false _ _ r))
 
-phase-view : (p : Phase) (s : List ℕ) (last : Bool) (room : ℕ) → 55 ≤ room → Stepped p s last (stepOf p s last room)
-phase-view Header s last room h = seen (step-by Header s last room Header h refl) (header-view s last)
-phase-view Records s last room h = seen (step-by Records s last room Records h refl) (record-view s last)
-phase-view Over s last room h = seen (step-by Over s last room Over h refl) ended
+  end-view : awaits Records (length s) last ≡ false → (last ≡ false → 21 ≤ length s) → View Records s last room (stepOf Records s last room)
+  unfolding ended
+  end-view a enough = by-end (eqb (length s) 0) refl
+    where
+      at-end : (last′ : Bool) → last ≡ last′ → length s ≡ 0 → View Records s last room (stopped End Records)
+      at-end true l z = rw l (ends z)
+      at-end false l z = let y : ⊥ = omega (arith, enough l) in absurd y
+
+      by-end : (b : Bool) → eqb (length s) 0 ≡ b → View Records s last room (stepOf Records s last room)
+      by-end true e = rw (step-ends Records s last room a e) (at-end last refl (eqb-true _ _ e))
+      by-end false e = line-view Records a e (record-view s last enough (eqb-false _ _ e))
+
+  enough-view : (p : Phase) → awaits p (length s) last ≡ false → (last ≡ false → needed p ≤ length s) → View p s last room (stepOf p s last room)
+  unfolding version1 ended
+  enough-view Header a enough = line-view Header a refl (header-view s last enough)
+  enough-view Records a enough = end-view a enough
 
 pub view : (p : Phase) (s : List ℕ) (last : Bool) (room : ℕ) → View p s last room (stepOf p s last room)
-view p s last room = by-room (leb 55 room) refl
+unfolding awaits
+view p s true room = enough-view s true room p refl (λ e. let z : _≡_ {A = ℕ} 0 1 = cc in let y : ⊥ = omega arith in absurd y)
+view p s false room = by-length (ltb (length s) (needed p)) refl
   where
-    by-room : (b : Bool) → leb 55 room ≡ b → View p s last room (stepOf p s last room)
-    by-room true e = stepped (leb-true _ _ e) (phase-view p s last room (leb-true _ _ e))
-    by-room false e = rw (step-full p s last room (leb-false _ _ e)) (full (leb-false _ _ e))
+    by-length : (b : Bool) → ltb (length s) (needed p) ≡ b → View p s false room (stepOf p s false room)
+    by-length true e = rw (step-waits p s false room e) (waits (ltb-true _ _ e))
+    by-length false e = enough-view s false room p e (λ f. ltb-false _ _ e)

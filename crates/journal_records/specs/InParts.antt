@@ -1,37 +1,45 @@
 -- Calls one after the other print the listing, however the journal is cut into parts.
 -- Assumes nothing.
-use Prim.Native.Nat.{ℕ, _≤_, _<_}
+use Prim.Native.Nat.{ℕ, _+_, _≤_, _<_}
 use mathlib.Core.Bool.{Bool, true, false}
-use mathlib.Core.Logic.{_⊎_}
 use mathlib.Core.Path.{_≡_}
 use mathlib.Core.List.{List, [], _++_}
 use lib.ListN.{length, take, drop}
 use Rattle.journal_records.specs.Listing.{lineMost, listing}
-use Rattle.journal_records.specs.Parts.{Lists, textFrom, needed}
+use Rattle.journal_records.specs.Parts.{Lists, textFrom, needed, goesOn, dueAfter}
+use Rattle.journal_records.specs.declared.listing.ListAnswer.the-variants.{More, BufferTooShort}
 use Rattle.journal_records.specs.declared.listing.Part.{Part}
 use Rattle.journal_records.specs.declared.listing.Phase.{Phase}
-use Rattle.journal_records.specs.declared.listing.Phase.the-variants.{Header, Over}
+use Rattle.journal_records.specs.declared.listing.Phase.the-variants.{Header}
 
--- Calls of `list_part` until the phase is `Over`. The octets that are not yet consumed are s ++ rest at each: s is lent, of any
--- length, and rest is what the input still holds, nothing where `last` says so. Each call is lent `room` octets or more for its
--- text. `text` is what the calls print in all.
+-- Calls of `list_part` until one answers the end or a refusal. The octets that are not yet consumed are s ++ rest at each: s is
+-- lent, of any length, and rest is what the input still holds, nothing where `last` says so. Each call is lent `room` octets or
+-- more for its text. The last list is what the calls print in all.
 pub data Run (room : ℕ) : Phase → List ℕ → List ℕ → Type 0 where
-  over : {left : List ℕ} → Run room Over left []
+  over : {p : Phase} {s rest : List ℕ} {last : Bool} {r : Part} {out after : List ℕ} → Lists p s last r out after
+      → room ≤ length out → (last ≡ true → rest ≡ []) → goesOn (r .answer) ≡ false
+      → Run room p (s ++ rest) (take (r .written) after)
   call : {p : Phase} {s rest : List ℕ} {last : Bool} {r : Part} {out after text : List ℕ} → Lists p s last r out after
-      → room ≤ length out → (last ≡ true → rest ≡ []) → Run room (r .phase) (drop (r .consumed) s ++ rest) text
+      → room ≤ length out → (last ≡ true → rest ≡ []) → goesOn (r .answer) ≡ true
+      → Run room (r .phase) (drop (r .consumed) s ++ rest) text
       → Run room p (s ++ rest) (take (r .written) after ++ text)
 
 pub record ListsInParts : Type 0 where
-  -- one call prints the start of the text that is due, and leaves the rest due
+  -- one call prints the start of the text that is due, and leaves the rest due: none, after the end or a refusal
   pub text : {p : Phase} {s : List ℕ} {last : Bool} {r : Part} {out after : List ℕ} → Lists p s last r out after → (rest : List ℕ)
       → (last ≡ true → rest ≡ [])
-      → textFrom p (s ++ rest) ≡ take (r .written) after ++ textFrom (r .phase) (drop (r .consumed) s ++ rest)
+      → textFrom p (s ++ rest) ≡ take (r .written) after ++ dueAfter (r .answer) (r .phase) (drop (r .consumed) s ++ rest)
   -- and stays within what it was lent
   pub within : {p : Phase} {s : List ℕ} {last : Bool} {r : Part} {out after : List ℕ} → Lists p s last r out after
       → (r .consumed ≤ length s) × (r .written ≤ length out) × (length after ≡ length out)
-  -- with room for a line, a call consumes something, or it is over, or more octets have to come
-  pub progress : {p : Phase} {s : List ℕ} {last : Bool} {r : Part} {out after : List ℕ} → Lists p s last r out after → lineMost ≤ length out
-      → (0 < r .consumed) ⊎ ((r .phase ≡ Over) ⊎ ((last ≡ false) × (length s < needed p)))
+  -- octets have to come only where they may, and fewer are left than a record has, or mark and version
+  pub more : {p : Phase} {s : List ℕ} {last : Bool} {r : Part} {out after : List ℕ} → Lists p s last r out after → r .answer ≡ More
+      → (last ≡ false) × (length s < r .consumed + needed (r .phase))
+  -- 1 is answered only where the room left is less than the longest line has; so with room for a line something was listed
+  pub full : {p : Phase} {s : List ℕ} {last : Bool} {r : Part} {out after : List ℕ} → Lists p s last r out after → r .answer ≡ BufferTooShort
+      → length out < r .written + lineMost
+  pub progress : {p : Phase} {s : List ℕ} {last : Bool} {r : Part} {out after : List ℕ} → Lists p s last r out after → r .answer ≡ BufferTooShort
+      → lineMost ≤ length out → 0 < r .consumed
   -- whatever room the calls have, what they print in all is the listing
   pub listed : {room : ℕ} {input text : List ℕ} → Run room Header input text → text ≡ listing input
   -- and there is such a run wherever each call has room for a line: from any phase and any octets left, calls go on to the end

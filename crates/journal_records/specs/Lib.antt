@@ -1,3 +1,4 @@
+pub mod Causes
 pub mod InParts
 pub mod Listing
 pub mod Parts

@@ -1,12 +1,14 @@
 -- Records that are written are listed with their fields.
 -- Assumes nothing.
 use Prim.Native.Nat.{ℕ, _%_, _^_, _<_}
+use mathlib.Core.Bool.{true}
 use mathlib.Core.Path.{_≡_}
 use mathlib.Core.List.{List, [], _∷_, _++_}
 use lib.ListN.{take}
+use Rattle.octets.specs.Numbers.{leAt}
 use Rattle.types.specs.declared.NodeId.{NodeId}
 use Rattle.error_entry.specs.declared.ErrorEntry.{ErrorEntry}
-use Rattle.journal_records.specs.Listing.{version1, headerLine, fieldsLine, listing}
+use Rattle.journal_records.specs.Listing.{known, version1, headerLine, fieldsLine, layoutOf, marked, listing}
 use Rattle.journal_records.specs.Record.{WritesRecord}
 use Rattle.journal_records.specs.declared.JournalAnswer.{JournalAnswer}
 use Rattle.journal_records.specs.declared.JournalAnswer.the-variants.{Written}
@@ -52,6 +54,15 @@ fieldsLines (x ∷ xs) = fieldsLine (x .node .0) (masked (x .entry)) ++ fieldsLi
 -- `PLB` and version 1, which the caller writes
 abbrev pub journalStart : List ℕ
 journalStart = 80 ∷ 76 ∷ 66 ∷ 1 ∷ 0 ∷ []
+
+-- 01's first five octets, 50 4C 42 01 00 h: they are what the caller writes, and the listing takes them and no others
+pub record StartTold : Type 0 where
+  pub octets : journalStart ≡ 0x50 ∷ 0x4C ∷ 0x42 ∷ 0x01 ∷ 0x00 ∷ []
+  pub mark : (s : List ℕ) → marked (0x50 ∷ 0x4C ∷ 0x42 ∷ s) ≡ true
+  pub version : (a b c : ℕ) (s : List ℕ) → layoutOf (leAt 2 3 (a ∷ b ∷ c ∷ 0x01 ∷ 0x00 ∷ s)) ≡ known version1
+  pub alone : (a b c d e : ℕ) (s : List ℕ) → marked (a ∷ b ∷ c ∷ d ∷ e ∷ s) ≡ true
+      → layoutOf (leAt 2 3 (a ∷ b ∷ c ∷ d ∷ e ∷ s)) ≡ known version1
+      → a ∷ b ∷ c ∷ d ∷ e ∷ [] ≡ 0x50 ∷ 0x4C ∷ 0x42 ∷ 0x01 ∷ 0x00 ∷ []
 
 -- ---- 01's example
 

@@ -10,6 +10,9 @@ use error_entry::ErrorEntry;
 use types::NodeId;
 use types::error_mode::ErrorEntryMode;
 
+// The version whose records are written and listed.
+pub(crate) const VERSION: u16 = 1;
+
 // The octets of mark and version.
 pub const JOURNAL_START_LEN: usize = 5;
 
@@ -71,7 +74,7 @@ pub fn whole_len(version: u16, len: usize) -> WholeLenAnswer
     if len < JOURNAL_START_LEN {
         return WholeLenAnswer::TooShort;
     }
-    if version != 1 {
+    if version != VERSION {
         return WholeLenAnswer::UnknownVersion;
     }
     let records = (len - JOURNAL_START_LEN) / RECORD_LEN;

@@ -4,48 +4,42 @@ use mathlib.Core.Path.{refl, sym, _∙_}
 use borrow.Author.Needs.{needs}
 use borrow.Author.Tests.{not-true, not-false, eqb-true, eqb-false}
 use Rattle.journal_records.specs.Listing.{version1, headerLine}
-use Rattle.journal_records.proofs.StepLaws.{header-cut, header-waits, header-unmarked, header-version, header-good, prints-as, prints-none}
+use Rattle.journal_records.proofs.StepLaws.{header-cut, header-unmarked, header-version, header-good, prints-as}
 use Rattle.journal_records.proofs.listing.header.Statement.{statement}
 use Rattle.journal_records.proofs.listing.header.Tie as tie
 
 returns : tie.Need-returns
-returns c =
-    let r = c .before .before in
-    let i = r .before .before in
-    prints-as (header-cut _ _ (i .before .if1 .taken) (i .if2 .taken)) (r .refuse .ensures)
+returns c = let r = c .before .before in prints-as (header-cut _ (r .before .before .if1 .taken)) (r .refuse .ensures)
 
 returns-2 : tie.Need-returns-2
-returns-2 c = prints-as (header-waits _ _ (c .before .if1 .taken) (c .if2 .left)) prints-none
-
-returns-3 : tie.Need-returns-3
-returns-3 c =
+returns-2 c =
     let r = c .before .before in
     let i = r .before .before in
     let m = i .before .before in
-    prints-as (header-unmarked _ _ (m .before .if1 .left) (sym (m .has-mark .ensures) ∙ not-true _ (i .if3 .taken))) (r .refuse2 .ensures)
+    prints-as (header-unmarked _ (m .before .if1 .left) (sym (m .has-mark .ensures) ∙ not-true _ (i .if2 .taken))) (r .refuse2 .ensures)
 
-returns-4 : tie.Need-returns-4
-returns-4 c =
+returns-3 : tie.Need-returns-3
+returns-3 c =
     let r = c .before .before in
     let i = r .before .before in
     let j = i .before in
     let g = j .before in
     let m = g .before in
     prints-as
-    (header-version _ _ (m .before .if1 .left) (sym (m .has-mark .ensures) ∙ not-false _ (j .if3 .left))
-    (λ e. eqb-false _ _ (not-true _ (i .if4 .taken)) (g .get-u16-le .ensures ∙ e)))
+    (header-version _ (m .before .if1 .left) (sym (m .has-mark .ensures) ∙ not-false _ (j .if2 .left))
+    (λ e. eqb-false _ _ (not-true _ (i .if3 .taken)) (g .get-u16-le .ensures ∙ e)))
     (r .refuse3 .ensures)
 
-returns-5 : tie.Need-returns-5
+returns-4 : tie.Need-returns-4
 unfolding version1 headerLine
-returns-5 c =
+returns-4 c =
     let p = c .before .before in
     let i = p .before .before .before in
     let j = i .before in
     let g = j .before in
     let m = g .before in
     prints-as
-    (header-good _ _ (m .before .if1 .left) (sym (m .has-mark .ensures) ∙ not-false _ (j .if3 .left)) (sym (g .get-u16-le .ensures) ∙ eqb-true _ _ (not-false _ (i .if4 .left))))
+    (header-good _ (m .before .if1 .left) (sym (m .has-mark .ensures) ∙ not-false _ (j .if2 .left)) (sym (g .get-u16-le .ensures) ∙ eqb-true _ _ (not-false _ (i .if3 .left))))
     (record { answer = refl; holds = p .put .ensures })
 
 pub header-spec : {M : Type 1} → statement M
@@ -55,16 +49,15 @@ header-spec =
     (λ c κs. search needs)
     (λ c. search needs)
     returns
+    (λ c κs. search needs)
+    (λ c κs. search needs)
+    (λ c κs. search needs)
+    (λ c. search needs)
     returns-2
-    (λ c κs. search needs)
-    (λ c κs. search needs)
     (λ c κs. search needs)
     (λ c. search needs)
     returns-3
-    (λ c κs. search needs)
-    (λ c. search needs)
-    returns-4
     (λ c. search needs)
     (λ c κs. search needs)
     (λ c. search needs)
-    returns-5)
+    returns-4)

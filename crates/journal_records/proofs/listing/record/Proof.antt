@@ -14,7 +14,7 @@ use Rattle.journal_records.proofs.listing.record.Tie as tie
 returns : tie.Need-returns
 returns c =
     let r = c .before .before in
-    prints-as (record-cut _ _ (r .before .before .if1 .taken)) (r .cut .ensures)
+    prints-as (record-cut _ (r .before .before .if1 .taken)) (r .refuse .ensures)
 
 returns-2 : tie.Need-returns-2
 returns-2 c =
@@ -24,9 +24,9 @@ returns-2 c =
     let e = v .before in
     let t = e .before in
     prints-as
-    (record-fault _ _ (t .before .before .if1 .left)
-    (ap (validRecord _) (sym (e .entry-at .ensures ∙ ap entryOf (t .tail .ensures .octets))) ∙ sym (v .valid .ensures) ∙ not-true _ (i .if2 .taken)))
-    (r .refuse .ensures)
+    (record-fault _ (t .before .before .if1 .left)
+    (ap (validRecord _) (sym (e .entry-at .ensures ∙ ap entryOf (t .tail .ensures))) ∙ sym (v .valid .ensures) ∙ not-true _ (i .if2 .taken)))
+    (r .refuse2 .ensures)
 
 returns-3 : tie.Need-returns-3
 returns-3 c =
@@ -37,7 +37,7 @@ returns-3 c =
     let t = e .before in
     let read = e .entry-at .ensures ∙ ap entryOf (t .tail .ensures .octets) in
     prints-as
-    (record-good _ _ (t .before .before .if1 .left)
+    (record-good _ (t .before .before .if1 .left)
     (ap (validRecord _) (sym read) ∙ sym (v .valid .ensures) ∙ not-false _ (i .if2 .left)))
     (prints-text (put-as (p .put-line .ensures) (ap (fieldsLine _) read)))
 

@@ -1,0 +1,112 @@
+-- The numbers of the journal's answers are those of 01's table, and rows tell answers apart: each is read back from its row.
+-- Assumes nothing.
+use Prim.Native.Nat.{ℕ}
+use mathlib.Core.Path.{_≡_, refl, sym, ap, _∙_}
+use mathlib.Core.List.{[], _∷_}
+use lib.Dec.{eqb}
+use lib.ListN.{getD}
+use Rattle.types.specs.Causes.{Cause, row}
+use Rattle.types.specs.Codes.{pick}
+use Rattle.journal_records.specs.Causes.{CausesTell}
+use Rattle.journal_records.specs.Parts.{listCause}
+use Rattle.journal_records.specs.Record.{journalCause}
+use Rattle.journal_records.specs.Whole.{wholeLenCause}
+use Rattle.journal_records.specs.declared.JournalAnswer.{JournalAnswer}
+use Rattle.journal_records.specs.declared.JournalAnswer.the-variants as written
+use Rattle.journal_records.specs.declared.WholeLenAnswer.{WholeLenAnswer}
+use Rattle.journal_records.specs.declared.WholeLenAnswer.the-variants as whole
+use Rattle.journal_records.specs.declared.listing.ListAnswer.{ListAnswer}
+use Rattle.journal_records.specs.declared.listing.ListAnswer.the-variants as listing
+
+tells : {A : Type 0} (cause : A → Cause) (answer : Cause → A) → ((a : A) → answer (cause a) ≡ a) → (a b : A) → cause a ≡ cause b → a ≡ b
+tells cause answer back a b e = sym (back a) ∙ ap answer e ∙ back b
+
+-- ---- reading back
+
+abbrev journalOf : Cause → JournalAnswer
+journalOf c = pick (eqb (c .number) 0) (written.Written (getD (c .returned) 0 0)) (pick (eqb (c .number) 1) written.BufferTooShort written.RecordInvalid)
+
+journal-back : (a : JournalAnswer) → journalOf (journalCause a) ≡ a
+journal-back (written.Written n) = refl
+journal-back written.BufferTooShort = refl
+journal-back written.RecordInvalid = refl
+
+abbrev wholeLenOf : Cause → WholeLenAnswer
+wholeLenOf c = pick (eqb (c .number) 0) (whole.Whole (getD (c .returned) 0 0)) (pick (eqb (c .number) 17) whole.TooShort whole.UnknownVersion)
+
+whole-len-back : (a : WholeLenAnswer) → wholeLenOf (wholeLenCause a) ≡ a
+whole-len-back (whole.Whole n) = refl
+whole-len-back whole.TooShort = refl
+whole-len-back whole.UnknownVersion = refl
+
+abbrev listOf : Cause → ListAnswer
+listOf c =
+    pick (eqb (c .number) 0) (pick (eqb (getD (c .returned) 0 0) 0) listing.More listing.End)
+    (pick (eqb (c .number) 1) listing.BufferTooShort
+    (pick (eqb (c .number) 17) listing.NotAJournal (pick (eqb (c .number) 18) listing.UnknownVersion listing.RecordInvalid)))
+
+list-back : (a : ListAnswer) → listOf (listCause a) ≡ a
+list-back listing.More = refl
+list-back listing.End = refl
+list-back listing.BufferTooShort = refl
+list-back listing.NotAJournal = refl
+list-back listing.UnknownVersion = refl
+list-back listing.RecordInvalid = refl
+
+-- ---- the numbers
+
+journal-written : (n : ℕ) → journalCause (written.Written n) ≡ row 0 (n ∷ [])
+journal-written n = refl
+
+journal-short : journalCause written.BufferTooShort ≡ row 1 []
+journal-short = refl
+
+journal-invalid : journalCause written.RecordInvalid ≡ row 19 []
+journal-invalid = refl
+
+whole-len-whole : (n : ℕ) → wholeLenCause (whole.Whole n) ≡ row 0 (n ∷ [])
+whole-len-whole n = refl
+
+whole-len-short : wholeLenCause whole.TooShort ≡ row 17 []
+whole-len-short = refl
+
+whole-len-version : wholeLenCause whole.UnknownVersion ≡ row 18 []
+whole-len-version = refl
+
+list-more : listCause listing.More ≡ row 0 (0 ∷ [])
+list-more = refl
+
+list-end : listCause listing.End ≡ row 0 (1 ∷ [])
+list-end = refl
+
+list-short : listCause listing.BufferTooShort ≡ row 1 []
+list-short = refl
+
+list-no-journal : listCause listing.NotAJournal ≡ row 17 []
+list-no-journal = refl
+
+list-version : listCause listing.UnknownVersion ≡ row 18 []
+list-version = refl
+
+list-invalid : listCause listing.RecordInvalid ≡ row 19 []
+list-invalid = refl
+
+pub causes-tell : CausesTell
+causes-tell =
+    record {
+      journal = tells journalCause journalOf journal-back;
+      journalWritten = journal-written;
+      journalShort = journal-short;
+      journalInvalid = journal-invalid;
+      wholeLen = tells wholeLenCause wholeLenOf whole-len-back;
+      wholeLenWhole = whole-len-whole;
+      wholeLenShort = whole-len-short;
+      wholeLenVersion = whole-len-version;
+      list = tells listCause listOf list-back;
+      listMore = list-more;
+      listEnd = list-end;
+      listShort = list-short;
+      listNoJournal = list-no-journal;
+      listVersion = list-version;
+      listInvalid = list-invalid;
+    }
