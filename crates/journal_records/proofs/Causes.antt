@@ -41,12 +41,13 @@ whole-len-back whole.UnknownVersion = refl
 
 abbrev listOf : Cause → ListAnswer
 listOf c =
-    pick (eqb (c .number) 0) (pick (eqb (getD (c .returned) 0 0) 0) listing.More listing.End)
+    pick (eqb (c .number) 0) (pick (eqb (getD (c .returned) 0 0) 0) listing.More (pick (eqb (getD (c .returned) 0 0) 1) listing.Full listing.End))
     (pick (eqb (c .number) 1) listing.BufferTooShort
     (pick (eqb (c .number) 17) listing.NotAJournal (pick (eqb (c .number) 18) listing.UnknownVersion listing.RecordInvalid)))
 
 list-back : (a : ListAnswer) → listOf (listCause a) ≡ a
 list-back listing.More = refl
+list-back listing.Full = refl
 list-back listing.End = refl
 list-back listing.BufferTooShort = refl
 list-back listing.NotAJournal = refl
@@ -76,7 +77,10 @@ whole-len-version = refl
 list-more : listCause listing.More ≡ row 0 (0 ∷ [])
 list-more = refl
 
-list-end : listCause listing.End ≡ row 0 (1 ∷ [])
+list-full : listCause listing.Full ≡ row 0 (1 ∷ [])
+list-full = refl
+
+list-end : listCause listing.End ≡ row 0 (2 ∷ [])
 list-end = refl
 
 list-short : listCause listing.BufferTooShort ≡ row 1 []
@@ -104,6 +108,7 @@ causes-tell =
       wholeLenVersion = whole-len-version;
       list = tells listCause listOf list-back;
       listMore = list-more;
+      listFull = list-full;
       listEnd = list-end;
       listShort = list-short;
       listNoJournal = list-no-journal;

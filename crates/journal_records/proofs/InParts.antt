@@ -12,20 +12,28 @@ use lib.Seq.{drop-drop, take-append-seam}
 use borrow.Author.Tests.{eqb-true, eqb-false}
 use Rattle.journal_records.specs.InParts.{Run, over, call, ListsInParts}
 use Rattle.journal_records.specs.Listing.{version1}
-use Rattle.journal_records.specs.Parts.{Piece, ahead, stepOf, partOf, told, Lists, listCause, textFrom, goesOn, dueAfter, needed}
+use Rattle.journal_records.specs.Parts.{Piece, stopped, ahead, stepOf, partOf, told, Lists, textFrom, goesOn, dueAfter, needed}
 use Rattle.types.specs.Codes.{pick}
 use Rattle.journal_records.specs.declared.listing.ListAnswer.{ListAnswer}
-use Rattle.journal_records.specs.declared.listing.ListAnswer.the-variants.{More, End, BufferTooShort, NotAJournal, UnknownVersion, RecordInvalid}
+use Rattle.journal_records.specs.declared.listing.ListAnswer.the-variants.{More, Full, End, BufferTooShort, NotAJournal, UnknownVersion, RecordInvalid}
 use Rattle.journal_records.specs.declared.listing.Part.{Part}
 use Rattle.journal_records.specs.declared.listing.Phase.{Phase}
+use Rattle.journal_records.proofs.Answers.{crowded, after-on, after-room, after-more, after-never}
 use Rattle.journal_records.proofs.PartLaws.{fewer, part-stops, part-goes-on}
 use Rattle.journal_records.proofs.Steps.{Bounded, step-due, step-bounded}
 use Rattle.journal_records.proofs.Views.{Lined, View, view, waits, ends, full, lined, head-cut, unmarked, other-version, head-good, short, fault, good}
 
+some-sum : (c d : ℕ) → (c ≡ 0 → ⊥) → 0 < c + d
+some-sum zero d f = absurd (f refl)
+some-sum (suc c) d f = omega arith
+
 -- ---- what the answer of a step tells
 
-numbers : {a b : ListAnswer} → a ≡ b → listCause a .number ≡ listCause b .number
-numbers e = ap (λ (x : ListAnswer). listCause x .number) e
+never : _≡_ {A = ℕ} 0 1 → ⊥
+never e = omega arith
+
+not-both : {A : Type 0} {b : Bool} → b ≡ true → b ≡ false → A
+not-both t f = let z : _≡_ {A = ℕ} 0 1 = cc in let y : ⊥ = omega arith in absurd y
 
 lined-line : {p : Phase} {s : List ℕ} {last : Bool} {q : Piece} → Lined p s last q → (q .consumed ≡ 0 → ⊥) → q .answer ≡ More
 lined-line (head-cut h) f = absurd (f refl)
@@ -36,15 +44,15 @@ lined-line (short h n) f = absurd (f refl)
 lined-line (fault h e) f = absurd (f refl)
 lined-line (good h e) f = refl
 
--- a line is consumed for, or it is that of a refusal
-lined-refused : {p : Phase} {s : List ℕ} {last : Bool} {q : Piece} → Lined p s last q → (listCause (q .answer) .number ≡ 1 → ⊥) × (q .consumed ≡ 0 → listCause (q .answer) .number ≡ 0 → ⊥)
-lined-refused (head-cut h) = (λ e. omega arith, λ z e. omega arith)
-lined-refused (unmarked h m) = (λ e. omega arith, λ z e. omega arith)
-lined-refused (other-version h m v) = (λ e. omega arith, λ z e. omega arith)
-lined-refused (head-good h m v) = (λ e. omega arith, λ z e. omega arith)
-lined-refused (short h n) = (λ e. omega arith, λ z e. omega arith)
-lined-refused (fault h k) = (λ e. omega arith, λ z e. omega arith)
-lined-refused (good h k) = (λ e. omega arith, λ z e. omega arith)
+-- a line is written for octets that it consumes, or for a refusal
+lined-room : {p : Phase} {s : List ℕ} {last : Bool} {q : Piece} → Lined p s last q → (crowded (q .answer) ≡ false) × (q .consumed ≡ 0 → q .answer ≡ More → ⊥)
+lined-room (head-cut h) = (refl, λ z e. never (cc))
+lined-room (unmarked h m) = (refl, λ z e. never (cc))
+lined-room (other-version h m v) = (refl, λ z e. never (cc))
+lined-room (head-good h m v) = (refl, λ z e. omega arith)
+lined-room (short h n) = (refl, λ z e. never (cc))
+lined-room (fault h k) = (refl, λ z e. never (cc))
+lined-room (good h k) = (refl, λ z e. omega arith)
 
 view-line : {p : Phase} {s : List ℕ} {last : Bool} {room : ℕ} {q : Piece} → View p s last room q → (q .consumed ≡ 0 → ⊥) → q .answer ≡ More
 view-line (waits h) f = refl
@@ -52,18 +60,29 @@ view-line (ends h) f = absurd (f refl)
 view-line (full h) f = absurd (f refl)
 view-line (lined r l) f = lined-line l f
 
-view-full : {p : Phase} {s : List ℕ} {last : Bool} {room : ℕ} {q : Piece} → View p s last room q → q .answer ≡ BufferTooShort → room < 55
-view-full (waits h) e = let z : _≡_ {A = ℕ} 0 1 = numbers e in omega arith
-view-full (ends h) e = let z : _≡_ {A = ℕ} 0 1 = numbers e in omega arith
-view-full (full h) e = h
-view-full (lined r l) e = absurd (lined-refused l .0 (numbers e))
-
 view-more : {p : Phase} {s : List ℕ} {last : Bool} {room : ℕ} {q : Piece} → View p s last room q → q .consumed ≡ 0 → q .answer ≡ More
     → (last ≡ false) × (length s < q .consumed + needed (q .phase))
 view-more (waits h) z e = (refl, omega arith)
-view-more (ends h) z e = let y : _≡_ {A = ℕ} 0 1 = cc in let x : ⊥ = omega arith in absurd x
-view-more (full h) z e = let y : _≡_ {A = ℕ} 1 0 = numbers e in let x : ⊥ = omega arith in absurd x
-view-more (lined r l) z e = absurd (lined-refused l .1 z (numbers e))
+view-more (ends h) z e = absurd (never (cc))
+view-more (full h) z e = absurd (never (cc))
+view-more (lined r l) z e = absurd (lined-room l .1 z e)
+
+-- what a step answers where there is no room
+view-crowded : {p : Phase} {s : List ℕ} {last : Bool} {room : ℕ} {q : Piece} → View p s last room q → crowded (q .answer) ≡ true
+    → (room < 55) × (q ≡ stopped BufferTooShort p)
+view-crowded (waits h) e = not-both e refl
+view-crowded (ends h) e = not-both e refl
+view-crowded (full h) e = (h, refl)
+view-crowded (lined r l) e = not-both e (lined-room l .0)
+
+view-full : {p : Phase} {s : List ℕ} {last : Bool} {room : ℕ} {q : Piece} → View p s last room q → crowded (q .answer) ≡ true → room < 55
+view-full v e = view-crowded v e .0
+
+view-short : {p : Phase} {s : List ℕ} {last : Bool} {room : ℕ} {q : Piece} → View p s last room q → q .answer ≡ BufferTooShort → q ≡ stopped BufferTooShort p
+view-short v e = view-crowded v (ap crowded e) .1
+
+view-never : {p : Phase} {s : List ℕ} {last : Bool} {room : ℕ} {q : Piece} → View p s last room q → q .answer ≡ Full → ⊥
+view-never v e = let s = ap (λ (q : Piece). q .answer) (view-crowded v (ap crowded e) .1) in never (cc)
 
 line-more : (p : Phase) (s : List ℕ) (last : Bool) (room : ℕ) → (stepOf p s last room .consumed ≡ 0 → ⊥) → stepOf p s last room .answer ≡ More
 line-more p s last room f = view-line (view p s last room) f
@@ -105,7 +124,11 @@ module _ (last : Bool) where
       step-due rest p s last room l
       ∙ ap (λ (a : ListAnswer). stepOf p s last room .text ++ dueAfter a (stepOf p s last room .phase) (drop (stepOf p s last room .consumed) s ++ rest)) (line-more p s last room f)
       ∙ ap (λ (t : List ℕ). stepOf p s last room .text ++ t) e
-      ∙ joins (stepOf p s last room .text) (q .text) (q .answer) (q .phase) (stepOf p s last room .consumed) (q .consumed) s rest)
+      ∙ joins (stepOf p s last room .text) (q .text) (q .answer) (q .phase) (stepOf p s last room .consumed) (q .consumed) s rest
+      ∙ ap
+      (λ (b : Bool).
+      (stepOf p s last room .text ++ q .text) ++ pick b (textFrom (q .phase) (drop (stepOf p s last room .consumed + q .consumed) s ++ rest)) [])
+      (sym (after-on (stepOf p s last room .consumed) (q .answer))))
     where
       joins : (t u : List ℕ) (a : ListAnswer) (q : Phase) (c d : ℕ) (s rest : List ℕ) → t ++ (u ++ dueAfter a q (drop d (drop c s) ++ rest)) ≡ (t ++ u) ++ dueAfter a q (drop (c + d) s ++ rest)
       joins t u a q c d s rest = rw (append-assoc, drop-drop d c s)
@@ -132,32 +155,39 @@ module _ (last : Bool) where
       of-part (λ p s room q. q .answer ≡ More → (last ≡ false) × (length s < q .consumed + needed (q .phase)))
       (λ p s room z. view-more (view p s last room) z)
       (λ p s room q f h e.
-      let k = h e .1 in
-      (h e .0, omega (arith, length-drop (stepOf p s last room .consumed) s, step-bounded p s last room .most)))
+      let m = h (after-more (stepOf p s last room .consumed) (q .answer) e) in
+      let k = m .1 in
+      (m .0, omega (arith, length-drop (stepOf p s last room .consumed) s, step-bounded p s last room .most)))
 
-  pub part-full : (p : Phase) (s : List ℕ) (room : ℕ) → partOf p s last room .answer ≡ BufferTooShort → room < length (partOf p s last room .text) + 55
+  pub part-full : (p : Phase) (s : List ℕ) (room : ℕ) → crowded (partOf p s last room .answer) ≡ true → room < length (partOf p s last room .text) + 55
   part-full =
-      of-part (λ p s room q. q .answer ≡ BufferTooShort → room < length (q .text) + 55)
+      of-part (λ p s room q. crowded (q .answer) ≡ true → room < length (q .text) + 55)
       (λ p s room z e. omega (arith, view-full (view p s last room) e))
-      (λ p s room q f h e. rw length-append (omega (arith, h e, step-bounded p s last room .fits)))
+      (λ p s room q f h e.
+      rw length-append (omega (arith, h (sym (after-room (stepOf p s last room .consumed) (q .answer)) ∙ e), step-bounded p s last room .fits)))
 
--- ---- progress
+-- ---- how a call begins
 
-some-sum : (c d : ℕ) → (c ≡ 0 → ⊥) → 0 < c + d
-some-sum zero d f = absurd (f refl)
-some-sum (suc c) d f = omega arith
+module _ (p : Phase) (s : List ℕ) (last : Bool) (room : ℕ) where
+  -- whether its first step is its last
+  by-first : (F : Piece → Type 0) → F (stepOf p s last room)
+      → ((stepOf p s last room .consumed ≡ 0 → ⊥) → (q : Piece) → F (ahead (stepOf p s last room .consumed) (stepOf p s last room .text) q))
+      → F (partOf p s last room)
+  by-first F f g = split (eqb (stepOf p s last room .consumed) 0) refl
+    where
+      split : (b : Bool) → eqb (stepOf p s last room .consumed) 0 ≡ b → F (partOf p s last room)
+      split true z = rw (part-stops p s last room (eqb-true (stepOf p s last room .consumed) 0 z)) f
+      split false z = let h = eqb-false (stepOf p s last room .consumed) 0 z in rw (part-goes-on p s last room h) (g h _)
 
-part-progress : (p : Phase) (s : List ℕ) (last : Bool) (room : ℕ) → partOf p s last room .answer ≡ BufferTooShort → 55 ≤ room → 0 < partOf p s last room .consumed
-part-progress p s last room e h = split (eqb (stepOf p s last room .consumed) 0) refl
-  where
-    split : (b : Bool) → eqb (stepOf p s last room .consumed) 0 ≡ b → 0 < partOf p s last room .consumed
-    split true z =
-        let stops = part-stops p s last room (eqb-true (stepOf p s last room .consumed) 0 z) in
-        let y : ⊥ = omega (arith, view-full (view p s last room) (ap (λ (q : Piece). q .answer) (sym stops) ∙ e)) in
-        absurd y
-    split false z =
-        let f = eqb-false (stepOf p s last room .consumed) 0 z in
-        rw (part-goes-on p s last room f) (some-sum (stepOf p s last room .consumed) _ f)
+  part-progress : partOf p s last room .answer ≡ Full → 0 < partOf p s last room .consumed
+  part-progress =
+      by-first (λ q. q .answer ≡ Full → 0 < q .consumed) (λ e. absurd (view-never (view p s last room) e))
+      (λ h q e. some-sum (stepOf p s last room .consumed) (q .consumed) h)
+
+  part-short : partOf p s last room .answer ≡ BufferTooShort → partOf p s last room ≡ stopped BufferTooShort p
+  part-short =
+      by-first (λ q. q .answer ≡ BufferTooShort → q ≡ stopped BufferTooShort p) (λ e. view-short (view p s last room) e)
+      (λ h q e. absurd (after-never (stepOf p s last room .consumed) (q .answer) h e))
 
 -- ---- calls
 
@@ -179,17 +209,22 @@ module _ {p : Phase} {s : List ℕ} {last : Bool} {r : Part} {out after : List �
       kept : (t : List ℕ) → length t ≤ length out → length (t ++ drop (length t) out) ≡ length out
       kept t h = rw (length-append, length-drop) (omega arith)
 
-  answered : partOf p s last (length out) .answer ≡ r .answer
-  answered = sym (ap (λ (x : Part). x .answer) (L .answer))
+  answered : {a : ListAnswer} → r .answer ≡ a → partOf p s last (length out) .answer ≡ a
+  answered e = sym (ap (λ (x : Part). x .answer) (L .answer)) ∙ e
 
   call-more : r .answer ≡ More → (last ≡ false) × (length s < r .consumed + needed (r .phase))
-  call-more e = rw (L .answer) (part-more last p s (length out) (answered ∙ e))
+  call-more e = rw (L .answer) (part-more last p s (length out) (answered e))
 
-  call-full : r .answer ≡ BufferTooShort → length out < r .written + 55
-  call-full e = rw (L .answer) (part-full last p s (length out) (answered ∙ e))
+  call-full : r .answer ≡ Full → (0 < r .consumed) × (length out < r .written + 55)
+  call-full e = rw (L .answer) (part-progress p s last (length out) (answered e), part-full last p s (length out) (ap crowded (answered e)))
 
-  call-progress : r .answer ≡ BufferTooShort → 55 ≤ length out → 0 < r .consumed
-  call-progress e h = rw (L .answer) (part-progress p s last (length out) (answered ∙ e) h)
+  call-short : r .answer ≡ BufferTooShort → (length out < 55) × ((r .consumed ≡ 0) × ((r .phase ≡ p) × (after ≡ out)))
+  call-short e =
+      let q = part-short p s last (length out) (answered e) in
+      let t : r ≡ told (stopped BufferTooShort p) = L .answer ∙ ap told q in
+      let k = part-full last p s (length out) (ap crowded (answered e)) in
+      let n : length (partOf p s last (length out) .text) ≡ 0 = ap (λ (x : Piece). length (x .text)) q in
+      (omega arith, (ap (λ (x : Part). x .consumed) t, (ap (λ (x : Part). x .phase) t, L .holds ∙ ap (λ (x : Piece). x .text ++ drop (length (x .text)) out) q)))
 
 run-text : {room : ℕ} {p : Phase} {input text : List ℕ} → Run room p input text → text ≡ textFrom p input
 run-text (over {s = s} {rest = rest} {r = r} {after = after} L h l g) =
@@ -245,10 +280,11 @@ module _ (room : ℕ) (line : 55 ≤ room) where
     where
       by-answer : (a : ListAnswer) → last-call p s .answer ≡ a → ((p : Phase) (s : List ℕ) → length s < n → Run room p s (textFrom p s)) → Run room p s (textFrom p s)
       by-answer More e ih = let f = call-more (made p s) e .0 in let z : _≡_ {A = ℕ} 0 1 = cc in let y : ⊥ = omega arith in absurd y
-      by-answer BufferTooShort e ih =
+      by-answer Full e ih =
           one-call p s (ap goesOn e)
           (ih (last-call p s .phase) (left-of p s)
-          (rw (append-nil, length-drop) (omega (arith, part-bounded true p s (length out) .most, call-progress (made p s) e (omega (arith, all-room))))))
+          (rw (append-nil, length-drop) (omega (arith, part-bounded true p s (length out) .most, call-full (made p s) e .0))))
+      by-answer BufferTooShort e ih = let y : ⊥ = omega (arith, all-room, call-short (made p s) e .0) in absurd y
       by-answer End e ih = last-one p s (ap goesOn e)
       by-answer NotAJournal e ih = last-one p s (ap goesOn e)
       by-answer UnknownVersion e ih = last-one p s (ap goesOn e)
@@ -261,7 +297,7 @@ lists-in-parts =
       within = call-within;
       more = call-more;
       full = call-full;
-      progress = call-progress;
+      short = call-short;
       listed = run-text;
       ends = λ room line p left. runs room line (suc (length left)) p left (omega arith);
     }

@@ -12,9 +12,11 @@ use lib.Seq.{sets, sets-eq, length-sets, length-take-le, take-at, drop-at, drop-
 use borrow.Author.Tests.{eqb-false, eq-eqb, ne-eqb}
 use borrow.Rule.Slice.PartMut.{midOf, putMid, mid-len}
 use Rattle.records.proofs.PutLaws.{sets-rest}
-use Rattle.journal_records.specs.Parts.{Piece, ahead, stepOf, stepsOf, partOf, told, Prints, Lists}
+use Rattle.journal_records.specs.Parts.{Piece, answerAfter, ahead, stepOf, stepsOf, partOf, told, Prints, Lists}
+use Rattle.journal_records.specs.declared.listing.ListAnswer.{ListAnswer}
 use Rattle.journal_records.specs.declared.listing.Part.{Part}
 use Rattle.journal_records.specs.declared.listing.Phase.{Phase}
+use Rattle.journal_records.proofs.Answers.{after-none, after-after}
 use Rattle.journal_records.proofs.Steps.{Bounded, step-bounded}
 
 -- ---- as many steps as are needed
@@ -86,10 +88,10 @@ pub record Held (p : Phase) (s : List ℕ) (last : Bool) (out₀ out : List ℕ)
   pub done : partOf p s last (length out₀) ≡ ahead consumed (take written out) (partOf q (drop consumed s) last (length out₀ - written))
 
 pub held-first : {p : Phase} {s : List ℕ} {last : Bool} {out : List ℕ} → Held p s last out out p 0 0
-held-first {p} {s} {last} {out} = record { most = omega arith; room = omega arith; size = refl; behind = refl; done = rw (sub-zero, zero-add) }
+held-first {p} {s} {last} {out} = record { most = omega arith; room = omega arith; size = refl; behind = refl; done = rw (sub-zero, zero-add, after-none 0 (partOf p (drop 0 s) last (length out) .answer) refl) }
 
 ahead-ahead : (c d : ℕ) (t u : List ℕ) (p : Piece) → ahead c t (ahead d u p) ≡ ahead (c + d) (t ++ u) p
-ahead-ahead c d t u p = simp (add-assoc, append-assoc)
+ahead-ahead c d t u p = simp (add-assoc, append-assoc, after-after)
 
 -- a text put behind what is written
 module _ (out₀ out : List ℕ) (w : ℕ) (T : List ℕ) (fits : w + length T ≤ length out) where
@@ -143,13 +145,15 @@ module _ {p : Phase} {s : List ℕ} {last : Bool} {out₀ out : List ℕ} {q : P
               ∙ ap (λ (l : List ℕ). ahead (c + k .consumed) l (partOf (k .phase) (drop (c + k .consumed) s) last (length out₀ - (w + length (k .text))))) (sym (front-after out₀ out w (k .text) fit));
         }
 
-    stop : k .consumed ≡ 0 → Lists p s last (record { answer = k .answer; phase = k .phase; consumed = c + k .consumed; written = w + length (k .text) }) out₀ (sets out w (k .text))
+    stop : k .consumed ≡ 0 → Lists p s last (record { answer = answerAfter (c + k .consumed) (k .answer); phase = k .phase; consumed = c + k .consumed; written = w + length (k .text) }) out₀ (sets out w (k .text))
     stop f =
         let e : partOf p s last (length out₀) ≡ ahead c (take w out) k =
         H .done ∙ ap (ahead c (take w out)) (subst (λ (j : Piece). j .consumed ≡ 0 → partOf q (drop c s) last (length out₀ - w) ≡ j) is (part-stops q (drop c s) last (length out₀ - w)) f) in
+        let z : c + k .consumed ≡ c = omega arith in
+        let a : answerAfter (c + k .consumed) (k .answer) ≡ answerAfter c (k .answer) = ap (λ (n : ℕ). answerAfter n (k .answer)) z in
         record {
-          answer = rw e (ap (λ (n : ℕ). record { answer = k .answer; phase = k .phase; consumed = c + k .consumed; written = n }) (sym (front-length out₀ out w (k .text) fit)));
-          cause = rw e;
+          answer = rw (e, a) (ap (λ (n : ℕ). record { answer = answerAfter c (k .answer); phase = k .phase; consumed = c + k .consumed; written = n }) (sym (front-length out₀ out w (k .text) fit)));
+          cause = rw (e, a);
           holds = rw e (whole-after out₀ out w (k .text) fit (H .behind));
         }
 
@@ -189,6 +193,6 @@ module _ {p : Phase} {s : List ℕ} {last : Bool} {out₀ out : List ℕ} {q : P
     pub turn-on : (r .consumed ≡ 0 → ⊥) → Held p s last out₀ (putMid w (length out - w) out part) (r .phase) (c + r .consumed) (w + r .written)
     turn-on f = rw (left, told-so) (on taken refl (λ e. f (ap (λ (j : Part). j .consumed) told-so ∙ e)))
 
-    pub turn-stop : r .consumed ≡ 0
-        → Lists p s last (record { answer = r .answer; phase = r .phase; consumed = c + r .consumed; written = w + r .written }) out₀ (putMid w (length out - w) out part)
-    turn-stop e = rw (left, told-so) (stop taken refl (ap (λ (j : Part). j .consumed) (sym told-so) ∙ e))
+    pub turn-stop : {a : ListAnswer} → a ≡ answerAfter (c + r .consumed) (r .answer) → r .consumed ≡ 0
+        → Lists p s last (record { answer = a; phase = r .phase; consumed = c + r .consumed; written = w + r .written }) out₀ (putMid w (length out - w) out part)
+    turn-stop ea e = rw (ea, left, told-so) (stop taken refl (ap (λ (j : Part). j .consumed) (sym told-so) ∙ e))

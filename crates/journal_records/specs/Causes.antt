@@ -25,10 +25,11 @@ pub record CausesTell : Type 0 where
   pub wholeLenWhole : (n : ℕ) → wholeLenCause (whole.Whole n) ≡ row 0 (n ∷ [])
   pub wholeLenShort : wholeLenCause whole.TooShort ≡ row 17 []
   pub wholeLenVersion : wholeLenCause whole.UnknownVersion ≡ row 18 []
-  -- listing: 0 while octets have to come and at the end, 1, 17, 18, 19
+  -- listing: 0 where octets have to come, where the room is used up and at the end, 1, 17, 18, 19
   pub list : (a b : ListAnswer) → listCause a ≡ listCause b → a ≡ b
   pub listMore : listCause listing.More ≡ row 0 (0 ∷ [])
-  pub listEnd : listCause listing.End ≡ row 0 (1 ∷ [])
+  pub listFull : listCause listing.Full ≡ row 0 (1 ∷ [])
+  pub listEnd : listCause listing.End ≡ row 0 (2 ∷ [])
   pub listShort : listCause listing.BufferTooShort ≡ row 1 []
   pub listNoJournal : listCause listing.NotAJournal ≡ row 17 []
   pub listVersion : listCause listing.UnknownVersion ≡ row 18 []

@@ -7,7 +7,7 @@ use mathlib.Core.List.{List, [], _++_}
 use lib.ListN.{length, take, drop}
 use Rattle.journal_records.specs.Listing.{lineMost, listing}
 use Rattle.journal_records.specs.Parts.{Lists, textFrom, needed, goesOn, dueAfter}
-use Rattle.journal_records.specs.declared.listing.ListAnswer.the-variants.{More, BufferTooShort}
+use Rattle.journal_records.specs.declared.listing.ListAnswer.the-variants.{More, Full, BufferTooShort}
 use Rattle.journal_records.specs.declared.listing.Part.{Part}
 use Rattle.journal_records.specs.declared.listing.Phase.{Phase}
 use Rattle.journal_records.specs.declared.listing.Phase.the-variants.{Header}
@@ -35,11 +35,12 @@ pub record ListsInParts : Type 0 where
   -- octets have to come only where they may, and fewer are left than a record has, or mark and version
   pub more : {p : Phase} {s : List ℕ} {last : Bool} {r : Part} {out after : List ℕ} → Lists p s last r out after → r .answer ≡ More
       → (last ≡ false) × (length s < r .consumed + needed (r .phase))
-  -- 1 is answered only where the room left is less than the longest line has; so with room for a line something was listed
-  pub full : {p : Phase} {s : List ℕ} {last : Bool} {r : Part} {out after : List ℕ} → Lists p s last r out after → r .answer ≡ BufferTooShort
-      → length out < r .written + lineMost
-  pub progress : {p : Phase} {s : List ℕ} {last : Bool} {r : Part} {out after : List ℕ} → Lists p s last r out after → r .answer ≡ BufferTooShort
-      → lineMost ≤ length out → 0 < r .consumed
+  -- the room is used up only after something was listed, and where less is left than the longest line has
+  pub full : {p : Phase} {s : List ℕ} {last : Bool} {r : Part} {out after : List ℕ} → Lists p s last r out after → r .answer ≡ Full
+      → (0 < r .consumed) × (length out < r .written + lineMost)
+  -- 1 is answered only where less is lent, and leaves all as it was
+  pub short : {p : Phase} {s : List ℕ} {last : Bool} {r : Part} {out after : List ℕ} → Lists p s last r out after → r .answer ≡ BufferTooShort
+      → (length out < lineMost) × ((r .consumed ≡ 0) × ((r .phase ≡ p) × (after ≡ out)))
   -- whatever room the calls have, what they print in all is the listing
   pub listed : {room : ℕ} {input text : List ℕ} → Run room Header input text → text ≡ listing input
   -- and there is such a run wherever each call has room for a line: from any phase and any octets left, calls go on to the end

@@ -13,15 +13,17 @@ use Rattle.types.specs.Causes.{Cause, row}
 use Rattle.types.specs.Codes.{pick, need}
 use Rattle.journal_records.specs.Listing.{Version, known, other, version1, layoutOf, headerLine, recordLine, refusedLine, lineMost, goodRecord, lines, marked, listing}
 use Rattle.journal_records.specs.declared.listing.ListAnswer.{ListAnswer}
-use Rattle.journal_records.specs.declared.listing.ListAnswer.the-variants.{More, End, BufferTooShort, NotAJournal, UnknownVersion, RecordInvalid}
+use Rattle.journal_records.specs.declared.listing.ListAnswer.the-variants.{More, Full, End, BufferTooShort, NotAJournal, UnknownVersion, RecordInvalid}
 use Rattle.journal_records.specs.declared.listing.Part.{Part}
 use Rattle.journal_records.specs.declared.listing.Phase.{Phase}
 use Rattle.journal_records.specs.declared.listing.Phase.the-variants.{Header, Records}
 
--- 01's number for each case of an answer, and a value. Nothing is refused where octets have to come, 0, and at the end, 1.
+-- 01's number for each case of an answer, and a value: nothing is refused where octets have to come, 0, where the room is used up,
+-- 1, and at the end, 2
 abbrev pub listCause : ListAnswer → Cause
 listCause More = row 0 (0 ∷ [])
-listCause End = row 0 (1 ∷ [])
+listCause Full = row 0 (1 ∷ [])
+listCause End = row 0 (2 ∷ [])
 listCause BufferTooShort = row cause.tooShort []
 listCause NotAJournal = row cause.notAJournal []
 listCause UnknownVersion = row cause.unknownVersion []
@@ -84,9 +86,23 @@ stepOf p s last room =
     (pick (ended p (length s)) (stopped End p)
     (need (leb lineMost room) (stopped BufferTooShort p) (phaseStep p s)))
 
+-- 1 is said of the room that a call is lent: once a line is listed, that room is used up
+abbrev pub later : ListAnswer → ListAnswer
+later More = More
+later Full = Full
+later End = End
+later BufferTooShort = Full
+later NotAJournal = NotAJournal
+later UnknownVersion = UnknownVersion
+later RecordInvalid = RecordInvalid
+
+-- an answer after which n octets are dealt with in all
+unfoldable pub answerAfter : ℕ → ListAnswer → ListAnswer
+answerAfter n a = pick (eqb n 0) a (later a)
+
 -- what was done, in front of what is done next
 abbrev pub ahead : ℕ → List ℕ → Piece → Piece
-ahead consumed text p = record { answer = p .answer; phase = p .phase; consumed = consumed + p .consumed; text = text ++ p .text }
+ahead consumed text p = record { answer = answerAfter consumed (p .answer); phase = p .phase; consumed = consumed + p .consumed; text = text ++ p .text }
 
 -- a step, and what `more` does with the rest, unless the step consumed nothing
 abbrev pub onward : Piece → (Phase → List ℕ → ℕ → Piece) → List ℕ → ℕ → Piece
@@ -126,6 +142,7 @@ textFrom Records s = lines version1 s
 -- whether calls go on after an answer: with more octets, or with more room
 abbrev pub goesOn : ListAnswer → Bool
 goesOn More = true
+goesOn Full = true
 goesOn BufferTooShort = true
 goesOn End = false
 goesOn NotAJournal = false

@@ -3,8 +3,8 @@
 ghost use mathlib.Core.Path.{_≡_};
 ghost use Prim.Native.Nat.{_≤_};
 ghost use lib.ListN.{length};
-ghost use Rattle.journal_records.specs.Parts.{Lists, Prints, listCause, told, refusal, headerStep, recordStep, stepOf};
-ghost use Rattle.journal_records.specs.Parts.{awaits as Parts·awaits, ended as Parts·ended, stopped as Parts·stopped};
+ghost use Rattle.journal_records.specs.Parts.{Lists, Prints, listCause, answerAfter, told, refusal, headerStep, recordStep, stepOf};
+ghost use Rattle.journal_records.specs.Parts.{later as Parts·later, awaits as Parts·awaits, ended as Parts·ended, stopped as Parts·stopped};
 ghost use Rattle.journal_records.specs.Listing.{marked};
 use crate::JOURNAL_START_LEN;
 use crate::RECORD_LEN;
@@ -41,9 +41,12 @@ pub enum Phase {
 pub enum ListAnswer {
     // Octets have to come. The next call gets those that are not consumed, with more behind them.
     More,
+    // There is a line to write, and no room for it behind those that were written. The next call gets room, and the octets
+    // that are not consumed.
+    Full,
     // The journal is at its end, and all of it is listed.
     End,
-    // There is a line to write, and not room for the longest. The next call gets room, and the octets that are not consumed.
+    // There is a line to write, and under `LINE_MAX` octets of room: nothing was done.
     BufferTooShort,
     // The journal is refused, and the line that says so is written: under 5 octets or the mark wrong.
     NotAJournal,
@@ -76,13 +79,38 @@ pub fn list_part(phase: Phase, bytes: &[u8], last: bool, out: &mut [u8]) -> Part
         written += part.written;
         if part.consumed == 0 {
             return Part {
-                answer,
+                answer: answer_after(consumed, answer),
                 phase: next,
                 consumed,
                 written,
             };
         }
         to_come = next;
+    }
+}
+
+// The answer in all, of a last step that consumed nothing.
+fn answer_after(consumed: usize, answer: ListAnswer) -> ListAnswer
+    ensures { λ r. ⌜ r ≡ answerAfter consumed answer ⌝ }
+{
+    if consumed == 0 {
+        return answer;
+    }
+    later(answer)
+}
+
+// What an answer comes to where lines are written already: the room is used up, and was not too short.
+fn later(answer: ListAnswer) -> ListAnswer
+    ensures { λ r. ⌜ r ≡ Parts·later answer ⌝ }
+{
+    match answer {
+        ListAnswer::More => ListAnswer::More,
+        ListAnswer::Full => ListAnswer::Full,
+        ListAnswer::End => ListAnswer::End,
+        ListAnswer::BufferTooShort => ListAnswer::Full,
+        ListAnswer::NotAJournal => ListAnswer::NotAJournal,
+        ListAnswer::UnknownVersion => ListAnswer::UnknownVersion,
+        ListAnswer::RecordInvalid => ListAnswer::RecordInvalid,
     }
 }
 
@@ -219,6 +247,7 @@ fn cause(answer: ListAnswer) -> u8
 {
     match answer {
         ListAnswer::More => NOT_REFUSED,
+        ListAnswer::Full => NOT_REFUSED,
         ListAnswer::End => NOT_REFUSED,
         ListAnswer::BufferTooShort => TOO_SHORT,
         ListAnswer::NotAJournal => NOT_A_JOURNAL,

@@ -45,17 +45,21 @@ add-written c =
     let t = p .before .before in
     record { fits = omega (arith, t .before .before .before .before .good .1 .1 .1, t .before .loop .inv .size, turn-fits (t .before .loop .inv) (t .tail .ensures .octets) (p .step .ensures)) }
 
+answer-after-requires : tie.Need-answer-after-requires Inv-loop μ-loop
+answer-after-requires c κs = search needs
+
 same-length : tie.Need-same-length Inv-loop μ-loop
 same-length c =
-    let p = c .before .before .before .before .before .before in
+    let p = c .before .before .before .before .before .before .before in
     let t = p .before .before in
     turn-size (t .before .loop .inv) (t .tail .ensures .octets) (p .step .ensures)
 
 returns : tie.Need-returns Inv-loop μ-loop
 returns c =
-    let p = c .before .before .before .before .before .before in
+    let i = c .before in
+    let p = i .before .before .before .before .before .before in
     let t = p .before .before in
-    turn-stop (t .before .loop .inv) (t .tail .ensures .octets) (p .step .ensures) (c .if1 .taken)
+    turn-stop (t .before .loop .inv) (t .tail .ensures) (p .step .ensures) (c .answer-after .ensures) (i .if1 .taken)
 
 loop-less : tie.Need-loop-less Inv-loop μ-loop
 loop-less c =
@@ -83,6 +87,7 @@ list-part-spec =
     step-requires
     add-consumed
     add-written
+    answer-after-requires
     same-length
     returns
     loop-less
