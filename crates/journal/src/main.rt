@@ -5,7 +5,9 @@ ghost use Prim.Native.Nat.{_+_, _-_, _≤_};
 ghost use mathlib.Core.Path.{_≡_};
 ghost use lib.ListN.{length, take, drop};
 ghost use lib.Seq.{paste};
-ghost use Rattle.journal.specs.Rest.{Listed, Left, Waits, isOver};
+ghost use Rattle.journal.specs.Rest.{restAfter, Listed, Left, Waits};
+ghost use Rattle.journal_records.specs.Parts.{crowded};
+use journal_records::listing::ListAnswer;
 use journal_records::listing::Phase;
 use journal_records::listing::list_part;
 use libc::STDERR_FILENO;
@@ -17,47 +19,85 @@ use octets::slices::tail;
 // What follows a part of the journal: octets that go on from `at`, or nothing.
 enum Rest {
     More { phase: Phase, at: usize },
+    // The journal is at its end, or refused, and what is due of it is said.
     Over,
+    // Reading or writing failed.
+    Failed,
 }
 
-fn say(text: &[u8]) -> bool {
+// What became of a part: how many octets of its text `say` has written, and what follows.
+struct Outcome {
+    said: usize,
+    rest: Rest,
+}
+
+// Writes a text, and answers how many octets of it are written: all, or none where that fails. No contract tells what C has
+// written: that it is the text, and that the answer is right, is tested.
+fn say(text: &[u8]) -> usize
+    ensures { λ r. ⌜ r ≤ length (now (text .entry)) ⌝ }
+{
     if io::write_all(STDOUT_FILENO, text) {
-        return true;
+        return text.len();
     }
     io::write_all(STDERR_FILENO, b"journal: cannot write\n");
-    false
+    0
 }
 
-fn is_over(phase: Phase) -> bool
-    ensures { λ r. ⌜ r ≡ isOver phase ⌝ }
+fn is_crowded(answer: ListAnswer) -> bool
+    ensures { λ r. ⌜ r ≡ crowded answer ⌝ }
 {
-    match phase {
-        Phase::Header => false,
-        Phase::Records => false,
-        Phase::Over => true,
+    match answer {
+        ListAnswer::More => false,
+        ListAnswer::Full => true,
+        ListAnswer::End => false,
+        ListAnswer::BufferTooShort => true,
+        ListAnswer::NotAJournal => false,
+        ListAnswer::UnknownVersion => false,
+        ListAnswer::RecordInvalid => false,
+    }
+}
+
+// What follows a call of `list_part` that left the octets from `at` on.
+fn rest_after(answer: ListAnswer, phase: Phase, at: usize) -> Rest
+    ensures { λ r. ⌜ r ≡ restAfter answer phase at ⌝ }
+{
+    match answer {
+        ListAnswer::More => Rest::More { phase, at },
+        ListAnswer::Full => Rest::More { phase, at },
+        ListAnswer::End => Rest::Over,
+        ListAnswer::BufferTooShort => Rest::More { phase, at },
+        ListAnswer::NotAJournal => Rest::Over,
+        ListAnswer::UnknownVersion => Rest::Over,
+        ListAnswer::RecordInvalid => Rest::Over,
     }
 }
 
 // Lists a part, and writes `out` as often as it fills.
-fn list(phase: Phase, bytes: &[u8], last: bool, out: &mut [u8]) -> Rest
-    requires { ⌜ 65536 ≡ length (now out) ⌝ }
-    ensures { λ r. ⌜ Listed phase (now (bytes .entry)) last r ⌝ }
+fn list(phase: Phase, bytes: &[u8], last: bool, out: &mut [u8]) -> Outcome
+    requires { ⌜ (length (now bytes) ≤ 65536) × (65536 ≡ length (now out)) ⌝ }
+    ensures { λ r. ⌜ Listed phase (now (bytes .entry)) last (r .said) (r .rest) ⌝ }
 {
     let mut to_come = phase;
     let mut at = 0;
+    let mut said = 0;
     loop {
         let part = list_part(to_come, tail(bytes, at), last, out);
+        let answer = part.answer;
         let next = part.phase;
-        let consumed = part.consumed;
-        if !say(front(out, part.written)) {
-            return Rest::Over;
+        let written = say(front(out, part.written));
+        at += part.consumed;
+        said += written;
+        if written < part.written {
+            return Outcome {
+                said,
+                rest: Rest::Failed,
+            };
         }
-        at += consumed;
-        if is_over(next) {
-            return Rest::Over;
-        }
-        if consumed == 0 {
-            return Rest::More { phase: next, at };
+        if !is_crowded(answer) {
+            return Outcome {
+                said,
+                rest: rest_after(answer, next, at),
+            };
         }
         to_come = next;
     }
@@ -77,28 +117,44 @@ fn keep(text: &mut [u8], from: usize, to: usize) -> usize
 }
 
 // Lists the first `n` octets, and moves what is left of them to the front.
-fn list_held(phase: Phase, text: &mut [u8], n: usize, last: bool, out: &mut [u8]) -> Rest
-    requires { ⌜ (n ≤ length (now text)) × (65536 ≡ length (now out)) ⌝ }
-    ensures { λ r. ⌜ Left phase (take n (now (text .entry))) last r (now (text .exit)) ⌝ }
+fn list_held(phase: Phase, text: &mut [u8], n: usize, last: bool, out: &mut [u8]) -> Outcome
+    requires { ⌜ (n ≤ length (now text)) × ((65536 ≡ length (now text)) × (65536 ≡ length (now out))) ⌝ }
+    ensures { λ r. ⌜ Left phase (take n (now (text .entry))) last (r .said) (r .rest) (now (text .exit)) ⌝ }
 {
-    match list(phase, front(text, n), last, out) {
-        Rest::Over => Rest::Over,
-        Rest::More { phase, at } => Rest::More {
-            phase,
-            at: keep(text, at, n),
+    let outcome = list(phase, front(text, n), last, out);
+    let said = outcome.said;
+    let rest = outcome.rest;
+    match rest {
+        Rest::Over => Outcome {
+            said,
+            rest: Rest::Over,
         },
+        Rest::Failed => Outcome {
+            said,
+            rest: Rest::Failed,
+        },
+        Rest::More { phase, at } => {
+            let kept = keep(text, at, n);
+            Outcome {
+                said,
+                rest: Rest::More { phase, at: kept },
+            }
+        }
     }
 }
 
-// Reads behind the octets that are held, and lists.
-fn turn(phase: Phase, text: &mut [u8], held: usize, out: &mut [u8]) -> Rest
+// Reads behind the octets that are held, and lists. Where nothing comes the input is at its end.
+fn turn(phase: Phase, text: &mut [u8], held: usize, out: &mut [u8]) -> Outcome
     requires { ⌜ (held ≤ 20) × ((65536 ≡ length (now text)) × (65536 ≡ length (now out))) ⌝ }
-    ensures { λ r. ⌜ Waits phase (take held (now (text .entry))) r (now (text .exit)) ⌝ }
+    ensures { λ r. ⌜ Waits phase (take held (now (text .entry))) (r .said) (r .rest) (now (text .exit)) ⌝ }
 {
     let got = libc::read(STDIN_FILENO, &mut text[held..]);
     if got < 0 {
         io::write_all(STDERR_FILENO, b"journal: cannot read\n");
-        return Rest::Over;
+        return Outcome {
+            said: 0,
+            rest: Rest::Failed,
+        };
     }
     let n = held + io::count(got, tail(text, held));
     list_held(phase, text, n, n == held, out)
@@ -113,8 +169,13 @@ fn main() {
     let mut held = 0;
     let mut turns = u64::MAX;
     while turns > 0 {
-        match turn(to_come, &mut text, held, &mut out) {
+        let outcome = turn(to_come, &mut text, held, &mut out);
+        let rest = outcome.rest;
+        match rest {
             Rest::Over => {
+                return;
+            }
+            Rest::Failed => {
                 return;
             }
             Rest::More { phase, at } => {

@@ -8,19 +8,9 @@ use native.Mathlib.Omega.{arith}
 use lib.Dec.{eqb}
 use borrow.Author.Tests.{eq-eqb, ne-eqb}
 use Rattle.types.specs.Codes.{pick}
-use Rattle.journal_records.specs.Parts.{later, answerAfter, goesOn}
+use Rattle.journal_records.specs.Parts.{later, answerAfter, goesOn, crowded}
 use Rattle.journal_records.specs.declared.listing.ListAnswer.{ListAnswer}
 use Rattle.journal_records.specs.declared.listing.ListAnswer.the-variants.{More, Full, End, BufferTooShort, NotAJournal, UnknownVersion, RecordInvalid}
-
--- there is a line to write, and no room for it
-abbrev pub crowded : ListAnswer → Bool
-crowded More = false
-crowded Full = true
-crowded End = false
-crowded BufferTooShort = true
-crowded NotAJournal = false
-crowded UnknownVersion = false
-crowded RecordInvalid = false
 
 -- what a later answer keeps
 record Kept (a : ListAnswer) : Type 0 where

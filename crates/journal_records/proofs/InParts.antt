@@ -12,13 +12,13 @@ use lib.Seq.{drop-drop, take-append-seam}
 use borrow.Author.Tests.{eqb-true, eqb-false}
 use Rattle.journal_records.specs.InParts.{Run, over, call, ListsInParts}
 use Rattle.journal_records.specs.Listing.{version1}
-use Rattle.journal_records.specs.Parts.{Piece, stopped, ahead, stepOf, partOf, told, Lists, textFrom, goesOn, dueAfter, needed}
+use Rattle.journal_records.specs.Parts.{Piece, stopped, ahead, stepOf, partOf, told, Lists, textFrom, goesOn, crowded, dueAfter, needed}
 use Rattle.types.specs.Codes.{pick}
 use Rattle.journal_records.specs.declared.listing.ListAnswer.{ListAnswer}
 use Rattle.journal_records.specs.declared.listing.ListAnswer.the-variants.{More, Full, End, BufferTooShort, NotAJournal, UnknownVersion, RecordInvalid}
 use Rattle.journal_records.specs.declared.listing.Part.{Part}
 use Rattle.journal_records.specs.declared.listing.Phase.{Phase}
-use Rattle.journal_records.proofs.Answers.{crowded, after-on, after-room, after-more, after-never}
+use Rattle.journal_records.proofs.Answers.{after-on, after-room, after-more, after-never}
 use Rattle.journal_records.proofs.PartLaws.{fewer, part-stops, part-goes-on}
 use Rattle.journal_records.proofs.Steps.{Bounded, step-due, step-bounded}
 use Rattle.journal_records.proofs.Views.{Lined, View, view, waits, ends, full, lined, head-cut, unmarked, other-version, head-good, short, fault, good}

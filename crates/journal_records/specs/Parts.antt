@@ -143,11 +143,21 @@ textFrom Records s = lines version1 s
 abbrev pub goesOn : ListAnswer → Bool
 goesOn More = true
 goesOn Full = true
-goesOn BufferTooShort = true
 goesOn End = false
+goesOn BufferTooShort = true
 goesOn NotAJournal = false
 goesOn UnknownVersion = false
 goesOn RecordInvalid = false
+
+-- whether a line is to be written for which there is no room
+abbrev pub crowded : ListAnswer → Bool
+crowded More = false
+crowded Full = true
+crowded End = false
+crowded BufferTooShort = true
+crowded NotAJournal = false
+crowded UnknownVersion = false
+crowded RecordInvalid = false
 
 -- the text that is due after an answer: none after the end or a refusal
 abbrev pub dueAfter : ListAnswer → Phase → List ℕ → List ℕ

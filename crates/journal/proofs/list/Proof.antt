@@ -1,70 +1,105 @@
--- `list` meets its contract. The loop's invariant: of what is due, what was handed out so far is the front. The measure is what is
--- left of the part.
+-- `list` meets its contract. The loop's invariant: of what is due, what was said so far is the front. The measure is what is left of
+-- the part.
 -- Assumes nothing.
 use Prim.Native.Nat.{_-_}
 use mathlib.Core.Path.{_≡_, refl, sym, _∙_}
 use native.Mathlib.Omega.{arith}
 use lib.ListN.{length}
 use borrow.Author.Needs.{needs}
-use Rattle.journal.proofs.Parts.{SoFar, at-first, further, same-size, less, on, settled}
+use borrow.Author.Tests.{not-true, not-false}
+use Rattle.journal.proofs.Parts.{SoFar, at-first, further, same-size, countable, failed, settled, listed-as, less, on}
 use Rattle.journal.proofs.list.Statement.{statement}
 use Rattle.journal.proofs.list.Tie as tie
 
 abbrev Inv-loop : tie.InvT-loop
-Inv-loop bytes last out₀ to-come₀ at₀ out to-come at = SoFar to-come₀ bytes last to-come at × (length out ≡ length out₀)
+Inv-loop bytes last out₀ to-come₀ at₀ said₀ out to-come at said = SoFar to-come₀ bytes last to-come at said × (length out ≡ length out₀)
 
 abbrev μ-loop : tie.MeasureT-loop
-μ-loop bytes last out₀ to-come₀ at₀ out to-come at = length bytes - at
-
-same-length : tie.Need-same-length Inv-loop μ-loop
-same-length c =
-    let p = c .before .before .before .before .before .before in
-    let t = p .before .before in
-    let l = t .before .loop in
-    same-size (l .inv .0) (t .tail .ensures .octets) (p .list-part .ensures) ∙ l .inv .1
+μ-loop bytes last out₀ to-come₀ at₀ said₀ out to-come at said = length bytes - at
 
 add-at : tie.Need-add-at Inv-loop μ-loop
 add-at c =
-    let p = c .before .before .before .before .before .before in
+    let f = c .before .before in
+    let p = f .before .before .before .before in
     let t = p .before .before in
     let l = t .before .loop in
     record { fits = omega (arith, further (l .inv .0) (t .tail .ensures .octets) (p .list-part .ensures)) }
 
+add-said : tie.Need-add-said Inv-loop μ-loop
+add-said c =
+    let y = c .before in
+    let f = y .before in
+    let p = f .before .before .before .before in
+    let t = p .before .before in
+    let l = t .before .loop in
+    let b = t .before .before .before .before .pre in
+    record {
+      fits = omega (arith, countable (l .inv .0) (t .tail .ensures) (p .list-part .ensures) (f .front .ensures) (y .say .ensures) (b .0) (b .1 ∙ sym (l .inv .1)));
+    }
+
+same-length : tie.Need-same-length Inv-loop μ-loop
+same-length c =
+    let f = c .before .before .before .before in
+    let p = f .before .before .before .before in
+    let t = p .before .before in
+    let l = t .before .loop in
+    same-size (l .inv .0) (t .tail .ensures) (p .list-part .ensures) ∙ l .inv .1
+
+returns : tie.Need-returns Inv-loop μ-loop
+returns c =
+    let y = c .before .before .before in
+    let f = y .before in
+    let p = f .before .before .before .before in
+    let t = p .before .before in
+    let l = t .before .loop in
+    failed (l .inv .0) (t .tail .ensures) (p .list-part .ensures) (f .front .ensures) (y .say .ensures) (c .if1 .taken)
+
 same-length-2 : tie.Need-same-length-2 Inv-loop μ-loop
 same-length-2 c =
-    let p = c .before .before .before .before .before .before .before .before in
+    let f = c .before .before .before .before .before .before .before in
+    let p = f .before .before .before .before in
     let t = p .before .before in
     let l = t .before .loop in
     same-size (l .inv .0) (t .tail .ensures .octets) (p .list-part .ensures) ∙ l .inv .1
 
-same-length-3 : tie.Need-same-length-3 Inv-loop μ-loop
-same-length-3 c =
-    let p = c .before .before .before .before .before .before .before .before .before in
+returns-2 : tie.Need-returns-2 Inv-loop μ-loop
+returns-2 c =
+    let k = c .before .before in
+    let e = k .before in
+    let y = e .before .before .before in
+    let f = y .before in
+    let p = f .before .before .before .before in
     let t = p .before .before in
     let l = t .before .loop in
-    same-size (l .inv .0) (t .tail .ensures .octets) (p .list-part .ensures) ∙ l .inv .1
-
-returns-3 : tie.Need-returns-3 Inv-loop μ-loop
-returns-3 c =
-    let p = c .before .before .before .before .before .before .before .before .before in
-    let t = p .before .before in
-    let l = t .before .loop in
-    let o = c .before .before in
-    settled (l .inv .0) (t .tail .ensures .octets) (p .list-part .ensures) (t .before .before .before .before .pre ∙ sym (l .inv .1)) (sym (o .is-over .ensures) ∙ c .before .if2 .left) (c .if3 .taken)
+    listed-as _ _ _ _ _ _ _ refl (sym (c .rest-after .ensures))
+    (settled (l .inv .0) (t .tail .ensures) (p .list-part .ensures) (f .front .ensures) (y .say .ensures) (e .if1 .left)
+    (sym (k .is-crowded .ensures) ∙ not-true _ (c .before .if2 .taken)))
 
 loop-less : tie.Need-loop-less Inv-loop μ-loop
 loop-less c =
-    let p = c .before .before .before .before .before .before .before .before .before in
+    let k = c .before in
+    let e = k .before in
+    let y = e .before .before .before in
+    let f = y .before in
+    let p = f .before .before .before .before in
     let t = p .before .before in
     let l = t .before .loop in
-    less (l .inv .0) (t .tail .ensures .octets) (p .list-part .ensures) (c .if3 .left)
+    less (l .inv .0) (t .tail .ensures) (p .list-part .ensures) (f .front .ensures) (y .say .ensures) (e .if1 .left)
+    (sym (k .is-crowded .ensures) ∙ not-false _ (c .if2 .left)) (t .before .before .before .before .pre .1 ∙ sym (l .inv .1))
 
 loop-again : tie.Need-loop-again Inv-loop μ-loop
 loop-again c =
-    let p = c .before .before .before .before .before .before .before .before .before in
+    let k = c .before in
+    let e = k .before in
+    let y = e .before .before .before in
+    let f = y .before in
+    let p = f .before .before .before .before in
     let t = p .before .before in
-    let l = t .before .loop in
-    (on (l .inv .0) (t .tail .ensures .octets) (p .list-part .ensures), same-size (l .inv .0) (t .tail .ensures .octets) (p .list-part .ensures) ∙ l .inv .1)
+    let l = t .before .loop in (
+      on (l .inv .0) (t .tail .ensures) (p .list-part .ensures) (f .front .ensures) (y .say .ensures) (e .if1 .left)
+          (sym (k .is-crowded .ensures) ∙ not-false _ (c .if2 .left)) (t .before .before .before .before .pre .1 ∙ sym (l .inv .1)),
+      same-size (l .inv .0) (t .tail .ensures) (p .list-part .ensures) ∙ l .inv .1,
+    )
 
 pub list-spec : {M : Type 1} → statement M
 list-spec =
@@ -77,13 +112,13 @@ list-spec =
     (λ c κs. search needs)
     (λ c κs. search needs)
     (λ c κs. search needs)
-    same-length
-    (λ c. search needs)
     add-at
+    add-said
+    same-length
+    returns
+    (λ c κs. search needs)
     (λ c κs. search needs)
     same-length-2
-    (λ c. search needs)
-    same-length-3
-    returns-3
+    returns-2
     loop-less
     loop-again)
