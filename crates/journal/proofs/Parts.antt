@@ -16,7 +16,7 @@ use Rattle.journal_records.specs.declared.listing.Phase.{Phase}
 use Rattle.journal_records.specs.declared.listing.Phase.the-variants.{Header, Records}
 use Rattle.journal_records.proofs.InParts.{lists-in-parts}
 use Rattle.journal.specs.declared.Rest.{Rest}
-use Rattle.journal.specs.Rest.{Due, Follows, Goes, Ends, Fails, Listed, restAfter}
+use Rattle.journal.specs.Rest.{Due, Follows, Begins, Goes, Ends, Fails, Listed, restAfter}
 
 needed-most : (p : Phase) → needed p ≤ 21
 unfolding version1
@@ -71,6 +71,16 @@ module _ {p₀ p : Phase} {s : List ℕ} {at said : ℕ} {t : List ℕ} {last : 
       ∙ ap (λ (u : List ℕ). F .text ++ u) (subst (λ (u : List ℕ). textFrom p (u ++ rest) ≡ take (r .written) after ++ dueAfter (r .answer) (r .phase) (drop (r .consumed) u ++ rest)) et (lists-in-parts .text L rest l))
       ∙ sym (append-assoc (F .text) (take (r .written) after) (dueAfter (r .answer) (r .phase) (drop (r .consumed) (drop at s) ++ rest)))
       ∙ ap (λ (u : List ℕ). so-far ++ dueAfter (r .answer) (r .phase) (u ++ rest)) (drop-drop (r .consumed) at s)
+
+  pub begins : {u : List ℕ} → u ≡ take (r .written) after → Begins u
+  begins eu =
+      record {
+        phase = p;
+        octets = t ++ [];
+        front =
+            rw (eu, lists-in-parts .text L [] (λ e. refl))
+            (take-append-seam (take (r .written) after) (dueAfter (r .answer) (r .phase) (drop (r .consumed) t ++ [])));
+      }
 
   -- `say` answers n for the text that was printed
   module _ {u : List ℕ} {n : ℕ} (eu : u ≡ take (r .written) after) (h : n ≤ length u) where

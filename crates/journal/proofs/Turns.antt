@@ -3,11 +3,11 @@
 use Prim.Native.Nat.{ℕ, _+_, _-_, _≤_}
 use mathlib.Core.Bool.{Bool, true, false}
 use mathlib.Core.Path.{_≡_, refl, sym, ap, subst, _∙_}
-use mathlib.Core.List.{List, [], _++_, append-assoc}
+use mathlib.Core.List.{List, [], _++_, append-assoc, append-nil}
 use native.Mathlib.Nat.{zero-add}
 use native.Mathlib.Omega.{arith}
 use lib.Dec.{eqb}
-use lib.ListN.{length, take, drop, length-drop}
+use lib.ListN.{length, take, drop, length-drop, length-append}
 use lib.Seq.{paste, take-paste, take-add, take-at, drop-at, length-take-le}
 use borrow.Author.Tests.{eq-eqb, ne-eqb, eqb-true, eqb-false}
 use borrow.Rule.Slice.PartMut.{midOf, postOf, putMid, same-len-mid}
@@ -16,6 +16,7 @@ use Rattle.journal_records.specs.Parts.{textFrom}
 use Rattle.journal_records.specs.declared.listing.Phase.{Phase}
 use Rattle.journal_records.specs.declared.listing.Phase.the-variants.{Header}
 use Rattle.journal.specs.Rest.{Goes, Ends, Fails, Keeps, Got, unsaid, Listed, Left, Waits}
+use Rattle.journal.specs.Turns.{Turns, over, more, TurnsList}
 use Rattle.journal.specs.declared.Rest.{Rest}
 use Rattle.journal.specs.declared.Rest.the-variants.{More, Over, Failed}
 use Rattle.journal.proofs.Parts.{not-both}
@@ -124,3 +125,19 @@ reads-on {p} {q} {held} {text} {said} {n} R C =
   where
     G : Goes p (held ++ C .got) (C .last) said q (C .lists .at)
     G = C .lists .goes
+
+-- ---- what the turns say in all
+
+turns-text : {p : Phase} {held input : List ℕ} {said : ℕ} → Turns p held input said → said ≡ length (textFrom p (held ++ input))
+turns-text {p} {held} (over g) =
+    let e = g .lists in
+    e .all ∙ ap length (sym (e .due [] (λ l. refl)) ∙ ap (textFrom p) (append-nil (held ++ g .got)))
+turns-text {p} {held} (more {q = q} {text = text} {input = input} {said = said} {m = m} {n = n} g turns) =
+    ap (λ (k : ℕ). said + k) (turns-text turns)
+    ∙ ap (λ (k : ℕ). k + length (textFrom q (take m text ++ input))) (g .lists .goes .all)
+    ∙ sym (length-append (g .lists .goes .text) (textFrom q (take m text ++ input)))
+    ∙ ap (λ (l : List ℕ). length (g .lists .goes .text ++ textFrom q (l ++ input))) (g .lists .front)
+    ∙ ap length (sym (g .lists .goes .due input (λ e. not-both e (g .lists .goes .more))) ∙ ap (textFrom p) (append-assoc held (g .got) input))
+
+pub turns-list : TurnsList
+turns-list = record { listed = turns-text }

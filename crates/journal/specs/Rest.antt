@@ -32,6 +32,12 @@ Follows last rest = last ≡ true → rest ≡ []
 abbrev pub Due : Phase → List ℕ → Bool → List ℕ → Phase → List ℕ → Type 0
 Due p s last text q left = (rest : List ℕ) → Follows last rest → textFrom p (s ++ rest) ≡ text ++ textFrom q (left ++ rest)
 
+-- a text that may be said: the listing of some octets, from some phase on, begins with it
+pub record Begins (text : List ℕ) : Type 0 where
+  pub phase : Phase
+  pub octets : List ℕ
+  pub front : take (length text) (textFrom phase octets) ≡ text
+
 -- a part s of which the octets from `at` on are left: more have to come, and they are fewer than a record. What is due of the
 -- others is said
 pub record Goes (p : Phase) (s : List ℕ) (last : Bool) (said : ℕ) (q : Phase) (at : ℕ) : Type 0 where

@@ -5,7 +5,7 @@ ghost use Prim.Native.Nat.{_+_, _-_, _≤_};
 ghost use mathlib.Core.Path.{_≡_};
 ghost use lib.ListN.{length, take, drop};
 ghost use lib.Seq.{paste};
-ghost use Rattle.journal.specs.Rest.{restAfter, Listed, Left, Waits};
+ghost use Rattle.journal.specs.Rest.{restAfter, Begins, Listed, Left, Waits};
 ghost use Rattle.journal_records.specs.Parts.{crowded};
 use journal_records::listing::ListAnswer;
 use journal_records::listing::Phase;
@@ -34,6 +34,7 @@ struct Outcome {
 // Writes a text, and answers how many octets of it are written: all, or none where that fails. No contract tells what C has
 // written: that it is the text, and that the answer is right, is tested.
 fn say(text: &[u8]) -> usize
+    requires { ⌜ Begins (now text) ⌝ }
     ensures { λ r. ⌜ r ≤ length (now (text .entry)) ⌝ }
 {
     if io::write_all(STDOUT_FILENO, text) {

@@ -7,7 +7,7 @@ use native.Mathlib.Omega.{arith}
 use lib.ListN.{length}
 use borrow.Author.Needs.{needs}
 use borrow.Author.Tests.{not-true, not-false}
-use Rattle.journal.proofs.Parts.{SoFar, at-first, further, same-size, countable, failed, settled, listed-as, less, on}
+use Rattle.journal.proofs.Parts.{SoFar, at-first, further, begins, same-size, countable, failed, settled, listed-as, less, on}
 use Rattle.journal.proofs.list.Statement.{statement}
 use Rattle.journal.proofs.list.Tie as tie
 
@@ -16,6 +16,12 @@ Inv-loop bytes last out₀ to-come₀ at₀ said₀ out to-come at said = SoFar 
 
 abbrev μ-loop : tie.MeasureT-loop
 μ-loop bytes last out₀ to-come₀ at₀ said₀ out to-come at said = length bytes - at
+
+say-requires : tie.Need-say-requires Inv-loop μ-loop
+say-requires c κs =
+    let p = c .before .before .before .before in
+    let t = p .before .before in
+    begins (t .before .loop .inv .0) (t .tail .ensures) (p .list-part .ensures) (c .front .ensures)
 
 add-at : tie.Need-add-at Inv-loop μ-loop
 add-at c =
@@ -111,7 +117,7 @@ list-spec =
     (λ c κs. search needs)
     (λ c κs. search needs)
     (λ c κs. search needs)
-    (λ c κs. search needs)
+    say-requires
     add-at
     add-said
     same-length
