@@ -1,21 +1,24 @@
 -- A turn of the program: what is read behind the octets held, and what is kept of it.
 -- Assumes nothing.
-use Prim.Native.Nat.{ℕ, _+_, _-_, _≤_}
+use Prim.Native.Nat.{ℕ, zero, suc, _+_, _-_, _≤_, min}
 use mathlib.Core.Bool.{Bool, true, false}
 use mathlib.Core.Path.{_≡_, refl, sym, ap, subst, _∙_}
-use mathlib.Core.List.{List, [], _++_, append-assoc, append-nil}
-use native.Mathlib.Nat.{zero-add}
+use mathlib.Core.List.{List, [], _∷_, _++_, append-assoc, append-nil}
+use native.Mathlib.Nat.{zero-add, not-suc-le-zero, zero-min, min-zero, suc-min-suc}
 use native.Mathlib.Omega.{arith}
 use lib.Dec.{eqb}
-use lib.ListN.{length, take, drop, length-drop, length-append}
+use lib.IntN.{ℤ, pos, negsuc}
+use lib.ListN.{length, take, drop, length-take, length-drop, length-append}
+use lib.Signed.{ltZ}
 use lib.Seq.{paste, take-paste, take-add, take-at, drop-at, length-take-le}
-use borrow.Author.Tests.{eq-eqb, ne-eqb, eqb-true, eqb-false}
-use borrow.Rule.Slice.PartMut.{midOf, postOf, putMid, same-len-mid}
+use borrow.Author.Tests.{eq-eqb, ne-eqb, eqb-true, eqb-false, ltb-true}
+use borrow.Rule.Slice.PartMut.{midOf, postOf, putMid}
+use Rattle.io.specs.Counts.{clamped}
 use Rattle.journal_records.specs.Listing.{listing}
 use Rattle.journal_records.specs.Parts.{textFrom}
 use Rattle.journal_records.specs.declared.listing.Phase.{Phase}
 use Rattle.journal_records.specs.declared.listing.Phase.the-variants.{Header}
-use Rattle.journal.specs.Rest.{Goes, Ends, Fails, Keeps, Got, unsaid, Listed, Left, Waits}
+use Rattle.journal.specs.Rest.{Goes, Keeps, Got, Breaks, unread, unsaid, Left, AfterRead, Waits}
 use Rattle.journal.specs.Turns.{Turns, over, more, TurnsList}
 use Rattle.journal.specs.declared.Rest.{Rest}
 use Rattle.journal.specs.declared.Rest.the-variants.{More, Over, Failed}
@@ -50,44 +53,69 @@ module _ (text : List ℕ) (n : ℕ) {p q : Phase} {s : List ℕ} {last : Bool} 
         front = ap (λ (k : ℕ). take k text′) em ∙ ap (take (n - at)) et ∙ kept-front text at n in-range h ∙ ap (drop at) (sym es);
       })
 
--- a read into the buffer behind the octets held, which gives m octets
+-- ---- a read
+
+-- as many octets as a read answered, of those behind the ones held
+take-min : (k : ℕ) (l : List ℕ) → take (min k (length l)) l ≡ take k l
+take-min zero l = rw (zero-min (length l))
+take-min (suc k) [] = rw (min-zero (suc k))
+take-min (suc k) (x ∷ l) = rw (suc-min-suc k (length l)) (ap (λ (r : List ℕ). x ∷ r) (take-min k l))
+
+-- nothing is read where the octets are those that were held
+same-test : (held m n : ℕ) → n ≡ m → eqb (held + m) held ≡ eqb n 0
+same-test held m n e = by-test (eqb n 0) refl
+  where
+    by-test : (b : Bool) → eqb n 0 ≡ b → eqb (held + m) held ≡ b
+    by-test true z = let y = eqb-true n 0 z in eq-eqb (held + m) held (omega arith)
+    by-test false z = ne-eqb (held + m) held (λ x. eqb-false n 0 z (omega arith))
+
+module _ (p : Phase) (text : List ℕ) (held : ℕ) where
+  pub read-failed : {z z′ : ℤ} (text′ : List ℕ) → z′ ≡ z → ltZ z′ (pos 0) ≡ true → AfterRead z p (take held text) (drop held text) 0 Failed text′
+  read-failed {z} text′ ez e = by-sign z (sym (ap (λ (y : ℤ). ltZ y (pos 0)) ez) ∙ e)
+    where
+      by-sign : (z : ℤ) → ltZ z (pos 0) ≡ true → AfterRead z p (take held text) (drop held text) 0 Failed text′
+      by-sign (negsuc k) e = (refl, refl)
+      by-sign (pos k) e = absurd (not-suc-le-zero (ltb-true k 0 e))
+
+  module _ (t : List ℕ) (m : ℕ) (et : t ≡ drop held text) where
+    pub read-within : held ≤ length text → m ≤ length t → held + m ≤ length text
+    read-within few h = omega (arith, length-drop held text, ap length et)
+
+    some-sign : (z : ℤ) (said : ℕ) (r : Rest) (text′ : List ℕ) → ltZ z (pos 0) ≡ false → m ≡ clamped z (length t)
+        → Left p (take (held + m) text) (eqb (held + m) held) said r text′ → AfterRead z p (take held text) (drop held text) said r text′
+    some-sign (negsuc k) said r text′ e em l = not-both refl e
+    some-sign (pos k) said r text′ e em l =
+        let n : m ≡ min k (length (drop held text)) = em ∙ ap (λ (x : List ℕ). min k (length x)) et in
+        let s : take (held + m) text ≡ take held text ++ take k (drop held text) =
+        take-add held m text ∙ ap (λ (x : ℕ). take held text ++ take x (drop held text)) n ∙ ap (λ (x : List ℕ). take held text ++ x) (take-min k (drop held text)) in
+        let b : eqb (held + m) held ≡ eqb (length (take k (drop held text))) 0 = same-test held m (length (take k (drop held text))) (length-take k (drop held text) ∙ sym n) in
+        subst (λ (x : Bool). Left p (take held text ++ take k (drop held text)) x said r text′) b
+        (subst (λ (x : List ℕ). Left p x (eqb (held + m) held) said r text′) s l)
+
+    pub read-some : {z z′ : ℤ} (said : ℕ) (r : Rest) (text′ : List ℕ) → z′ ≡ z → ltZ z′ (pos 0) ≡ false → m ≡ clamped z′ (length t)
+        → Left p (take (held + m) text) (eqb (held + m) held) said r text′ → AfterRead z p (take held text) (drop held text) said r text′
+    read-some {z} said r text′ ez e em l =
+        some-sign z said r text′ (sym (ap (λ (y : ℤ). ltZ y (pos 0)) ez) ∙ e) (em ∙ ap (λ (y : ℤ). clamped y (length t)) ez) l
+
+-- a read into the buffer leaves the octets held
 module _ (text part : List ℕ) (held : ℕ) (e : length part ≡ length (midOf held (length text - held) text)) (few : held ≤ length text) where
   abbrev filled : List ℕ
   filled = putMid held (length text - held) text part
 
-  filled-front : take held filled ≡ take held text
+  pub filled-front : take held filled ≡ take held text
   filled-front = take-at (take held text) (part ++ postOf held (length text - held) text) held (length-take-le held text few)
-
-  module _ {t : List ℕ} (m : ℕ) (et : t ≡ drop held filled) (h : m ≤ length t) where
-    pub read-within : held + m ≤ length filled
-    read-within = omega (arith, length-drop held filled, ap length et, same-len-mid held (length text - held) text part e)
-
-    -- nothing is read where the octets are those that were held
-    abbrev got : List ℕ
-    got = take m (drop held filled)
-
-    long : length got ≡ m
-    long = length-take-le m (drop held filled) (omega (arith, ap length et))
-
-    pub read-none : eqb (held + m) held ≡ eqb (length got) 0
-    read-none = by-test (eqb (length got) 0) refl
-      where
-        by-test : (b : Bool) → eqb (length got) 0 ≡ b → eqb (held + m) held ≡ b
-        by-test true z = let y = eqb-true (length got) 0 z in eq-eqb (held + m) held (omega (arith, long))
-        by-test false z = ne-eqb (held + m) held (λ x. eqb-false (length got) 0 z (omega (arith, long)))
-
-  pub read-behind : (m : ℕ) → take (held + m) filled ≡ take held text ++ take m (drop held filled)
-  read-behind m = take-add held m filled ∙ ap (λ (l : List ℕ). l ++ take m (drop held filled)) filled-front
 
 -- ---- the answers of `list`, `list_held` and `turn`
 
-pub waits : (p : Phase) (s held got : List ℕ) (last : Bool) (said : ℕ) (r : Rest) (text : List ℕ) → Left p s last said r text → s ≡ held ++ got
-    → last ≡ eqb (length got) 0 → Waits p held said r text
-waits p s held got last said (More q m) text k e z =
-    record { got = got; last = last; end = z; lists = subst (λ (l : List ℕ). Keeps p l last said q m text) e k }
-waits p s held got last said Over text k e z = record { got = got; last = last; end = z; lists = subst (λ (l : List ℕ). Ends p l last said) e k }
-waits p s held got last said Failed text k e z =
-    unsaid (record { got = got; last = last; end = z; lists = subst (λ (l : List ℕ). Fails p l last said) e k })
+pub waits : (z : ℤ) (p : Phase) (held held′ behind : List ℕ) (said : ℕ) (r : Rest) (text : List ℕ) → held ≡ held′ → AfterRead z p held behind said r text
+    → Waits p held′ said r text
+waits z p held held′ behind said r text e a = subst (λ (l : List ℕ). Waits p l said r text) e (by-answer z r a)
+  where
+    by-answer : (z : ℤ) (r : Rest) → AfterRead z p held behind said r text → Waits p held said r text
+    by-answer (negsuc k) r a = subst (λ (x : Rest). Waits p held said x text) (sym (a .1)) (subst (Breaks p held) (sym (a .0)) unread)
+    by-answer (pos k) (More q m) a = record { got = take k behind; last = eqb (length (take k behind)) 0; end = refl; lists = a }
+    by-answer (pos k) Over a = record { got = take k behind; last = eqb (length (take k behind)) 0; end = refl; lists = a }
+    by-answer (pos k) Failed a = unsaid (record { got = take k behind; last = eqb (length (take k behind)) 0; end = refl; lists = a })
 
 abbrev pub Carries : Phase → List ℕ → ℕ → Phase → ℕ → List ℕ → Type 0
 Carries p held said q m text = Got held (λ s last. Keeps p s last said q m text)

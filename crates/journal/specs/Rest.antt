@@ -6,6 +6,7 @@ use mathlib.Core.Bool.{Bool, true, false}
 use mathlib.Core.Path.{_≡_}
 use mathlib.Core.List.{List, [], _++_}
 use lib.Dec.{eqb}
+use lib.IntN.{ℤ, pos, negsuc}
 use lib.ListN.{length, take, drop}
 use Rattle.journal_records.specs.Parts.{textFrom}
 use Rattle.journal_records.specs.declared.listing.ListAnswer.{ListAnswer}
@@ -76,6 +77,12 @@ abbrev pub Left : Phase → List ℕ → Bool → ℕ → Rest → List ℕ → 
 Left p s last said (More q m) text = Keeps p s last said q m text
 Left p s last said Over text = Ends p s last said
 Left p s last said Failed text = Fails p s last said
+
+-- what a read has answered: it failed, and nothing is said; or so many of the octets behind those held are listed with them, as the
+-- last part where they are none
+abbrev pub AfterRead : ℤ → Phase → List ℕ → List ℕ → ℕ → Rest → List ℕ → Type 0
+AfterRead (negsuc k) p held behind said r text = (said ≡ 0) × (r ≡ Failed)
+AfterRead (pos k) p held behind said r text = Left p (held ++ take k behind) (eqb (length (take k behind)) 0) said r text
 
 -- what was listed: the octets held with some octets `got` behind them, and that is the last part where nothing was got. That `got` is
 -- what the read gave is not stated: no contract tells

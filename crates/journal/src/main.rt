@@ -5,7 +5,7 @@ ghost use Prim.Native.Nat.{_+_, _-_, _≤_};
 ghost use mathlib.Core.Path.{_≡_};
 ghost use lib.ListN.{length, take, drop};
 ghost use lib.Seq.{paste};
-ghost use Rattle.journal.specs.Rest.{restAfter, Begins, Listed, Left, Waits};
+ghost use Rattle.journal.specs.Rest.{restAfter, Begins, Listed, Left, AfterRead, Waits};
 ghost use Rattle.journal_records.specs.Parts.{crowded};
 use journal_records::listing::ListAnswer;
 use journal_records::listing::Phase;
@@ -144,12 +144,12 @@ fn list_held(phase: Phase, text: &mut [u8], n: usize, last: bool, out: &mut [u8]
     }
 }
 
-// Reads behind the octets that are held, and lists. Where nothing comes the input is at its end.
-fn turn(phase: Phase, text: &mut [u8], held: usize, out: &mut [u8]) -> Outcome
+// Lists the octets that are held with those behind them, as many as a read answered. Where it answered none the input is at its
+// end.
+fn list_read(phase: Phase, text: &mut [u8], held: usize, got: isize, out: &mut [u8]) -> Outcome
     requires { ⌜ (held ≤ 20) × ((65536 ≡ length (now text)) × (65536 ≡ length (now out))) ⌝ }
-    ensures { λ r. ⌜ Waits phase (take held (now (text .entry))) (r .said) (r .rest) (now (text .exit)) ⌝ }
+    ensures { λ r. ⌜ AfterRead got phase (take held (now (text .entry))) (drop held (now (text .entry))) (r .said) (r .rest) (now (text .exit)) ⌝ }
 {
-    let got = libc::read(STDIN_FILENO, &mut text[held..]);
     if got < 0 {
         io::write_all(STDERR_FILENO, b"journal: cannot read\n");
         return Outcome {
@@ -159,6 +159,15 @@ fn turn(phase: Phase, text: &mut [u8], held: usize, out: &mut [u8]) -> Outcome
     }
     let n = held + io::count(got, tail(text, held));
     list_held(phase, text, n, n == held, out)
+}
+
+// Reads behind the octets that are held, and lists.
+fn turn(phase: Phase, text: &mut [u8], held: usize, out: &mut [u8]) -> Outcome
+    requires { ⌜ (held ≤ 20) × ((65536 ≡ length (now text)) × (65536 ≡ length (now out))) ⌝ }
+    ensures { λ r. ⌜ Waits phase (take held (now (text .entry))) (r .said) (r .rest) (now (text .exit)) ⌝ }
+{
+    let got = libc::read(STDIN_FILENO, &mut text[held..]);
+    list_read(phase, text, held, got, out)
 }
 
 // A proved loop has to end, and nothing says that the input does: so the turns are counted down from a number that no
