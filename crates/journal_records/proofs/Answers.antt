@@ -1,6 +1,6 @@
 -- What an answer comes to where octets were dealt with before.
 -- Assumes nothing.
-use Prim.Native.Nat.{ℕ, zero, suc, _+_}
+use Prim.Native.Nat.{ℕ, zero, suc, _+_, _≤_}
 use mathlib.Core.Bool.{Bool, true, false}
 use mathlib.Core.Path.{_≡_, refl, sym, ap, _∙_}
 use native.Mathlib.Nat.{zero-add, add-zero}
@@ -8,7 +8,7 @@ use native.Mathlib.Omega.{arith}
 use lib.Dec.{eqb}
 use borrow.Author.Tests.{eq-eqb, ne-eqb}
 use Rattle.types.specs.Codes.{pick}
-use Rattle.journal_records.specs.Parts.{later, answerAfter, goesOn, crowded}
+use Rattle.journal_records.specs.Parts.{listCause, later, answerAfter, goesOn, crowded}
 use Rattle.journal_records.specs.declared.listing.ListAnswer.{ListAnswer}
 use Rattle.journal_records.specs.declared.listing.ListAnswer.the-variants.{More, Full, End, BufferTooShort, NotAJournal, UnknownVersion, RecordInvalid}
 
@@ -18,19 +18,21 @@ record Kept (a : ListAnswer) : Type 0 where
   on : goesOn (later a) ≡ goesOn a
   room : crowded (later a) ≡ crowded a
   more : later a ≡ More → a ≡ More
+  end : later a ≡ End → a ≡ End
+  refused : 17 ≤ listCause (later a) .number → later a ≡ a
   never : later a ≡ BufferTooShort → ⊥
 
 other : {a : ListAnswer} → a ≡ BufferTooShort → crowded a ≡ false → ⊥
 other e f = let z : true ≡ false = sym (ap crowded e) ∙ f in let y : _≡_ {A = ℕ} 0 1 = cc in omega arith
 
 kept : (a : ListAnswer) → Kept a
-kept More = record { twice = refl; on = refl; room = refl; more = λ e. refl; never = λ e. other e refl }
-kept Full = record { twice = refl; on = refl; room = refl; more = λ e. (cc); never = λ e. let z : _≡_ {A = ℕ} 0 1 = cc in omega arith }
-kept End = record { twice = refl; on = refl; room = refl; more = λ e. (cc); never = λ e. other e refl }
-kept BufferTooShort = record { twice = refl; on = refl; room = refl; more = λ e. (cc); never = λ e. let z : _≡_ {A = ℕ} 0 1 = cc in omega arith }
-kept NotAJournal = record { twice = refl; on = refl; room = refl; more = λ e. (cc); never = λ e. other e refl }
-kept UnknownVersion = record { twice = refl; on = refl; room = refl; more = λ e. (cc); never = λ e. other e refl }
-kept RecordInvalid = record { twice = refl; on = refl; room = refl; more = λ e. (cc); never = λ e. other e refl }
+kept More = record { twice = refl; on = refl; room = refl; more = λ e. refl; end = λ e. (cc); refused = λ h. refl; never = λ e. other e refl }
+kept Full = record { twice = refl; on = refl; room = refl; more = λ e. (cc); end = λ e. (cc); refused = λ h. refl; never = λ e. let z : _≡_ {A = ℕ} 0 1 = cc in omega arith }
+kept End = record { twice = refl; on = refl; room = refl; more = λ e. (cc); end = λ e. refl; refused = λ h. refl; never = λ e. other e refl }
+kept BufferTooShort = record { twice = refl; on = refl; room = refl; more = λ e. (cc); end = λ e. (cc); refused = λ h. let z : ⊥ = omega arith in absurd z; never = λ e. let z : _≡_ {A = ℕ} 0 1 = cc in omega arith }
+kept NotAJournal = record { twice = refl; on = refl; room = refl; more = λ e. (cc); end = λ e. (cc); refused = λ h. refl; never = λ e. other e refl }
+kept UnknownVersion = record { twice = refl; on = refl; room = refl; more = λ e. (cc); end = λ e. (cc); refused = λ h. refl; never = λ e. other e refl }
+kept RecordInvalid = record { twice = refl; on = refl; room = refl; more = λ e. (cc); end = λ e. (cc); refused = λ h. refl; never = λ e. other e refl }
 
 pub after-none : (n : ℕ) (a : ListAnswer) → n ≡ 0 → answerAfter n a ≡ a
 unfolding answerAfter
@@ -64,6 +66,12 @@ after-room n a = by-count n a (λ x. crowded x ≡ crowded a) refl (kept a .room
 
 pub after-more : (n : ℕ) (a : ListAnswer) → answerAfter n a ≡ More → a ≡ More
 after-more n a = by-count n a (λ x. x ≡ More → a ≡ More) (λ e. e) (kept a .more)
+
+pub after-end : (n : ℕ) (a : ListAnswer) → answerAfter n a ≡ End → a ≡ End
+after-end n a = by-count n a (λ x. x ≡ End → a ≡ End) (λ e. e) (kept a .end)
+
+pub after-refused : (n : ℕ) (a : ListAnswer) → 17 ≤ listCause (answerAfter n a) .number → answerAfter n a ≡ a
+after-refused n a = by-count n a (λ x. 17 ≤ listCause x .number → x ≡ a) (λ h. refl) (kept a .refused)
 
 pub after-never : (n : ℕ) (a : ListAnswer) → (n ≡ 0 → ⊥) → answerAfter n a ≡ BufferTooShort → ⊥
 after-never n a f e = kept a .never (sym (after-some n a f) ∙ e)

@@ -10,15 +10,15 @@ use lib.Dec.{eqb}
 use lib.ListN.{length, take, drop, replicate, length-append, length-drop, length-replicate}
 use lib.Seq.{drop-drop, take-append-seam}
 use borrow.Author.Tests.{eqb-true, eqb-false}
-use Rattle.journal_records.specs.InParts.{Run, over, call, ListsInParts}
-use Rattle.journal_records.specs.Listing.{version1}
-use Rattle.journal_records.specs.Parts.{Piece, stopped, ahead, stepOf, partOf, told, Lists, textFrom, goesOn, crowded, dueAfter, needed}
+use Rattle.journal_records.specs.InParts.{Run, over, call, EndsIn, ListsInParts}
+use Rattle.journal_records.specs.Listing.{version1, refusedLine}
+use Rattle.journal_records.specs.Parts.{Piece, stopped, ahead, stepOf, partOf, told, Lists, listCause, textFrom, goesOn, crowded, dueAfter, needed}
 use Rattle.types.specs.Codes.{pick}
 use Rattle.journal_records.specs.declared.listing.ListAnswer.{ListAnswer}
 use Rattle.journal_records.specs.declared.listing.ListAnswer.the-variants.{More, Full, End, BufferTooShort, NotAJournal, UnknownVersion, RecordInvalid}
 use Rattle.journal_records.specs.declared.listing.Part.{Part}
 use Rattle.journal_records.specs.declared.listing.Phase.{Phase}
-use Rattle.journal_records.proofs.Answers.{after-on, after-room, after-more, after-never}
+use Rattle.journal_records.proofs.Answers.{after-on, after-room, after-more, after-end, after-refused, after-never}
 use Rattle.journal_records.proofs.PartLaws.{fewer, part-stops, part-goes-on}
 use Rattle.journal_records.proofs.Steps.{Bounded, step-due, step-bounded}
 use Rattle.journal_records.proofs.Views.{Lined, View, view, waits, ends, full, lined, head-cut, unmarked, other-version, head-good, short, fault, good}
@@ -45,14 +45,15 @@ lined-line (fault h e) f = absurd (f refl)
 lined-line (good h e) f = refl
 
 -- a line is written for octets that it consumes, or for a refusal
-lined-room : {p : Phase} {s : List ℕ} {last : Bool} {q : Piece} → Lined p s last q → (crowded (q .answer) ≡ false) × (q .consumed ≡ 0 → q .answer ≡ More → ⊥)
-lined-room (head-cut h) = (refl, λ z e. never (cc))
-lined-room (unmarked h m) = (refl, λ z e. never (cc))
-lined-room (other-version h m v) = (refl, λ z e. never (cc))
-lined-room (head-good h m v) = (refl, λ z e. omega arith)
-lined-room (short h n) = (refl, λ z e. never (cc))
-lined-room (fault h k) = (refl, λ z e. never (cc))
-lined-room (good h k) = (refl, λ z e. omega arith)
+lined-room : {p : Phase} {s : List ℕ} {last : Bool} {q : Piece} → Lined p s last q
+    → (crowded (q .answer) ≡ false) × ((q .consumed ≡ 0 → q .answer ≡ More → ⊥) × (q .answer ≡ End → ⊥))
+lined-room (head-cut h) = (refl, (λ z e. never (cc), λ e. never (cc)))
+lined-room (unmarked h m) = (refl, (λ z e. never (cc), λ e. never (cc)))
+lined-room (other-version h m v) = (refl, (λ z e. never (cc), λ e. never (cc)))
+lined-room (head-good h m v) = (refl, (λ z e. omega arith, λ e. never (cc)))
+lined-room (short h n) = (refl, (λ z e. never (cc), λ e. never (cc)))
+lined-room (fault h k) = (refl, (λ z e. never (cc), λ e. never (cc)))
+lined-room (good h k) = (refl, (λ z e. omega arith, λ e. never (cc)))
 
 view-line : {p : Phase} {s : List ℕ} {last : Bool} {room : ℕ} {q : Piece} → View p s last room q → (q .consumed ≡ 0 → ⊥) → q .answer ≡ More
 view-line (waits h) f = refl
@@ -65,7 +66,40 @@ view-more : {p : Phase} {s : List ℕ} {last : Bool} {room : ℕ} {q : Piece} �
 view-more (waits h) z e = (refl, omega arith)
 view-more (ends h) z e = absurd (never (cc))
 view-more (full h) z e = absurd (never (cc))
-view-more (lined r l) z e = absurd (lined-room l .1 z e)
+view-more (lined r l) z e = absurd (lined-room l .1 .0 z e)
+
+view-end : {p : Phase} {s : List ℕ} {last : Bool} {room : ℕ} {q : Piece} → View p s last room q → q .answer ≡ End → (last ≡ true) × (q .consumed ≡ length s)
+view-end (waits h) e = absurd (never (cc))
+view-end (ends h) e = (refl, sym h)
+view-end (full h) e = absurd (never (cc))
+view-end (lined r l) e = absurd (lined-room l .1 .1 e)
+
+-- a refusal is its line
+abbrev Refused : Piece → Type 0
+Refused q = 17 ≤ listCause (q .answer) .number → EndsIn (refusedLine (listCause (q .answer) .number)) (q .text)
+
+lined-refused : {p : Phase} {s : List ℕ} {last : Bool} {q : Piece} → Lined p s last q → Refused q
+lined-refused (head-cut h) k = record { front = []; joins = refl }
+lined-refused (unmarked h m) k = record { front = []; joins = refl }
+lined-refused (other-version h m v) k = record { front = []; joins = refl }
+lined-refused (head-good h m v) k = let z : ⊥ = omega arith in absurd z
+lined-refused (short h n) k = record { front = []; joins = refl }
+lined-refused (fault h e) k = record { front = []; joins = refl }
+lined-refused (good h e) k = let z : ⊥ = omega arith in absurd z
+
+view-refused : {p : Phase} {s : List ℕ} {last : Bool} {room : ℕ} {q : Piece} → View p s last room q → Refused q
+view-refused (waits h) k = let z : ⊥ = omega arith in absurd z
+view-refused (ends h) k = let z : ⊥ = omega arith in absurd z
+view-refused (full h) k = let z : ⊥ = omega arith in absurd z
+view-refused (lined r l) k = lined-refused l k
+
+refused-ahead : (c : ℕ) (t : List ℕ) (q : Piece) → Refused q → Refused (ahead c t q)
+refused-ahead c t q f k =
+    let e = after-refused c (q .answer) k in
+    rw e (behind (f (rw e at k)))
+  where
+    behind : {line : List ℕ} → EndsIn line (q .text) → EndsIn line (t ++ q .text)
+    behind {line} x = record { front = t ++ x .front; joins = ap (λ (u : List ℕ). t ++ u) (x .joins) ∙ sym (append-assoc t (x .front) line) }
 
 -- what a step answers where there is no room
 view-crowded : {p : Phase} {s : List ℕ} {last : Bool} {room : ℕ} {q : Piece} → View p s last room q → crowded (q .answer) ≡ true
@@ -166,6 +200,19 @@ module _ (last : Bool) where
       (λ p s room q f h e.
       rw length-append (omega (arith, h (sym (after-room (stepOf p s last room .consumed) (q .answer)) ∙ e), step-bounded p s last room .fits)))
 
+  pub part-end : (p : Phase) (s : List ℕ) (room : ℕ) → partOf p s last room .answer ≡ End → (last ≡ true) × (partOf p s last room .consumed ≡ length s)
+  part-end =
+      of-part (λ p s room q. q .answer ≡ End → (last ≡ true) × (q .consumed ≡ length s)) (λ p s room z. view-end (view p s last room))
+      (λ p s room q f h e.
+      let m = h (after-end (stepOf p s last room .consumed) (q .answer) e) in
+      let k = m .1 in
+      (m .0, omega (arith, length-drop (stepOf p s last room .consumed) s, step-bounded p s last room .most)))
+
+  pub part-refused : (p : Phase) (s : List ℕ) (room : ℕ) → Refused (partOf p s last room)
+  part-refused =
+      of-part (λ p s room q. Refused q) (λ p s room z. view-refused (view p s last room))
+      (λ p s room q f h. refused-ahead (stepOf p s last room .consumed) (stepOf p s last room .text) q h)
+
 -- ---- how a call begins
 
 module _ (p : Phase) (s : List ℕ) (last : Bool) (room : ℕ) where
@@ -225,6 +272,12 @@ module _ {p : Phase} {s : List ℕ} {last : Bool} {r : Part} {out after : List �
       let k = part-full last p s (length out) (ap crowded (answered e)) in
       let n : length (partOf p s last (length out) .text) ≡ 0 = ap (λ (x : Piece). length (x .text)) q in
       (omega arith, (ap (λ (x : Part). x .consumed) t, (ap (λ (x : Part). x .phase) t, L .holds ∙ ap (λ (x : Piece). x .text ++ drop (length (x .text)) out) q)))
+
+  call-end : r .answer ≡ End → (last ≡ true) × (r .consumed ≡ length s)
+  call-end e = rw (L .answer) (part-end last p s (length out) (answered e))
+
+  call-refused : 17 ≤ listCause (r .answer) .number → EndsIn (refusedLine (listCause (r .answer) .number)) (take (r .written) after)
+  call-refused k = rw (printed, ← answered refl) (part-refused last p s (length out) (rw (← answered refl) at k))
 
 run-text : {room : ℕ} {p : Phase} {input text : List ℕ} → Run room p input text → text ≡ textFrom p input
 run-text (over {s = s} {rest = rest} {r = r} {after = after} L h l g) =
@@ -298,6 +351,8 @@ lists-in-parts =
       more = call-more;
       full = call-full;
       short = call-short;
+      end = call-end;
+      refused = call-refused;
       listed = run-text;
       ends = λ room line p left. runs room line (suc (length left)) p left (omega arith);
     }

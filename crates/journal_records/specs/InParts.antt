@@ -5,9 +5,9 @@ use mathlib.Core.Bool.{Bool, true, false}
 use mathlib.Core.Path.{_≡_}
 use mathlib.Core.List.{List, [], _++_}
 use lib.ListN.{length, take, drop}
-use Rattle.journal_records.specs.Listing.{lineMost, listing}
-use Rattle.journal_records.specs.Parts.{Lists, textFrom, needed, goesOn, dueAfter}
-use Rattle.journal_records.specs.declared.listing.ListAnswer.the-variants.{More, Full, BufferTooShort}
+use Rattle.journal_records.specs.Listing.{lineMost, refusedLine, listing}
+use Rattle.journal_records.specs.Parts.{Lists, listCause, textFrom, needed, goesOn, dueAfter}
+use Rattle.journal_records.specs.declared.listing.ListAnswer.the-variants.{More, Full, End, BufferTooShort}
 use Rattle.journal_records.specs.declared.listing.Part.{Part}
 use Rattle.journal_records.specs.declared.listing.Phase.{Phase}
 use Rattle.journal_records.specs.declared.listing.Phase.the-variants.{Header}
@@ -23,6 +23,11 @@ pub data Run (room : ℕ) : Phase → List ℕ → List ℕ → Type 0 where
       → room ≤ length out → (last ≡ true → rest ≡ []) → goesOn (r .answer) ≡ true
       → Run room (r .phase) (drop (r .consumed) s ++ rest) text
       → Run room p (s ++ rest) (take (r .written) after ++ text)
+
+-- a text whose last line is this one
+pub record EndsIn (line text : List ℕ) : Type 0 where
+  pub front : List ℕ
+  pub joins : text ≡ front ++ line
 
 pub record ListsInParts : Type 0 where
   -- one call prints the start of the text that is due, and leaves the rest due: none, after the end or a refusal
@@ -41,6 +46,12 @@ pub record ListsInParts : Type 0 where
   -- 1 is answered only where less is lent, and leaves all as it was
   pub short : {p : Phase} {s : List ℕ} {last : Bool} {r : Part} {out after : List ℕ} → Lists p s last r out after → r .answer ≡ BufferTooShort
       → (length out < lineMost) × ((r .consumed ≡ 0) × ((r .phase ≡ p) × (after ≡ out)))
+  -- the end is answered where the last octets are dealt with
+  pub end : {p : Phase} {s : List ℕ} {last : Bool} {r : Part} {out after : List ℕ} → Lists p s last r out after → r .answer ≡ End
+      → (last ≡ true) × (r .consumed ≡ length s)
+  -- where 17, 18 or 19 is answered, the line that says so is the last that was written
+  pub refused : {p : Phase} {s : List ℕ} {last : Bool} {r : Part} {out after : List ℕ} → Lists p s last r out after → 17 ≤ listCause (r .answer) .number
+      → EndsIn (refusedLine (listCause (r .answer) .number)) (take (r .written) after)
   -- whatever room the calls have, what they print in all is the listing
   pub listed : {room : ℕ} {input text : List ℕ} → Run room Header input text → text ≡ listing input
   -- and there is such a run wherever each call has room for a line: from any phase and any octets left, calls go on to the end
