@@ -1,12 +1,13 @@
 -- The numbers of the journal's answers are those of 01's table, and rows tell answers apart: each is read back from its row.
 -- Assumes nothing.
 use Prim.Native.Nat.{ℕ}
-use mathlib.Core.Path.{_≡_, refl, sym, ap, _∙_}
+use mathlib.Core.Path.{_≡_, refl}
 use mathlib.Core.List.{[], _∷_}
 use lib.Dec.{eqb}
 use lib.ListN.{getD}
 use Rattle.types.specs.Causes.{Cause, row}
 use Rattle.types.specs.Codes.{pick}
+use Rattle.types.proofs.Apart.{apart}
 use Rattle.journal_records.specs.Causes.{CausesTell}
 use Rattle.journal_records.specs.Parts.{listCause}
 use Rattle.journal_records.specs.Record.{journalCause}
@@ -17,9 +18,6 @@ use Rattle.journal_records.specs.declared.WholeLenAnswer.{WholeLenAnswer
 use Rattle.journal_records.specs.declared.WholeLenAnswer.the-variants as whole
 use Rattle.journal_records.specs.declared.listing.ListAnswer.{ListAnswer}
 use Rattle.journal_records.specs.declared.listing.ListAnswer.the-variants as listing
-
-tells : {A : Type 0} (cause : A → Cause) (answer : Cause → A) → ((a : A) → answer (cause a) ≡ a) → (a b : A) → cause a ≡ cause b → a ≡ b
-tells cause answer back a b e = sym (back a) ∙ ap answer e ∙ back b
 
 -- ---- reading back
 
@@ -98,15 +96,15 @@ list-invalid = refl
 pub causes-tell : CausesTell
 causes-tell =
     record {
-      journal = tells journalCause journalOf journal-back;
+      journal = apart journalCause journalOf journal-back;
       journalWritten = journal-written;
       journalShort = journal-short;
       journalInvalid = journal-invalid;
-      wholeLen = tells wholeLenCause wholeLenOf whole-len-back;
+      wholeLen = apart wholeLenCause wholeLenOf whole-len-back;
       wholeLenWhole = whole-len-whole;
       wholeLenShort = whole-len-short;
       wholeLenVersion = whole-len-version;
-      list = tells listCause listOf list-back;
+      list = apart listCause listOf list-back;
       listMore = list-more;
       listFull = list-full;
       listEnd = list-end;

@@ -21,7 +21,7 @@ say-requires : tie.Need-say-requires Inv-loop μ-loop
 say-requires c κs =
     let p = c .before .before .before .before in
     let t = p .before .before in
-    begins (t .before .loop .inv .0) (t .tail .ensures) (p .list-part .ensures) (c .front .ensures)
+    begins (t .before .loop .inv .0) (t .tail .ensures .octets) (p .list-part .ensures) (c .front .ensures .octets)
 
 add-at : tie.Need-add-at Inv-loop μ-loop
 add-at c =
@@ -40,7 +40,7 @@ add-said c =
     let l = t .before .loop in
     let b = t .before .before .before .before .pre in
     record {
-      fits = omega (arith, countable (l .inv .0) (t .tail .ensures) (p .list-part .ensures) (f .front .ensures) (y .say .ensures) (b .0) (b .1 ∙ sym (l .inv .1)));
+      fits = omega (arith, countable (l .inv .0) (t .tail .ensures .octets) (p .list-part .ensures) (f .front .ensures .octets) (y .say .ensures) (b .0) (b .1 ∙ sym (l .inv .1)));
     }
 
 same-length : tie.Need-same-length Inv-loop μ-loop
@@ -49,7 +49,7 @@ same-length c =
     let p = f .before .before .before .before in
     let t = p .before .before in
     let l = t .before .loop in
-    same-size (l .inv .0) (t .tail .ensures) (p .list-part .ensures) ∙ l .inv .1
+    same-size (l .inv .0) (t .tail .ensures .octets) (p .list-part .ensures) ∙ l .inv .1
 
 returns : tie.Need-returns Inv-loop μ-loop
 returns c =
@@ -58,7 +58,7 @@ returns c =
     let p = f .before .before .before .before in
     let t = p .before .before in
     let l = t .before .loop in
-    failed (l .inv .0) (t .tail .ensures) (p .list-part .ensures) (f .front .ensures) (y .say .ensures) (c .if1 .taken)
+    failed (l .inv .0) (t .tail .ensures .octets) (p .list-part .ensures) (f .front .ensures .octets) (y .say .ensures) (c .if1 .taken)
 
 same-length-2 : tie.Need-same-length-2 Inv-loop μ-loop
 same-length-2 c =
@@ -78,7 +78,7 @@ returns-2 c =
     let t = p .before .before in
     let l = t .before .loop in
     listed-as _ _ _ _ _ _ _ refl (sym (c .rest-after .ensures))
-    (settled (l .inv .0) (t .tail .ensures) (p .list-part .ensures) (f .front .ensures) (y .say .ensures) (e .if1 .left)
+    (settled (l .inv .0) (t .tail .ensures .octets) (p .list-part .ensures) (f .front .ensures .octets) (y .say .ensures) (e .if1 .left)
     (sym (k .is-crowded .ensures) ∙ not-true _ (c .before .if2 .taken)))
 
 loop-less : tie.Need-loop-less Inv-loop μ-loop
@@ -90,7 +90,7 @@ loop-less c =
     let p = f .before .before .before .before in
     let t = p .before .before in
     let l = t .before .loop in
-    less (l .inv .0) (t .tail .ensures) (p .list-part .ensures) (f .front .ensures) (y .say .ensures) (e .if1 .left)
+    less (l .inv .0) (t .tail .ensures .octets) (p .list-part .ensures) (f .front .ensures .octets) (y .say .ensures) (e .if1 .left)
     (sym (k .is-crowded .ensures) ∙ not-false _ (c .if2 .left)) (t .before .before .before .before .pre .1 ∙ sym (l .inv .1))
 
 loop-again : tie.Need-loop-again Inv-loop μ-loop
@@ -102,9 +102,9 @@ loop-again c =
     let p = f .before .before .before .before in
     let t = p .before .before in
     let l = t .before .loop in (
-      on (l .inv .0) (t .tail .ensures) (p .list-part .ensures) (f .front .ensures) (y .say .ensures) (e .if1 .left)
+      on (l .inv .0) (t .tail .ensures .octets) (p .list-part .ensures) (f .front .ensures .octets) (y .say .ensures) (e .if1 .left)
           (sym (k .is-crowded .ensures) ∙ not-false _ (c .if2 .left)) (t .before .before .before .before .pre .1 ∙ sym (l .inv .1)),
-      same-size (l .inv .0) (t .tail .ensures) (p .list-part .ensures) ∙ l .inv .1,
+      same-size (l .inv .0) (t .tail .ensures .octets) (p .list-part .ensures) ∙ l .inv .1,
     )
 
 pub list-spec : {M : Type 1} → statement M

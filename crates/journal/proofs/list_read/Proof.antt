@@ -21,7 +21,7 @@ list-held-requires c κs =
     let t = n .before in
     let a = t .before .before .before .before .before in
     let held : a .args .held ≤ length (a .args .text .now) = omega (arith, a .pre .0, a .pre .1 .0) in
-    (read-within (a .args .phase) _ _ _ _ (t .tail .ensures) held (n .count .ensures .0 .0), (search needs, search needs))
+    (read-within (a .args .phase) _ _ _ _ (t .tail .ensures .octets) held (n .count .ensures .0 .0), (search needs, search needs))
 
 returns-2 : tie.Need-returns-2
 returns-2 c =
@@ -30,7 +30,7 @@ returns-2 c =
     let t = n .before in
     let a = t .before .before .before .before .before in
     let o = l .list-held in
-    read-some (a .args .phase) (a .args .text .now) (a .args .held) _ (n .count .result) (t .tail .ensures) (o .result .said) (o .result .rest) (o .last .1 .0)
+    read-some (a .args .phase) (a .args .text .now) (a .args .held) _ (n .count .result) (t .tail .ensures .octets) (o .result .said) (o .result .rest) (o .last .1 .0)
     (toZ-ofZ (a .fits .got)) (t .before .before .if1 .left) (n .count .ensures .1) (o .ensures)
 
 pub list-read-spec : {M : Type 1} → statement M

@@ -59,7 +59,7 @@ returns c =
     let i = c .before in
     let p = i .before .before .before .before .before .before in
     let t = p .before .before in
-    turn-stop (t .before .loop .inv) (t .tail .ensures) (p .step .ensures) (c .answer-after .ensures) (i .if1 .taken)
+    turn-stop (t .before .loop .inv) (t .tail .ensures .octets) (p .step .ensures) (c .answer-after .ensures) (i .if1 .taken)
 
 loop-less : tie.Need-loop-less Inv-loop μ-loop
 loop-less c =

@@ -25,7 +25,7 @@ returns-2 c =
     let t = e .before in
     prints-as
     (record-fault _ (t .before .before .if1 .left)
-    (ap (validRecord _) (sym (e .entry-at .ensures ∙ ap entryOf (t .tail .ensures))) ∙ sym (v .valid .ensures) ∙ not-true _ (i .if2 .taken)))
+    (ap (validRecord _) (sym (e .entry-at .ensures ∙ ap entryOf (t .tail .ensures .octets))) ∙ sym (v .valid .ensures) ∙ not-true _ (i .if2 .taken)))
     (r .refuse2 .ensures)
 
 returns-3 : tie.Need-returns-3
