@@ -1,4 +1,4 @@
-.PHONY: demo test bench
+.PHONY: demo test numbers bench
 
 # The main job, proved and run; then what the box handed out, as the journal has it. The listing has a line for each of
 # thousands of records, so its first and last lines are shown.
@@ -14,6 +14,11 @@ demo:
 # The gate, and nothing else.
 test:
 	.ci/run
+
+# Each number and value of 01's tables of causes, changed: the prover must refuse every change. It goes by what the gate has proved.
+numbers:
+	rt check
+	python3 tests/numbers.py
 
 # Speed, beside powerlink-rs and beside printf: ratios of one run, on this machine.
 bench:
