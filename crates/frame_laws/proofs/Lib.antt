@@ -1,9 +1,15 @@
 pub mod ASndBack
+pub mod Behind
+pub mod FlagLines
 pub mod Flags
 pub mod HeaderBack
 pub mod Lines
+pub mod Named
+pub mod Passed
 pub mod PReqBack
 pub mod PResBack
 pub mod ReadBack
+pub mod Sizes
 pub mod SoABack
 pub mod SoCBack
+pub mod StatusPassed

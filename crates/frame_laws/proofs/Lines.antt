@@ -1,10 +1,11 @@
 -- The table of P lines holds: the definitions compute to what each line says.
 -- Assumes nothing.
-use mathlib.Core.Path.{refl}
+use mathlib.Core.Path.{_≡_, refl}
+use mathlib.Core.List.{map}
 use Rattle.octets.specs.Numbers.{leAt, beAt}
 use Rattle.types.specs.Header.{ethHeaderOf}
 use Rattle.types.specs.Messages.{messageOf}
-use Rattle.types.specs.PollFlags.{priorityIn, pollOctet}
+use Rattle.types.specs.PollFlags.{priorityIn}
 use Rattle.types.specs.RequestedServices.{requestedOf}
 use Rattle.types.specs.Services.{serviceOf}
 use Rattle.types.specs.States.{stateOf}
@@ -18,8 +19,18 @@ use Rattle.status_response.specs.Fields.{readFields}
 use Rattle.status_response.specs.Steps.{statusEntries}
 use Rattle.error_entry.specs.Entry.{entryTypeOf, entryOf}
 use Rattle.types.specs.Modes.{modeIn}
-use Rattle.frame_laws.specs.Lines.{TableHolds}
+use Rattle.frame_laws.specs.FrameLines.{frameLines}
+use Rattle.frame_laws.specs.Lines.{frameOutcome, statusOutcome, TableHolds}
+use Rattle.frame_laws.specs.StatusLines.{statusLines}
+use Rattle.frame_laws.proofs.FlagLines.{flag-line-holds}
+
+frames-hold : map frameOutcome frameLines ≡ frameLines
+unfolding leAt beAt ethHeaderOf messageOf priorityIn requestedOf serviceOf stateOf readASnd asndPayloadLength readFrame readSection deserializeFrame readPReq presFlagsOf readPRes readSoA readSoC
+frames-hold = refl
+
+statuses-hold : map statusOutcome statusLines ≡ statusLines
+unfolding leAt priorityIn stateOf readFields statusEntries entryTypeOf entryOf modeIn
+statuses-hold = refl
 
 pub table-holds : TableHolds
-unfolding leAt beAt ethHeaderOf messageOf priorityIn pollOctet requestedOf serviceOf stateOf readASnd asndPayloadLength readFrame readSection deserializeFrame readPReq presFlagsOf readPRes readSoA readSoC readFields statusEntries entryTypeOf entryOf modeIn
-table-holds = record { frames = refl; statuses = refl; flags = refl }
+table-holds = record { frames = frames-hold; statuses = statuses-hold; flags = flag-line-holds }

@@ -1,27 +1,28 @@
--- A PRes section that is written is read back, and its payload.
+-- A PRes section that is written is read back, with what its size makes the payload, or refused where the size is too large.
 -- Assumes nothing.
 use Prim.Native.Nat.{ℕ, _-_, _^_, _≤_, _<_}
-use mathlib.Core.Path.{_≡_, refl, sym}
+use mathlib.Core.Path.{_≡_, refl}
 use mathlib.Core.List.{List}
 use native.Mathlib.Omega.{arith}
-use lib.ListN.{length, take, drop}
-use lib.Seq.{take-at}
-use borrow.Author.Tests.{le-leb}
+use lib.ListN.{length, drop}
+use borrow.Author.Tests.{le-leb, lt-leb}
 use Rattle.octets.specs.Numbers.{leAt}
 use Rattle.octets.proofs.Le.{bytes-back}
 use Rattle.types.specs.Messages.{messageOf}
 use Rattle.types.specs.PollFlags.{pollOctet}
+use Rattle.types.specs.declared.hal.PowerlinkError.the-variants.{BufferTooShort}
 use Rattle.types.proofs.PollBack.{poll-priority, poll-requests}
 use Rattle.types.proofs.ReadBack.{state-known}
 use Rattle.poll.specs.PRes.{presFlagBits, presBytes, presSection}
 use Rattle.poll.specs.declared.pres.PResFlags.{PResFlags}
 use Rattle.poll.specs.declared.pres.PResFrame.{PResFrame}
 use Rattle.section.specs.Write.{padded}
-use Rattle.section.proofs.Sections.{padded-length}
 use Rattle.frame.specs.declared.PowerlinkFrame.the-variants.{PRes}
 use Rattle.codec.specs.Frame.{readSection}
 use Rattle.codec.specs.PRes.{presFlagsOf, readPRes}
-use Rattle.codec.specs.declared.FrameAnswer.the-variants.{Frame}
+use Rattle.codec.specs.declared.FrameAnswer.the-variants.{Frame, Refused}
+use Rattle.frame_laws.specs.Sizes.{behindFields}
+use Rattle.frame_laws.proofs.Behind.{behind, behind-length}
 use Rattle.frame_laws.proofs.Flags.{two, three, Reads3}
 
 ms : Reads3 5 4 0 5 (λ x y z. x)
@@ -44,28 +45,40 @@ flags-back g h =
       poll-requests (g .pr) (g .rs .0) h,
     )
 
-module _ (f : PResFrame) (p : List ℕ) (to : f .destination .0 ≡ 255) (seven : f .flags .rs .0 ≤ 7) (e : f .«payload_size» ≡ length p)
-    (small : length p < 2 ^ 16) where
+module _ (f : PResFrame) (p : List ℕ) (to : f .destination .0 ≡ 255) (small : f .«payload_size» < 2 ^ 16) where
   size : leAt 2 8 (presSection f p) ≡ f .«payload_size»
   unfolding presSection padded leAt
   size = bytes-back 2 (f .«payload_size») (omega arith)
 
-  fits : f .«payload_size» ≤ length (presSection f p) - 10
+  left : length (presSection f p) - 10 ≡ length (behindFields p)
   unfolding presSection
-  fits = omega (arith, padded-length (presBytes f) p)
+  left = behind-length (presBytes f) p refl
 
-  pub pres-back : readSection (presSection f p) ≡ Frame (PRes f)
+  pub pres-back : f .flags .rs .0 ≤ 7 → f .«payload_size» ≤ length (behindFields p) → readSection (presSection f p) ≡ Frame (PRes f)
   unfolding readSection messageOf readPRes presSection padded leAt
-  pres-back =
+  pres-back seven fits =
       rw (
         le-leb 10 (length (presSection f p)) (omega arith),
         to,
         state-known (f .«nmt_state»),
         size,
-        le-leb (f .«payload_size») (length (presSection f p) - 10) fits,
+        left,
+        le-leb (f .«payload_size») (length (behindFields p)) fits,
         flags-back (f .flags) seven,
       )
 
-  pub pres-payload : take (f .«payload_size») (drop 10 (presSection f p)) ≡ p
-  unfolding presSection padded
-  pres-payload = take-at p _ (f .«payload_size») (sym e)
+  pub pres-cut : length (behindFields p) < f .«payload_size» → readSection (presSection f p) ≡ Refused BufferTooShort
+  unfolding readSection messageOf readPRes presSection padded leAt
+  pres-cut lacks =
+      rw (
+        le-leb 10 (length (presSection f p)) (omega arith),
+        to,
+        state-known (f .«nmt_state»),
+        size,
+        left,
+        lt-leb (f .«payload_size») (length (behindFields p)) lacks,
+      )
+
+  pub pres-payload : drop 10 (presSection f p) ≡ behindFields p
+  unfolding presSection
+  pres-payload = behind (presBytes f) p refl

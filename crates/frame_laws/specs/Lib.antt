@@ -1,4 +1,7 @@
+pub mod FlagLines
 pub mod FrameLines
 pub mod Lines
 pub mod ReadBack
+pub mod Sizes
 pub mod StatusLines
+pub mod WriteBack

@@ -4,11 +4,10 @@ use Prim.Native.Nat.{ℕ}
 use mathlib.Core.Path.{_≡_}
 use mathlib.Core.List.{List, map}
 use lib.ListN.{length}
-use Rattle.types.specs.PollFlags.{pollOctet}
-use Rattle.types.specs.declared.poll_flags.PRFlag.the-variants.{PrioNmtRequest}
 use Rattle.codec.specs.Frame.{deserializeFrame, frameCause, payloadOf}
 use Rattle.status_response.specs.Fields.{readFields, statusCause}
 use Rattle.status_response.specs.Steps.{statusEntries}
+use Rattle.frame_laws.specs.FlagLines.{FlagLineHolds}
 use Rattle.frame_laws.specs.FrameLines.{FrameLine, frameLines}
 use Rattle.frame_laws.specs.StatusLines.{StatusLine, statusLines}
 
@@ -35,5 +34,4 @@ statusOutcome l =
 pub record TableHolds : Type 0 where
   pub frames : map frameOutcome frameLines ≡ frameLines
   pub statuses : map statusOutcome statusLines ≡ statusLines
-  -- "pr 7, rs 7: 3Fh": the octet that PRes and StatusResponse hold both flags in
-  pub flags : pollOctet PrioNmtRequest 7 ≡ 0x3F
+  pub flags : FlagLineHolds
