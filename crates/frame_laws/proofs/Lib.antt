@@ -1,7 +1,11 @@
 pub mod ASndBack
 pub mod Behind
+pub mod Bits
+pub mod Elements
+pub mod FieldsAgain
 pub mod FlagLines
 pub mod Flags
+pub mod FrameAgain
 pub mod HeaderBack
 pub mod Lines
 pub mod Named
@@ -9,7 +13,10 @@ pub mod Passed
 pub mod PReqBack
 pub mod PResBack
 pub mod ReadBack
+pub mod SectionAgain
 pub mod Sizes
 pub mod SoABack
 pub mod SoCBack
+pub mod StatusAgain
 pub mod StatusPassed
+pub mod WriteBack

@@ -1,0 +1,14 @@
+-- What is read is written back: sections, frames and StatusResponses.
+-- Assumes nothing.
+use Rattle.frame_laws.specs.WriteBack.{SectionsWriteBack}
+use Rattle.frame_laws.proofs.FrameAgain.{frame-again}
+use Rattle.frame_laws.proofs.SectionAgain.{section-again}
+use Rattle.frame_laws.proofs.StatusAgain.{status-again}
+
+pub sections-write-back : SectionsWriteBack
+sections-write-back =
+    record {
+      sections = section-again;
+      frames = λ bytes f o. frame-again bytes o f;
+      statuses = status-again;
+    }
