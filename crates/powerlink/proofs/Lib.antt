@@ -1,3 +1,4 @@
+mod AnyHeader
 mod Collectors
 mod Journals
 mod Readers

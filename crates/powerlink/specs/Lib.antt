@@ -1,3 +1,4 @@
+pub mod AnyHeader
 pub mod Collecting
 pub mod Given
 pub mod Journal
