@@ -11,7 +11,7 @@ use Rattle.octets.specs.Numbers.{bit}
 use Rattle.types.specs.PollFlags.{priorityIn, pollOctet, priorityAt}
 use Rattle.types.proofs.Codes.{at}
 use Rattle.section.specs.Write.{atBit}
-use Rattle.frame_laws.specs.WriteBack.{Clear}
+use Rattle.frame_laws.specs.WriteBack.{Clear, typeUnnamed, pollUnnamed}
 
 -- what these bits of an octet weigh
 abbrev pub weight : List ℕ → ℕ → ℕ
@@ -34,15 +34,15 @@ module _ (b : ℕ) (h : b < 256) where
   pub named-bits : (ks ns : List ℕ) → weight ks b + weight ns b ≡ weight eight b → Clear ks b → weight ns b ≡ b
   named-bits ks ns all c = omega (arith, eight-weigh b h, weightless ks b c)
 
-  pub seven-bits : Clear (7 ∷ []) b → b % 0x80 ≡ b
+  pub seven-bits : Clear typeUnnamed b → b % 0x80 ≡ b
   seven-bits c = omega (arith, eqb-false (b / 128 % 2) 1 (c .0))
 
-  six-bits : Clear (7 ∷ 6 ∷ []) b → b < 64
+  six-bits : Clear pollUnnamed b → b < 64
   six-bits c =
       let low : b / 64 < 2 = omega (arith, seven-bits (c .0, tt)) in
       omega (arith, eqb-false (b / 64 % 2) 1 (c .1 .0))
 
-  pub poll-again : Clear (7 ∷ 6 ∷ []) b → pollOctet (priorityAt b) (b % 8) ≡ b
+  pub poll-again : Clear pollUnnamed b → pollOctet (priorityAt b) (b % 8) ≡ b
   unfolding priorityIn pollOctet
   poll-again c =
       eqb→eq (pollOctet (priorityAt b) (b % 8)) b (at (λ n. eqb (pollOctet (priorityAt n) (n % 8)) n) 64 0 b tt (omega arith) (six-bits c))

@@ -24,12 +24,12 @@ use Rattle.codec.specs.PReq.{preqOf}
 use Rattle.codec.specs.PRes.{presFlagsOf, presOf}
 use Rattle.codec.specs.SoA.{soaOf}
 use Rattle.codec.specs.SoC.{socOf}
-use Rattle.frame_laws.specs.WriteBack.{Octets, Clear, PlainSoC, PlainPReq, PlainPRes, PlainSoA, PlainASnd, TypeAlone}
+use Rattle.frame_laws.specs.WriteBack.{Octets, Clear, typeUnnamed, socUnnamed, PlainSoC, preqUnnamed, PlainPReq, presUnnamed, PlainPRes, soaUnnamed, PlainSoA, PlainASnd}
 use Rattle.frame_laws.proofs.Bits.{weight, eight, named-bits, seven-bits, poll-again}
 use Rattle.frame_laws.proofs.Elements.{elements, elements-are, joined}
 
 module _ (s : List ℕ) (o : Octets s) where
-  type-is : (n : ℕ) → TypeAlone s → getD s 0 0 % 0x80 ≡ n → getD s 0 0 ≡ n
+  type-is : (n : ℕ) → Clear typeUnnamed (getD s 0 0) → getD s 0 0 % 0x80 ≡ n → getD s 0 0 ≡ n
   type-is n c e = sym (seven-bits (getD s 0 0) (o 0) c) ∙ e
 
   -- the flags of octet 4, where the octet's other bits are clear
@@ -38,7 +38,7 @@ module _ (s : List ℕ) (o : Octets s) where
   flags-are = named-bits (getD s 4 0) (o 4)
 
   soc-flags : PlainSoC s → socFlagBits (socOf s .flags) ≡ getD s 4 0
-  soc-flags c = omega (arith, flags-are (5 ∷ 4 ∷ 3 ∷ 2 ∷ 1 ∷ 0 ∷ []) (7 ∷ 6 ∷ []) (omega arith) (c .flags))
+  soc-flags c = omega (arith, flags-are socUnnamed (7 ∷ 6 ∷ []) (omega arith) (c .flags))
 
   soc-front : getD s 0 0 % 0x80 ≡ 1 → PlainSoC s → 1 ∷ getD s 1 0 ∷ getD s 2 0 ∷ 0 ∷ socFlagBits (socOf s .flags) ∷ 0 ∷ [] ≡ elements 6 0 s
   soc-front m c = cc (type-is 1 (c .message) m, c .octet3, soc-flags c, c .octet5)
@@ -53,7 +53,7 @@ module _ (s : List ℕ) (o : Octets s) where
 
   module _ (size : ℕ) where
     preq-flags : PlainPReq size s → preqFlagBits (preqOf s size .flags) ≡ getD s 4 0
-    preq-flags c = omega (arith, flags-are (7 ∷ 6 ∷ 4 ∷ 3 ∷ 1 ∷ []) (5 ∷ 2 ∷ 0 ∷ []) (omega arith) (c .flags))
+    preq-flags c = omega (arith, flags-are preqUnnamed (5 ∷ 2 ∷ 0 ∷ []) (omega arith) (c .flags))
 
     preq-front : getD s 0 0 % 0x80 ≡ 3 → PlainPReq size s
         → 3 ∷ getD s 1 0 ∷ getD s 2 0 ∷ 0 ∷ preqFlagBits (preqOf s size .flags) ∷ 0 ∷ getD s 6 0 ∷ 0 ∷ [] ≡ elements 8 0 s
@@ -61,7 +61,7 @@ module _ (s : List ℕ) (o : Octets s) where
 
     pres-flags : (st : NmtState) → PlainPRes size s → presFlagBits (presOf s st size .flags) ≡ getD s 4 0
     unfolding presFlagsOf
-    pres-flags st c = omega (arith, flags-are (7 ∷ 6 ∷ 3 ∷ 2 ∷ 1 ∷ []) (5 ∷ 4 ∷ 0 ∷ []) (omega arith) (c .flags))
+    pres-flags st c = omega (arith, flags-are presUnnamed (5 ∷ 4 ∷ 0 ∷ []) (omega arith) (c .flags))
 
     pres-front : (st : NmtState) → getD s 0 0 % 0x80 ≡ 4 → stateCode st ≡ getD s 3 0 → PlainPRes size s
         → 4 ∷ getD s 1 0 ∷ getD s 2 0 ∷ stateCode st ∷ presFlagBits (presOf s st size .flags) ∷ pollOctet (priorityAt (getD s 5 0)) (getD s 5 0 % 8)
@@ -80,7 +80,7 @@ module _ (s : List ℕ) (o : Octets s) where
 
   module _ (st : NmtState) (q : RequestedServiceId) where
     soa-flags : PlainSoA s → soaFlagBits (soaOf s st q .flags) ≡ getD s 4 0
-    soa-flags c = omega (arith, flags-are (7 ∷ 6 ∷ 5 ∷ 4 ∷ 3 ∷ 0 ∷ []) (2 ∷ 1 ∷ []) (omega arith) (c .flags))
+    soa-flags c = omega (arith, flags-are soaUnnamed (2 ∷ 1 ∷ []) (omega arith) (c .flags))
 
     soa-front : getD s 0 0 % 0x80 ≡ 5 → stateCode st ≡ getD s 3 0 → requestedCode q ≡ getD s 6 0 → PlainSoA s → soaBytes (soaOf s st q) ≡ elements 9 0 s
     soa-front m es eq c = cc (type-is 5 (c .message) m, soa-flags c, c .octet5)

@@ -1,10 +1,11 @@
 -- What stands behind a header that is written is read as a section, and the header as itself.
 -- Assumes nothing.
 use Prim.Native.Nat.{ℕ, _+_, _<_}
-use mathlib.Core.Path.{_≡_, refl, sym, ap, _∙_}
-use mathlib.Core.List.{List, [], _∷_, _++_}
+use mathlib.Core.Path.{_≡_, _∙_}
+use mathlib.Core.List.{List, _++_}
 use native.Mathlib.Omega.{arith}
-use lib.ListN.{length, getD, drop}
+use lib.ListN.{length}
+use lib.Seq.{take-all}
 use borrow.Author.Tests.{le-leb, lt-ltb}
 use Rattle.octets.specs.Numbers.{beAt}
 use Rattle.types.specs.Header.{ethHeaderOf, ethBytes, macOf}
@@ -13,17 +14,11 @@ use Rattle.types.specs.declared.basic.MacAddress.{MacAddress}
 use Rattle.codec.specs.Frame.{readFrame, readSection, placeOf, deserializeFrame}
 use Rattle.codec.specs.declared.DeserializedFrame.{DeserializedFrame}
 use Rattle.frame_laws.specs.ReadBack.{IsHeader}
+use Rattle.frame_laws.proofs.Elements.{elements, elements-are}
 
 -- a list of six is its six elements
-six : (l : List ℕ) → length l ≡ 6 → getD l 0 0 ∷ getD l 1 0 ∷ getD l 2 0 ∷ getD l 3 0 ∷ getD l 4 0 ∷ getD l 5 0 ∷ [] ≡ l
-six [] e = absurd (omega arith)
-six (a ∷ []) e = absurd (omega arith)
-six (a ∷ b ∷ []) e = absurd (omega arith)
-six (a ∷ b ∷ c ∷ []) e = absurd (omega arith)
-six (a ∷ b ∷ c ∷ d ∷ []) e = absurd (omega arith)
-six (a ∷ b ∷ c ∷ d ∷ f ∷ []) e = absurd (omega arith)
-six (a ∷ b ∷ c ∷ d ∷ f ∷ g ∷ []) e = refl
-six (a ∷ b ∷ c ∷ d ∷ f ∷ g ∷ x ∷ xs) e = absurd (omega arith)
+six : (l : List ℕ) → length l ≡ 6 → elements 6 0 l ≡ l
+six l e = elements-are 6 0 l (omega arith) ∙ take-all 6 l (omega arith)
 
 module _ (h : EthernetHeader) (s : List ℕ) (is : IsHeader h) where
   pub header-back : ethHeaderOf (ethBytes h ++ s) ≡ h

@@ -10,6 +10,7 @@ pub mod HeaderBack
 pub mod Lines
 pub mod Named
 pub mod Passed
+pub mod Plain
 pub mod PReqBack
 pub mod PResBack
 pub mod ReadBack
@@ -19,4 +20,5 @@ pub mod SoABack
 pub mod SoCBack
 pub mod StatusAgain
 pub mod StatusPassed
+pub mod Trimmed
 pub mod WriteBack

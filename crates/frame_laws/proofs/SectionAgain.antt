@@ -20,6 +20,7 @@ use Rattle.frame_laws.specs.WriteBack.{Octets, PaddedFrom, Plain, payloa
 use Rattle.frame_laws.proofs.Elements.{joined}
 use Rattle.frame_laws.proofs.FieldsAgain.{soc-again, preq-again, pres-again, soa-again, asnd-again}
 use Rattle.frame_laws.proofs.Passed.{by-tests}
+use Rattle.frame_laws.proofs.Trimmed.{asnd-padding}
 
 module _ (s fields : List ℕ) (k : ℕ) (e : fields ≡ take k s) where
   -- the fields as they were read, and the padding; with n octets of payload behind the fields
@@ -38,6 +39,6 @@ section-again s f o =
       preq = λ m long fits c. with-payload s _ 10 (preq-again s o m long c) (leAt 2 8 s) (c .behind);
       pres = λ m long st e fits c. with-payload s _ 10 (pres-again s o st m long e c) (leAt 2 8 s) (c .behind);
       soa = λ m long st e q eq c. alone s _ 9 (soa-again s o st q m long e eq c) (c .behind);
-      asnd = λ m long v e c. with-payload s _ 4 (asnd-again s o v m long e c) (asndPayloadLength s) (c .behind);
+      asnd = λ m long v e c. with-payload s _ 4 (asnd-again s o v m long e c) (asndPayloadLength s) (asnd-padding s (c .long));
     })
     f

@@ -24,7 +24,7 @@ use Rattle.status_response.specs.Fields.{enBit, ecBit, headBytes, readFields}
 use Rattle.status_response.specs.Steps.{entriesIn, statusEntries, entriesBytes, statusBytes, unlessTerminator}
 use Rattle.status_response.specs.declared.fields.StatusAnswer.the-variants.{Status}
 use Rattle.status_response.specs.declared.fields.StatusFields.{StatusFields}
-use Rattle.frame_laws.specs.WriteBack.{Octets, PlainStatus}
+use Rattle.frame_laws.specs.WriteBack.{Octets, statusUnnamed, PlainStatus}
 use Rattle.frame_laws.proofs.Bits.{named-bits, poll-again}
 use Rattle.frame_laws.proofs.Elements.{elements, elements-are, joined}
 use Rattle.frame_laws.proofs.FrameAgain.{octets-from}
@@ -62,7 +62,7 @@ entries-again (suc n) s o =
 
 module _ (s : List ℕ) (o : Octets s) (f : StatusFields) (passed : StatusPassed s f) (c : PlainStatus s) where
   flags-are : atBit enBit (bit enBit (getD s 0 0)) + atBit ecBit (bit ecBit (getD s 0 0)) ≡ getD s 0 0
-  flags-are = omega (arith, named-bits (getD s 0 0) (o 0) (7 ∷ 6 ∷ 3 ∷ 2 ∷ 1 ∷ 0 ∷ []) (5 ∷ 4 ∷ []) (omega arith) (c .flags))
+  flags-are = omega (arith, named-bits (getD s 0 0) (o 0) statusUnnamed (5 ∷ 4 ∷ []) (omega arith) (c .flags))
 
   field-are : fieldBytes (fieldOf (drop 6 s)) ≡ take 8 (drop 6 s)
   unfolding fieldBytes fieldOf

@@ -2,6 +2,7 @@
 -- Assumes nothing.
 use Rattle.frame_laws.specs.WriteBack.{SectionsWriteBack}
 use Rattle.frame_laws.proofs.FrameAgain.{frame-again}
+use Rattle.frame_laws.proofs.Plain.{section-plain, status-plain}
 use Rattle.frame_laws.proofs.SectionAgain.{section-again}
 use Rattle.frame_laws.proofs.StatusAgain.{status-again}
 
@@ -11,4 +12,6 @@ sections-write-back =
       sections = section-again;
       frames = λ bytes f o. frame-again bytes o f;
       statuses = status-again;
+      plainSections = section-plain;
+      plainStatuses = status-plain;
     }

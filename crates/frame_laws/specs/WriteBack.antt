@@ -1,27 +1,29 @@
 -- A frame that is read is written back, where the bits and octets that its kind does not name are 0.
 -- Assumes nothing.
-use Prim.Native.Nat.{ℕ, _+_, _*_, _<_}
+use Prim.Native.Nat.{ℕ, _+_, _*_, _≤_, _<_}
 use mathlib.Core.Path.{_≡_}
 use mathlib.Core.Bool.{false}
 use mathlib.Core.List.{List, [], _∷_, _++_}
 use lib.ListN.{length, getD, take, drop, replicate}
 use Rattle.octets.specs.Numbers.{bit}
 use Rattle.types.specs.Header.{ethLength}
-use Rattle.section.specs.Write.{padded}
-use Rattle.control.specs.ASnd.{asndFieldsLength}
+use Rattle.section.specs.Write.{minSection, padded}
 use Rattle.poll.specs.Poll.{pollFieldsLength}
 use Rattle.frame.specs.Write.{frameSection, frameBytes}
 use Rattle.frame.specs.declared.PowerlinkFrame.{PowerlinkFrame}
 use Rattle.frame.specs.declared.PowerlinkFrame.the-variants.{Soc, PReq, PRes, SoA, ASnd}
-use Rattle.codec.specs.ASnd.{asndPayloadLength}
 use Rattle.codec.specs.Frame.{readSection, placeInFrame, deserializeFrame, payloadOf}
 use Rattle.codec.specs.declared.FrameAnswer.the-variants.{Frame}
 use Rattle.error_entry.specs.Entry.{entryLength}
+use Rattle.error_entry.specs.declared.ErrorEntry.{ErrorEntry}
 use Rattle.status_response.specs.BitField.{fieldOf}
 use Rattle.status_response.specs.Fields.{frontLength, headBytes, readFields}
+use Rattle.status_response.specs.ReadBack.{EachInRange, untilTerminator}
 use Rattle.status_response.specs.Steps.{statusBytes, statusEntries}
+use Rattle.status_response.specs.declared.bit_field.StaticErrorBitField.{StaticErrorBitField}
 use Rattle.status_response.specs.declared.fields.StatusAnswer.the-variants.{Status}
 use Rattle.status_response.specs.declared.fields.StatusFields.{StatusFields}
+use Rattle.frame_laws.specs.ReadBack.{Faithful}
 
 abbrev pub Octets : List ℕ → Type 0
 Octets s = (i : ℕ) → getD s i 0 < 256
@@ -37,46 +39,62 @@ Clear (k ∷ ks) octet = (bit k octet ≡ false) × Clear ks octet
 abbrev pub PaddedFrom : ℕ → List ℕ → Type 0
 PaddedFrom n s = s ≡ padded (take n s)
 
--- EPSG DS 301, 4.6.1.1.1: the message type is the low seven bits of octet 0
-abbrev pub TypeAlone : List ℕ → Type 0
-TypeAlone s = Clear (7 ∷ []) (getD s 0 0)
+-- EPSG DS 301, 4.6.1.1.1: octet 0 is the message type, in seven bits
+abbrev pub typeUnnamed : List ℕ
+typeUnnamed = 7 ∷ []
 
 -- 4.6.1.1.2: octet 4 has mc at bit 7 and ps at bit 6; octets 3 and 5 are reserved
+abbrev pub socUnnamed : List ℕ
+socUnnamed = 5 ∷ 4 ∷ 3 ∷ 2 ∷ 1 ∷ 0 ∷ []
+
 pub record PlainSoC (s : List ℕ) : Type 0 where
-  pub message : TypeAlone s
+  pub message : Clear typeUnnamed (getD s 0 0)
   pub octet3 : getD s 3 0 ≡ 0
-  pub flags : Clear (5 ∷ 4 ∷ 3 ∷ 2 ∷ 1 ∷ 0 ∷ []) (getD s 4 0)
+  pub flags : Clear socUnnamed (getD s 4 0)
   pub octet5 : getD s 5 0 ≡ 0
   pub behind : PaddedFrom 22 s
 
 -- 4.6.1.1.3: octet 4 has ms at bit 5, ea at bit 2 and rd at bit 0; octets 3, 5 and 7 are reserved
+abbrev pub preqUnnamed : List ℕ
+preqUnnamed = 7 ∷ 6 ∷ 4 ∷ 3 ∷ 1 ∷ []
+
 pub record PlainPReq (size : ℕ) (s : List ℕ) : Type 0 where
-  pub message : TypeAlone s
+  pub message : Clear typeUnnamed (getD s 0 0)
   pub octet3 : getD s 3 0 ≡ 0
-  pub flags : Clear (7 ∷ 6 ∷ 4 ∷ 3 ∷ 1 ∷ []) (getD s 4 0)
+  pub flags : Clear preqUnnamed (getD s 4 0)
   pub octet5 : getD s 5 0 ≡ 0
   pub octet7 : getD s 7 0 ≡ 0
   pub behind : PaddedFrom (pollFieldsLength + size) s
 
 -- 4.6.1.1.4: octet 4 has ms at bit 5, en at bit 4 and rd at bit 0, octet 5 pr at bits 5 to 3 and rs at bits 2 to 0; octet 7 is reserved
+abbrev pub presUnnamed : List ℕ
+presUnnamed = 7 ∷ 6 ∷ 3 ∷ 2 ∷ 1 ∷ []
+
+abbrev pub pollUnnamed : List ℕ
+pollUnnamed = 7 ∷ 6 ∷ []
+
 pub record PlainPRes (size : ℕ) (s : List ℕ) : Type 0 where
-  pub message : TypeAlone s
-  pub flags : Clear (7 ∷ 6 ∷ 3 ∷ 2 ∷ 1 ∷ []) (getD s 4 0)
-  pub requests : Clear (7 ∷ 6 ∷ []) (getD s 5 0)
+  pub message : Clear typeUnnamed (getD s 0 0)
+  pub flags : Clear presUnnamed (getD s 4 0)
+  pub requests : Clear pollUnnamed (getD s 5 0)
   pub octet7 : getD s 7 0 ≡ 0
   pub behind : PaddedFrom (pollFieldsLength + size) s
 
 -- 4.6.1.1.5: octet 4 has ea at bit 2 and er at bit 1; octet 5 is reserved
+abbrev pub soaUnnamed : List ℕ
+soaUnnamed = 7 ∷ 6 ∷ 5 ∷ 4 ∷ 3 ∷ 0 ∷ []
+
 pub record PlainSoA (s : List ℕ) : Type 0 where
-  pub message : TypeAlone s
-  pub flags : Clear (7 ∷ 6 ∷ 5 ∷ 4 ∷ 3 ∷ 0 ∷ []) (getD s 4 0)
+  pub message : Clear typeUnnamed (getD s 0 0)
+  pub flags : Clear soaUnnamed (getD s 4 0)
   pub octet5 : getD s 5 0 ≡ 0
   pub behind : PaddedFrom 9 s
 
--- 4.6.1.1.6: nothing else is reserved
+-- 4.6.1.1.6: nothing else is reserved, and the section has the smallest size at least. Zeros that reading takes from the end of the payload
+-- of a smallest section are its padding, so nothing is asked of them
 pub record PlainASnd (s : List ℕ) : Type 0 where
-  pub message : TypeAlone s
-  pub behind : PaddedFrom (asndFieldsLength + asndPayloadLength s) s
+  pub message : Clear typeUnnamed (getD s 0 0)
+  pub long : minSection ≤ length s
 
 abbrev pub Plain : PowerlinkFrame → List ℕ → Type 0
 Plain (Soc f) s = PlainSoC s
@@ -87,9 +105,12 @@ Plain (ASnd f) s = PlainASnd s
 
 -- 7.3.3.3.1: octet 0 has en at bit 5 and ec at bit 4, octet 1 pr and rs as in PRes; octets 3 to 5 are reserved. An entry has no bit that is
 -- not named; behind the entries stands a terminator of zeros, and nothing more
+abbrev pub statusUnnamed : List ℕ
+statusUnnamed = 7 ∷ 6 ∷ 3 ∷ 2 ∷ 1 ∷ 0 ∷ []
+
 pub record PlainStatus (s : List ℕ) : Type 0 where
-  pub flags : Clear (7 ∷ 6 ∷ 3 ∷ 2 ∷ 1 ∷ 0 ∷ []) (getD s 0 0)
-  pub requests : Clear (7 ∷ 6 ∷ []) (getD s 1 0)
+  pub flags : Clear statusUnnamed (getD s 0 0)
+  pub requests : Clear pollUnnamed (getD s 1 0)
   pub octet3 : getD s 3 0 ≡ 0
   pub octet4 : getD s 4 0 ≡ 0
   pub octet5 : getD s 5 0 ≡ 0
@@ -107,3 +128,7 @@ pub record SectionsWriteBack : Type 0 where
       → frameBytes (deserializeFrame bytes .«eth_header») f (payloadOf (deserializeFrame bytes .«payload_place») bytes) ≡ bytes
   pub statuses : (s : List ℕ) (f : StatusFields) → Octets s → readFields s ≡ Status f → PlainStatus s
       → statusBytes (headBytes f (fieldOf (drop 6 s))) (statusEntries s) ≡ s
+  -- and no more is asked than writing gives: whatever reads back is plain where it is written
+  pub plainSections : (f : PowerlinkFrame) (payload : List ℕ) → Faithful f payload → Plain f (frameSection f payload)
+  pub plainStatuses : (f : StatusFields) (field : StaticErrorBitField) (es : List ErrorEntry) → EachInRange es → untilTerminator es ≡ es
+      → PlainStatus (statusBytes (headBytes f field) es)
