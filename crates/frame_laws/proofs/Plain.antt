@@ -5,7 +5,7 @@ use mathlib.Core.Path.{_≡_, refl, sym, ap, _∙_}
 use mathlib.Core.Bool.{Bool, true, false}
 use mathlib.Core.List.{List, [], _∷_, _++_, append-nil}
 use native.Mathlib.Omega.{arith}
-use lib.Dec.{T, eqb}
+use lib.Dec.{eqb}
 use lib.ListN.{length, drop, replicate, length-append}
 use lib.Seq.{take-at, drop-at}
 use Rattle.octets.specs.Numbers.{bit}
@@ -46,40 +46,38 @@ abbrev allClear : List ℕ → ℕ → Bool
 allClear [] b = true
 allClear (k ∷ ks) b = pick (bit k b) false (allClear ks b)
 
-one-clear : (k : ℕ) (ks : List ℕ) (b : ℕ) (x : Bool) → bit k b ≡ x → (T (allClear ks b) → Clear ks b) → T (pick x false (allClear ks b))
+one-clear : (k : ℕ) (ks : List ℕ) (b : ℕ) (x : Bool) → bit k b ≡ x → (allClear ks b ≡ true → Clear ks b) → pick x false (allClear ks b) ≡ true
     → Clear (k ∷ ks) b
-one-clear k ks b true e rest t = absurd t
+one-clear k ks b true e rest t = let z : _≡_ {A = ℕ} 0 1 = cc in absurd (omega arith)
 one-clear k ks b false e rest t = (e, rest t)
 
-clears : (ks : List ℕ) (b : ℕ) → T (allClear ks b) → Clear ks b
+clears : (ks : List ℕ) (b : ℕ) → allClear ks b ≡ true → Clear ks b
 clears [] b t = tt
 clears (k ∷ ks) b t = one-clear k ks b (bit k b) refl (clears ks b) t
 
 -- the bits beside two flags, and beside three
 module _ (ks : List ℕ) (i j : ℕ) where
-  beside-two : T (allClear ks (2 ^ i + 2 ^ j)) → T (allClear ks (2 ^ i + 0)) → T (allClear ks (0 + 2 ^ j)) → T (allClear ks 0)
-      → (x y : Bool) → Clear ks (atBit i x + atBit j y)
-  beside-two a b c d = two _ (clears ks _ a) (clears ks _ b) (clears ks _ c) (clears ks _ d)
+  beside-two : ((x y : Bool) → allClear ks (atBit i x + atBit j y) ≡ true) → (x y : Bool) → Clear ks (atBit i x + atBit j y)
+  beside-two t x y = clears ks _ (t x y)
 
-  -- with the third on, and off
-  beside-three : (k : ℕ) → ((x y : Bool) → T (allClear ks (atBit i x + atBit j y + 2 ^ k))) → ((x y : Bool) → T (allClear ks (atBit i x + atBit j y + 0)))
-      → (x y z : Bool) → Clear ks (atBit i x + atBit j y + atBit k z)
+  beside-three : (k : ℕ) → ((x y : Bool) → allClear ks (atBit i x + atBit j y + 2 ^ k) ≡ true)
+      → ((x y : Bool) → allClear ks (atBit i x + atBit j y + 0) ≡ true) → (x y z : Bool) → Clear ks (atBit i x + atBit j y + atBit k z)
   beside-three k a b = three _ (λ x y. clears ks _ (a x y)) (λ x y. clears ks _ (b x y))
 
 soc-flags : (x y : Bool) → Clear socUnnamed (atBit 7 x + atBit 6 y)
-soc-flags = beside-two socUnnamed 7 6 tt tt tt tt
+soc-flags = beside-two socUnnamed 7 6 (two _ refl refl refl refl)
 
 soa-flags : (x y : Bool) → Clear soaUnnamed (atBit 2 x + atBit 1 y)
-soa-flags = beside-two soaUnnamed 2 1 tt tt tt tt
+soa-flags = beside-two soaUnnamed 2 1 (two _ refl refl refl refl)
 
 status-flags : (x y : Bool) → Clear statusUnnamed (atBit 5 x + atBit 4 y)
-status-flags = beside-two statusUnnamed 5 4 tt tt tt tt
+status-flags = beside-two statusUnnamed 5 4 (two _ refl refl refl refl)
 
 preq-flags : (x y z : Bool) → Clear preqUnnamed (atBit 5 x + atBit 2 y + atBit 0 z)
-preq-flags = beside-three preqUnnamed 5 2 0 (two _ tt tt tt tt) (two _ tt tt tt tt)
+preq-flags = beside-three preqUnnamed 5 2 0 (two _ refl refl refl refl) (two _ refl refl refl refl)
 
 pres-flags : (x y z : Bool) → Clear presUnnamed (atBit 5 x + atBit 4 y + atBit 0 z)
-pres-flags = beside-three presUnnamed 5 4 0 (two _ tt tt tt tt) (two _ tt tt tt tt)
+pres-flags = beside-three presUnnamed 5 4 0 (two _ refl refl refl refl) (two _ refl refl refl refl)
 
 poll-clear : (p : PRFlag) (n : ℕ) → Clear pollUnnamed (pollOctet p n)
 unfolding pollOctet
@@ -102,7 +100,7 @@ pub section-plain : (f : PowerlinkFrame) (p : List ℕ) → Faithful f p → Pla
 unfolding socSection preqSection presSection soaSection asndSection padded
 section-plain (Soc f) p q =
     record {
-      message = clears typeUnnamed 1 tt;
+      message = clears typeUnnamed 1 refl;
       octet3 = refl;
       flags = soc-flags (f .flags .mc) (f .flags .ps);
       octet5 = refl;
@@ -110,7 +108,7 @@ section-plain (Soc f) p q =
     }
 section-plain (PReq f) p q =
     record {
-      message = clears typeUnnamed 3 tt;
+      message = clears typeUnnamed 3 refl;
       octet3 = refl;
       flags = preq-flags (f .flags .ms) (f .flags .ea) (f .flags .rd);
       octet5 = refl;
@@ -119,15 +117,15 @@ section-plain (PReq f) p q =
     }
 section-plain (PRes f) p q =
     record {
-      message = clears typeUnnamed 4 tt;
+      message = clears typeUnnamed 4 refl;
       flags = pres-flags (f .flags .ms) (f .flags .en) (f .flags .rd);
       requests = poll-clear (f .flags .pr) (f .flags .rs .0);
       octet7 = refl;
       behind = payload-padding (presBytes f) p _ (q .1 .1 .0) 10 refl;
     }
 section-plain (SoA f) p q =
-    record { message = clears typeUnnamed 5 tt; flags = soa-flags (f .flags .ea) (f .flags .er); octet5 = refl; behind = refl }
-section-plain (ASnd f) p q = record { message = clears typeUnnamed 6 tt; long = omega (arith, padded-length (asndBytes f) p) }
+    record { message = clears typeUnnamed 5 refl; flags = soa-flags (f .flags .ea) (f .flags .er); octet5 = refl; behind = refl }
+section-plain (ASnd f) p q = record { message = clears typeUnnamed 6 refl; long = omega (arith, padded-length (asndBytes f) p) }
 
 pub status-plain : (f : StatusFields) (field : StaticErrorBitField) (es : List ErrorEntry) → EachInRange es → untilTerminator es ≡ es
     → PlainStatus (statusBytes (headBytes f field) es)

@@ -3,6 +3,7 @@
 use Prim.Native.Nat.{ℕ, _+_}
 use mathlib.Core.Path.{_≡_, refl, sym, ap, _∙_}
 use mathlib.Core.List.{List, _++_}
+use native.Mathlib.Omega.{arith}
 use lib.ListN.{take, drop}
 use Rattle.octets.specs.Numbers.{leAt}
 use Rattle.section.specs.Write.{padded}
@@ -39,6 +40,6 @@ section-again s f o =
       preq = λ m long fits c. with-payload s _ 10 (preq-again s o m long c) (leAt 2 8 s) (c .behind);
       pres = λ m long st e fits c. with-payload s _ 10 (pres-again s o st m long e c) (leAt 2 8 s) (c .behind);
       soa = λ m long st e q eq c. alone s _ 9 (soa-again s o st q m long e eq c) (c .behind);
-      asnd = λ m long v e c. with-payload s _ 4 (asnd-again s o v m long e c) (asndPayloadLength s) (asnd-padding s (c .long));
+      asnd = λ m long v e c. with-payload s _ 4 (asnd-again s o v m long e c) (asndPayloadLength s) (asnd-padding s (omega (arith, c .long)));
     })
     f

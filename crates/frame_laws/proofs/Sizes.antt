@@ -38,8 +38,8 @@ module _ (h : EthernetHeader) (f : PowerlinkFrame) (p s : List ℕ) (is : IsHead
   unfolding frameBytes
   by-size n place read cut =
       record {
-        enough = λ fits. from-section (take n (behindFields p)) (read fits) place;
-        tooFew = λ lacks. rw es (frame-back h s is long ∙ rw (cut lacks));
+        enough = λ fits. from-section (take n (behindFields p)) (read (omega arith)) place;
+        tooFew = λ lacks. rw es (frame-back h s is long ∙ rw (cut (omega arith)));
       }
 
 pub sizes-read-back : SizesReadBack

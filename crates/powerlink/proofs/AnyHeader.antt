@@ -32,7 +32,7 @@ use Rattle.types.specs.declared.states.NmtStateAnswer.the-variants as state
 use Rattle.section.specs.Write.{writeAnswer, writeCause, overwritten}
 use Rattle.section.specs.declared.WriteAnswer.the-variants.{Refused}
 use Rattle.frame.specs.Write.{frameBytes}
-use Rattle.powerlink.specs.AnyHeader.{behindHeader, afterSection, afterHeader, TwoCalls, OneCall, AnyHeader, FiveBehindHeader}
+use Rattle.powerlink.specs.AnyHeader.{behindHeader, afterSection, afterHeader, targetLeft, lengthTold, TwoCalls, OneCall, AnyHeader, FiveBehindHeader}
 use Rattle.powerlink.specs.Writing.{Coded, octets, unnamed, stated, requested, served, WritesTo, WritesCoded}
 use Rattle.powerlink.proofs.Writers.{kept-octet, refuses-coded}
 
@@ -84,7 +84,7 @@ module _ (h : EthernetHeader) (bs t u v : List ℕ) (m r q n n′ k k′ o o′ 
 
     header-done : (q ≡ 0) × ((v ≡ ethBytes h ++ drop (length (ethBytes h)) (take m (afterSection t u))) × (k′ ≡ length (ethBytes h)))
     header-done =
-        let long = lent-length t u m (c .room) (c .lent) in
+        let long = lent-length t u m (omega (arith, c .room)) (c .lent) in
         fitting (ethBytes h) (take m (afterSection t u)) q k k′ v (c .header (section-done .0)) (omega (arith, eth-length h, long))
 
     frame-there : afterHeader m t u v ≡ (ethBytes h ++ bs) ++ drop (length (ethBytes h ++ bs)) t
@@ -95,15 +95,15 @@ module _ (h : EthernetHeader) (bs t u v : List ℕ) (m r q n n′ k k′ o o′ 
         ∙ ap (λ (i : ℕ). ethBytes h ++ drop i (take m x) ++ drop m x) (eth-length h)
         ∙ append-assoc (ethBytes h) (drop 14 (take m x)) (drop m x)
         ∙ ap (λ (y : List ℕ). ethBytes h ++ y)
-        (sym (drop-append-le 14 (take m x) (drop m x) (lent-length t u m (c .room) (c .lent)))
+        (sym (drop-append-le 14 (take m x) (drop m x) (lent-length t u m (omega (arith, c .room)) (c .lent)))
         ∙ ap (drop 14) (take-append-drop m x)
-        ∙ drop-at (take 14 t) u 14 (length-take-le 14 t (c .room))
+        ∙ drop-at (take 14 t) u 14 (length-take-le 14 t (omega (arith, c .room)))
         ∙ section-done .1 .0
         ∙ ap (λ (y : List ℕ). bs ++ y) (drop-drop (length bs) 14 t))
         ∙ sym (append-assoc (ethBytes h) bs (drop (14 + length bs) t))
         ∙ ap (λ (i : ℕ). (ethBytes h ++ bs) ++ drop i t) (sym l)
 
-    frame-written : WritesCoded (octets (ethBytes h ++ bs)) r t (pick (eqb r 0) (afterHeader m t u v) (afterSection t u)) n (pick (eqb r 0) (k′ + n′) n) o o′
+    frame-written : WritesCoded (octets (ethBytes h ++ bs)) r t (targetLeft r m t u v) n (lengthTold r n n′ k′) o o′
     frame-written =
         let l : k′ + n′ ≡ length (ethBytes h ++ bs) =
         rw (header-done .1 .1, section-done .1 .1) (sym (length-append (ethBytes h) bs)) in
@@ -113,7 +113,7 @@ module _ (h : EthernetHeader) (bs t u v : List ℕ) (m r q n n′ k k′ o o′ 
         (with-octet (ethBytes h ++ bs) t 0 n _ _ (writes-all (ethBytes h ++ bs) t n room) o)
 
   frame-refused : length (drop 14 t) < length bs
-      → WritesCoded (octets (ethBytes h ++ bs)) r t (pick (eqb r 0) (afterHeader m t u v) (afterSection t u)) n (pick (eqb r 0) (k′ + n′) n) o o′
+      → WritesCoded (octets (ethBytes h ++ bs)) r t (targetLeft r m t u v) n (lengthTold r n n′ k′) o o′
   frame-refused lacks =
       let p = lacking bs (drop 14 t) r n n′ u part lacks in
       let short : length t < length (ethBytes h ++ bs) =
@@ -147,12 +147,12 @@ shifted j t room = rw (length-drop 14 t) (⊎-elim small large (le-or-lt (14 + j
 
 module _ (h : EthernetHeader) (t u v : List ℕ) (m r q n n′ k k′ o o′ : ℕ) where
   whole : (w : Coded) → TwoCalls h w t u v m r q n n′ k k′ o o′
-      → WritesCoded (behindHeader h w) r t (pick (eqb r 0) (afterHeader m t u v) (afterSection t u)) n (pick (eqb r 0) (k′ + n′) n) o o′
+      → WritesCoded (behindHeader h w) r t (targetLeft r m t u v) n (lengthTold r n n′ k′) o o′
   whole (octets bs) c =
       ⊎-elim (frame-written h bs t u v m r q n n′ k k′ o o′ c) (frame-refused h bs t u v m r q n n′ k k′ o o′ c)
       (le-or-lt (length bs) (length (drop 14 t)))
   whole (unnamed j e) c =
-      let s = shifted j t (c .room) in
+      let s = shifted j t (omega (arith, c .room)) in
       let refuses : eqb r 0 ≡ false = rw (c .section .cause) (refused-cause (leb j (length (drop 14 t))) e) in
       rw (refuses, c .section .target, take-append-drop 14 t)
       (refuses-coded (unnamed (14 + j) e) t r n o o′ (14 + j) e refl (c .section .cause ∙ rw s, c .section .octet ∙ rw s))
@@ -163,7 +163,7 @@ module _ (h : EthernetHeader) (t u v : List ℕ) (m r q n n′ k k′ o o′ : �
         writes = whole w c;
         header =
             λ e. fitting (ethBytes h) (take m (afterSection t u)) q k k′ v (c .header e)
-            (omega (arith, eth-length h, lent-length t u m (c .room) (c .lent))) .0;
+            (omega (arith, eth-length h, lent-length t u m (omega (arith, c .room)) (c .lent))) .0;
       }
 
 no-room : (h : EthernetHeader) (w : Coded) (t : List ℕ) (n o : ℕ) → length t < 14 → WritesCoded (behindHeader h w) 1 t t n n o o

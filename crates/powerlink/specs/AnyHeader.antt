@@ -40,6 +40,13 @@ afterSection t u = take ethLength t ++ u
 abbrev pub afterHeader : ℕ → List ℕ → List ℕ → List ℕ → List ℕ
 afterHeader m t u v = v ++ drop m (afterSection t u)
 
+-- and what the target holds and which length is told in the end: the header's call is made where the section's has answered 0
+abbrev pub targetLeft : ℕ → ℕ → List ℕ → List ℕ → List ℕ → List ℕ
+targetLeft r m t u v = pick (eqb r 0) (afterHeader m t u v) (afterSection t u)
+
+abbrev pub lengthTold : ℕ → ℕ → ℕ → ℕ → ℕ
+lengthTold r n n′ k′ = pick (eqb r 0) (k′ + n′) n
+
 -- the two calls, by their contracts: r and n′ are what the section's call answers and tells, q and k′ what the header's does
 pub record TwoCalls (h : EthernetHeader) (w : Coded) (t u v : List ℕ) (m r q n n′ k k′ o o′ : ℕ) : Type 0 where
   pub room : ethLength ≤ length t
@@ -50,7 +57,7 @@ pub record TwoCalls (h : EthernetHeader) (w : Coded) (t u v : List ℕ) (m r q n
 -- together they are one call that writes the section behind the header: all of it, k′ + n′ octets with what the target held behind them, or
 -- the section's refusal and the target as it was
 pub record OneCall (h : EthernetHeader) (w : Coded) (t u v : List ℕ) (m r q n n′ k k′ o o′ : ℕ) : Type 0 where
-  pub writes : WritesCoded (behindHeader h w) r t (pick (eqb r 0) (afterHeader m t u v) (afterSection t u)) n (pick (eqb r 0) (k′ + n′) n) o o′
+  pub writes : WritesCoded (behindHeader h w) r t (targetLeft r m t u v) n (lengthTold r n n′ k′) o o′
   -- where the section is written, so is the header
   pub header : r ≡ 0 → q ≡ 0
 
