@@ -1,4 +1,5 @@
--- A frame that is read is written back, where the bits and octets that its kind does not name are 0.
+-- A frame that is read is written back, where the bits and octets that its kind does not name are 0. 01: "Unnamed bits and bytes are written
+-- 0 and ignored on reading"; the names are those of 01's list of kinds.
 -- Assumes nothing.
 use Prim.Native.Nat.{ℕ, _+_, _*_, _≤_, _<_}
 use mathlib.Core.Path.{_≡_}
@@ -39,11 +40,11 @@ Clear (k ∷ ks) octet = (bit k octet ≡ false) × Clear ks octet
 abbrev pub PaddedFrom : ℕ → List ℕ → Type 0
 PaddedFrom n s = s ≡ padded (take n s)
 
--- EPSG DS 301, 4.6.1.1.1: octet 0 is the message type, in seven bits
+-- EPSG DS 301, 4.6.1: octet 0 is the message type, in seven bits
 abbrev pub typeUnnamed : List ℕ
 typeUnnamed = 7 ∷ []
 
--- 4.6.1.1.2: octet 4 has mc at bit 7 and ps at bit 6; octets 3 and 5 are reserved
+-- 4.6.1.1.2: octet 4 has mc at bit 7 and ps at bit 6; octets 3 and 5 are not named
 abbrev pub socUnnamed : List ℕ
 socUnnamed = 5 ∷ 4 ∷ 3 ∷ 2 ∷ 1 ∷ 0 ∷ []
 
@@ -54,7 +55,7 @@ pub record PlainSoC (s : List ℕ) : Type 0 where
   pub octet5 : getD s 5 0 ≡ 0
   pub behind : PaddedFrom 22 s
 
--- 4.6.1.1.3: octet 4 has ms at bit 5, ea at bit 2 and rd at bit 0; octets 3, 5 and 7 are reserved
+-- 4.6.1.1.3: octet 4 has ms at bit 5, ea at bit 2 and rd at bit 0; octets 3, 5 and 7 are not named
 abbrev pub preqUnnamed : List ℕ
 preqUnnamed = 7 ∷ 6 ∷ 4 ∷ 3 ∷ 1 ∷ []
 
@@ -66,7 +67,7 @@ pub record PlainPReq (size : ℕ) (s : List ℕ) : Type 0 where
   pub octet7 : getD s 7 0 ≡ 0
   pub behind : PaddedFrom (pollFieldsLength + size) s
 
--- 4.6.1.1.4: octet 4 has ms at bit 5, en at bit 4 and rd at bit 0, octet 5 pr at bits 5 to 3 and rs at bits 2 to 0; octet 7 is reserved
+-- 4.6.1.1.4: octet 4 has ms at bit 5, en at bit 4 and rd at bit 0, octet 5 pr at bits 5 to 3 and rs at bits 2 to 0; octet 7 is not named
 abbrev pub presUnnamed : List ℕ
 presUnnamed = 7 ∷ 6 ∷ 3 ∷ 2 ∷ 1 ∷ []
 
@@ -80,7 +81,7 @@ pub record PlainPRes (size : ℕ) (s : List ℕ) : Type 0 where
   pub octet7 : getD s 7 0 ≡ 0
   pub behind : PaddedFrom (pollFieldsLength + size) s
 
--- 4.6.1.1.5: octet 4 has ea at bit 2 and er at bit 1; octet 5 is reserved
+-- 4.6.1.1.5: octet 4 has ea at bit 2 and er at bit 1; octet 5 is not named
 abbrev pub soaUnnamed : List ℕ
 soaUnnamed = 7 ∷ 6 ∷ 5 ∷ 4 ∷ 3 ∷ 0 ∷ []
 
@@ -90,7 +91,7 @@ pub record PlainSoA (s : List ℕ) : Type 0 where
   pub octet5 : getD s 5 0 ≡ 0
   pub behind : PaddedFrom 9 s
 
--- 4.6.1.1.6: nothing else is reserved, and the section has the smallest size at least. Zeros that reading takes from the end of the payload
+-- 4.6.1.1.6: all else is named, and the section has the smallest size at least. Zeros that reading takes from the end of the payload
 -- of a smallest section are its padding, so nothing is asked of them
 pub record PlainASnd (s : List ℕ) : Type 0 where
   pub message : Clear typeUnnamed (getD s 0 0)
@@ -103,8 +104,8 @@ Plain (PRes f) s = PlainPRes (f .«payload_size») s
 Plain (SoA f) s = PlainSoA s
 Plain (ASnd f) s = PlainASnd s
 
--- 7.3.3.3.1: octet 0 has en at bit 5 and ec at bit 4, octet 1 pr and rs as in PRes; octets 3 to 5 are reserved. An entry has no bit that is
--- not named; behind the entries stands a terminator of zeros, and nothing more
+-- 7.3.3.3.1: octet 0 has en at bit 5 and ec at bit 4, octet 1 pr and rs as in PRes; octets 3 to 5 are not named. An entry has no bit
+-- without a name; behind the entries stands a terminator of zeros, and nothing more
 abbrev pub statusUnnamed : List ℕ
 statusUnnamed = 7 ∷ 6 ∷ 3 ∷ 2 ∷ 1 ∷ 0 ∷ []
 
