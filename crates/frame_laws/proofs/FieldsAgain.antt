@@ -1,11 +1,11 @@
 -- The octets of the fields of each kind, as they were read.
 -- Assumes nothing.
 use Prim.Native.Nat.{ℕ, _+_, _%_, _≤_}
-use mathlib.Core.Path.{_≡_, refl, sym, _∙_}
-use mathlib.Core.List.{List, [], _∷_, _++_}
+use mathlib.Core.Path.{_≡_, sym, _∙_}
+use mathlib.Core.List.{List, [], _∷_}
 use native.Mathlib.Omega.{arith}
-use lib.ListN.{length, getD, take, drop}
-use Rattle.octets.specs.Numbers.{leAt, leBytes}
+use lib.ListN.{length, getD, take}
+use Rattle.octets.specs.Numbers.{leAt}
 use Rattle.octets.proofs.NumberBack.{number-again}
 use Rattle.types.specs.PollFlags.{pollOctet, priorityAt}
 use Rattle.types.specs.RequestedServices.{requestedCode}

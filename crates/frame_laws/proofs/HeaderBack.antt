@@ -8,11 +8,9 @@ use lib.ListN.{length}
 use lib.Seq.{take-all}
 use borrow.Author.Tests.{le-leb, lt-ltb}
 use Rattle.octets.specs.Numbers.{beAt}
-use Rattle.types.specs.Header.{ethHeaderOf, ethBytes, macOf}
+use Rattle.types.specs.Header.{ethHeaderOf, ethBytes}
 use Rattle.types.specs.declared.basic.EthernetHeader.{EthernetHeader}
-use Rattle.types.specs.declared.basic.MacAddress.{MacAddress}
 use Rattle.codec.specs.Frame.{readFrame, readSection, placeOf, deserializeFrame}
-use Rattle.codec.specs.declared.DeserializedFrame.{DeserializedFrame}
 use Rattle.frame_laws.specs.ReadBack.{IsHeader}
 use Rattle.frame_laws.proofs.Elements.{elements, elements-are}
 

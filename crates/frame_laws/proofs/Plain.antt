@@ -6,7 +6,7 @@ use mathlib.Core.Bool.{Bool, true, false}
 use mathlib.Core.List.{List, [], _∷_, _++_, append-nil}
 use native.Mathlib.Omega.{arith}
 use lib.Dec.{eqb}
-use lib.ListN.{length, drop, replicate, length-append}
+use lib.ListN.{length, replicate, length-append}
 use lib.Seq.{take-at, drop-at}
 use Rattle.octets.specs.Numbers.{bit}
 use Rattle.types.specs.Codes.{pick}
@@ -18,13 +18,8 @@ use Rattle.section.proofs.Sections.{padded-length}
 use Rattle.control.specs.ASnd.{asndBytes, asndSection}
 use Rattle.control.specs.SoA.{soaSection}
 use Rattle.control.specs.SoC.{socSection}
-use Rattle.control.specs.declared.asnd.ASndFrame.{ASndFrame}
-use Rattle.control.specs.declared.soa.SoAFrame.{SoAFrame}
-use Rattle.control.specs.declared.soc.SocFrame.{SocFrame}
 use Rattle.poll.specs.PReq.{preqBytes, preqSection}
 use Rattle.poll.specs.PRes.{presBytes, presSection}
-use Rattle.poll.specs.declared.preq.PReqFrame.{PReqFrame}
-use Rattle.poll.specs.declared.pres.PResFrame.{PResFrame}
 use Rattle.frame.specs.Write.{frameSection}
 use Rattle.frame.specs.declared.PowerlinkFrame.{PowerlinkFrame}
 use Rattle.frame.specs.declared.PowerlinkFrame.the-variants.{Soc, PReq, PRes, SoA, ASnd}

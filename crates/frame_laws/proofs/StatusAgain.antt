@@ -1,7 +1,7 @@
 -- A StatusResponse that was read is written back: what stands in front, and the entries.
 -- Assumes nothing.
 use Prim.Native.Nat.{ℕ, zero, suc, _+_, _*_, _≤_}
-use mathlib.Core.Path.{_≡_, refl, sym, ap, _∙_}
+use mathlib.Core.Path.{_≡_, refl, _∙_}
 use mathlib.Core.Bool.{Bool, true, false}
 use mathlib.Core.List.{List, [], _∷_, _++_, append-assoc}
 use native.Mathlib.Omega.{arith}
@@ -16,7 +16,7 @@ use Rattle.types.specs.States.{stateCode}
 use Rattle.types.specs.declared.error_mode.ErrorEntryMode.{ErrorEntryMode}
 use Rattle.types.specs.declared.error_mode.ErrorEntryMode.the-variants.{Terminator, ErrorActive, ErrorCleared, EventOccurred}
 use Rattle.section.specs.Write.{atBit}
-use Rattle.error_entry.specs.Entry.{entryOf, entryBytes}
+use Rattle.error_entry.specs.Entry.{entryOf}
 use Rattle.error_entry.specs.declared.ErrorEntry.{ErrorEntry}
 use Rattle.error_entry.proofs.ReadBack.{octets-back}
 use Rattle.status_response.specs.BitField.{fieldOf, fieldBytes}

@@ -3,8 +3,8 @@
 use Prim.Native.Nat.{ℕ, _+_, _-_, _≤_, _<_}
 use mathlib.Core.Path.{_≡_, refl, sym, ap, _∙_}
 use mathlib.Core.Bool.{Bool, true, false}
-use mathlib.Core.Logic.{_⊎_, inl, inr, ⊎-elim}
-use mathlib.Core.List.{List, [], _++_, append-assoc}
+use mathlib.Core.Logic.{_⊎_, ⊎-elim}
+use mathlib.Core.List.{List, _++_, append-assoc}
 use native.Mathlib.Omega.{arith}
 use lib.Dec.{leb, eqb}
 use lib.ListN.{length, take, drop, length-append, length-take, length-drop, take-append-drop}
@@ -12,7 +12,7 @@ use lib.Seq.{drop-at, drop-drop, drop-append-le, length-take-le}
 use borrow.Author.Tests.{le-leb, lt-leb}
 use Rattle.octets.proofs.Order.{le-or-lt}
 use Rattle.types.specs.Causes.{causeNumber}
-use Rattle.types.specs.Codes.{pick, need}
+use Rattle.types.specs.Codes.{need}
 use Rattle.types.specs.Header.{ethBytes}
 use Rattle.types.specs.RequestedServices.{requestedOf}
 use Rattle.types.specs.Services.{serviceOf}
@@ -109,8 +109,9 @@ module _ (h : EthernetHeader) (bs t u v : List ℕ) (m r q n n′ k k′ o o′ 
         rw (header-done .1 .1, section-done .1 .1) (sym (length-append (ethBytes h) bs)) in
         let room : length (ethBytes h ++ bs) ≤ length t =
         rw (length-append (ethBytes h) bs, eth-length h) (omega (arith, length-drop 14 t, c .room)) in
-        rw (section-done .0, frame-there, l, same-octet)
-        (with-octet (ethBytes h ++ bs) t 0 n _ _ (writes-all (ethBytes h ++ bs) t n room) o)
+        let w = writes-all (ethBytes h ++ bs) t n room in
+        rw (section-done .0, frame-there, same-octet)
+        (record { cause = w .cause; target = w .target; written = omega (arith, l, w .written); octet = kept-octet (ethBytes h ++ bs) t o })
 
   frame-refused : length (drop 14 t) < length bs
       → WritesCoded (octets (ethBytes h ++ bs)) r t (targetLeft r m t u v) n (lengthTold r n n′ k′) o o′
