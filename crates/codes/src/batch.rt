@@ -2,7 +2,7 @@
 use crate::print::column;
 use crate::print::end;
 use crate::print::octets;
-use error_entry::entry_at;
+use error_entry::ErrorEntry;
 use octets::slices::tail;
 use section::WriteAnswer;
 use status_response::entries::serialize_batch;
@@ -39,10 +39,10 @@ fn write(payload: &[u8], len: usize) {
         return;
     };
     let batch = [
-        entry_at(tail(payload, 14)),
-        entry_at(tail(payload, 34)),
-        entry_at(tail(payload, 54)),
-        entry_at(tail(payload, 74)),
+        ErrorEntry::deserialize(tail(payload, 14)).or_terminator(),
+        ErrorEntry::deserialize(tail(payload, 34)).or_terminator(),
+        ErrorEntry::deserialize(tail(payload, 54)).or_terminator(),
+        ErrorEntry::deserialize(tail(payload, 74)).or_terminator(),
     ];
     let mut space = [FILL; SPACE];
     let target = target_in(&mut space, len);

@@ -26,7 +26,7 @@ pub(crate) fn take_first(state: &mut Collector, k: usize) -> ErrorEntry
 {
     let first = start(state, k);
     let n = count(state, k);
-    let e = get(state, record_place(k, first));
+    let e = get(state, record_place(k, first)).or_terminator();
     state[BLOCK_LEN * k + START_AT] = (first + 1) % PLACES;
     state[BLOCK_LEN * k + COUNT_AT] = n - 1;
     e

@@ -1,4 +1,5 @@
 pub mod Fields
 pub mod Numbers
+pub mod Places
 pub mod ReadBack
 pub mod TypeBack

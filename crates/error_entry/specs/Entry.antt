@@ -1,6 +1,7 @@
 -- The 20 octets of an error entry (EPSG DS 301, Tables 94 and 96).
 -- Assumes nothing.
 use Prim.Native.Nat.{ℕ, _+_, _*_, _/_, _%_}
+use mathlib.Core.Bool.{false}
 use mathlib.Core.List.{List, [], _++_}
 use lib.ListN.{length}
 use lib.Dec.{leb}
@@ -8,6 +9,7 @@ use Rattle.octets.specs.Numbers.{bit, leAt, leBytes}
 use Rattle.types.specs.Causes.{Cause, row, causeOf}
 use Rattle.types.specs.Codes.{need}
 use Rattle.types.specs.Modes.{modeCode, modeIn}
+use Rattle.types.specs.declared.error_mode.ErrorEntryMode.the-variants.{Terminator}
 use Rattle.types.specs.declared.hal.PowerlinkError.the-variants.{BufferTooShort}
 use Rattle.section.specs.Write.{atBit}
 use Rattle.error_entry.specs.declared.EntryType.{EntryType}
@@ -48,6 +50,16 @@ entryBytes e =
     leBytes 2 (typeNumber (e .«entry_type»)) ++ leBytes 2 (e .«error_code») ++ leBytes 4 (e .timestamp .seconds)
     ++ leBytes 4 (e .timestamp .nanoseconds) ++ leBytes 8 (e .«additional_information»)
 
+-- the terminator of a list: an entry of zeros
+abbrev pub terminator : ErrorEntry
+terminator =
+    record {
+      «entry_type» = record { «is_status_entry» = false; «send_to_queue» = false; mode = Terminator; profile = 0 };
+      «error_code» = 0;
+      timestamp = record { seconds = 0; nanoseconds = 0 };
+      «additional_information» = 0;
+    }
+
 -- all octets are needed
 unfoldable pub readEntry : List ℕ → ErrorEntryAnswer
 readEntry s = need (leb entryLength (length s)) (Refused BufferTooShort) (Entry (entryOf s))
@@ -56,3 +68,8 @@ readEntry s = need (leb entryLength (length s)) (Refused BufferTooShort) (Entry 
 abbrev pub entryCause : ErrorEntryAnswer → Cause
 entryCause (Entry e) = row 0 []
 entryCause (Refused e) = causeOf e
+
+-- the entry that was read, or a terminator
+abbrev pub orTerminator : ErrorEntryAnswer → ErrorEntry
+orTerminator (Entry e) = e
+orTerminator (Refused e) = terminator

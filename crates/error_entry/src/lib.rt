@@ -7,11 +7,10 @@ ghost use Rattle.octets.specs.Numbers.{leAt};
 ghost use Rattle.types.specs.Codes.{pick};
 ghost use Rattle.types.specs.Modes.{modeCode};
 ghost use Rattle.section.specs.Write.{Writes};
-ghost use Rattle.error_entry.specs.Entry.{entryLength, entryTypeOf, typeNumber, entryOf, entryBytes, readEntry};
+ghost use Rattle.error_entry.specs.Entry.{entryLength, entryTypeOf, typeNumber, entryOf, entryBytes, orTerminator, readEntry};
 use octets::little_endian::put_u16_le;
 use octets::little_endian::put_u32_le;
 use octets::little_endian::put_u64_le;
-use octets::slices::put;
 use section::WriteAnswer;
 use types::common::NetTime;
 use types::error_mode::ErrorEntryMode;
@@ -41,6 +40,31 @@ pub struct ErrorEntry {
 pub enum ErrorEntryAnswer {
     Entry(ErrorEntry),
     Refused(PowerlinkError),
+}
+
+impl ErrorEntryAnswer {
+    // The entry, or a terminator where there is none: for a caller that counts its entries itself.
+    pub fn or_terminator(self) -> ErrorEntry
+        ensures { λ r. ⌜ r ≡ orTerminator self ⌝ }
+    {
+        match self {
+            ErrorEntryAnswer::Entry(e) => e,
+            ErrorEntryAnswer::Refused(_) => ErrorEntry {
+                entry_type: EntryType {
+                    is_status_entry: false,
+                    send_to_queue: false,
+                    mode: ErrorEntryMode::Terminator,
+                    profile: 0,
+                },
+                error_code: 0,
+                timestamp: NetTime {
+                    seconds: 0,
+                    nanoseconds: 0,
+                },
+                additional_information: 0,
+            },
+        }
+    }
 }
 
 impl EntryType {
@@ -87,7 +111,14 @@ impl ErrorEntry {
         if buffer.len() < ENTRY_LEN {
             return ErrorEntryAnswer::Refused(PowerlinkError::BufferTooShort);
         }
-        ErrorEntryAnswer::Entry(entry_at(buffer))
+        ErrorEntryAnswer::Entry(entry_in(buffer))
+    }
+
+    // The entry that 20 octets are.
+    pub fn from_bytes(octets: &[u8; ENTRY_LEN]) -> ErrorEntry
+        ensures { λ r. ⌜ r ≡ entryOf (now (octets .entry)) ⌝ }
+    {
+        entry_in(octets)
     }
 
     // Writes the 20 octets, if they fit.
@@ -101,9 +132,8 @@ impl ErrorEntry {
         WriteAnswer::Written(ENTRY_LEN)
     }
 
-    // Writes the 20 octets to the front of `target`, each field straight to its place. What does not fit is dropped: for
-    // callers that have tested the length.
-    pub fn put(self, target: &mut [u8])
+    // Writes the 20 octets to the front of `target`, each field straight to its place, where the length was tested.
+    fn put(self, target: &mut [u8])
         ensures { λ _. ⌜ now (target .exit) ≡ sets (now (target .entry)) 0 (entryBytes self) ⌝ }
     {
         let entry_type = self.entry_type;
@@ -159,16 +189,4 @@ fn entry_in(s: &[u8]) -> ErrorEntry
         },
         additional_information: u64_in(s, 12),
     }
-}
-
-// The entry that the first 20 octets are, those past the end counting as 0.
-pub fn entry_at(s: &[u8]) -> ErrorEntry
-    ensures { λ r. ⌜ r ≡ entryOf (now (s .entry)) ⌝ }
-{
-    if ENTRY_LEN <= s.len() {
-        return entry_in(s);
-    }
-    let mut padded = [0u8; ENTRY_LEN];
-    put(&mut padded, 0, s);
-    entry_in(&padded)
 }

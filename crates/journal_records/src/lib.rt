@@ -43,7 +43,7 @@ pub fn write(node: NodeId, entry: ErrorEntry, target: &mut [u8]) -> JournalAnswe
     if !valid(node, entry) {
         return JournalAnswer::RecordInvalid;
     }
-    entry.put(&mut target[1..]);
+    entry.serialize(&mut target[1..]);
     target[0] = node.0;
     JournalAnswer::Written(RECORD_LEN)
 }

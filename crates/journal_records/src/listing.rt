@@ -12,7 +12,7 @@ use crate::VERSION;
 use crate::text::put_line;
 use crate::text::put_number;
 use crate::valid;
-use error_entry::entry_at;
+use error_entry::ErrorEntry;
 use octets::little_endian::get_u16_le;
 use octets::slices::put;
 use octets::slices::tail;
@@ -214,7 +214,7 @@ fn record(bytes: &[u8], out: &mut [u8]) -> Part
         return refuse(ListAnswer::RecordInvalid, Phase::Records, out);
     }
     let node = NodeId(bytes[0]);
-    let entry = entry_at(tail(bytes, 1));
+    let entry = ErrorEntry::deserialize(tail(bytes, 1)).or_terminator();
     if !valid(node, entry) {
         return refuse(ListAnswer::RecordInvalid, Phase::Records, out);
     }

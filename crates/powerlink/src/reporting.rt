@@ -16,7 +16,7 @@ use reporter::answer_len;
 use reporter::new;
 use reporter::raise;
 use reporter::read;
-use status_response::bit_field::field_at;
+use status_response::bit_field::StaticErrorBitField;
 use types::NodeId;
 use types::basic::MacAddress;
 use types::causes::ENTRY_INVALID;
@@ -118,7 +118,7 @@ pub extern "C" fn powerlink_reporter_answer(
                 pr: PRFlag::from_u8(pr),
                 rs: RSFlag(rs),
                 nmt_state,
-                static_error_bit_field: field_at(field),
+                static_error_bit_field: StaticErrorBitField::from_bytes(field),
             };
             let answered = answer(state, fields, target);
             written_or(answered, written)

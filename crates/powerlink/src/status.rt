@@ -9,21 +9,24 @@ use c_values::answers::refusal;
 use c_values::answers::unnamed;
 use c_values::answers::written_or;
 use c_values::values::entry_values;
+use error_entry::ENTRY_LEN;
 use error_entry::EntryType;
 use error_entry::ErrorEntry;
 use error_entry::ErrorEntryAnswer;
 use status_response::bit_field::ErrorFieldAnswer;
 use status_response::bit_field::StaticErrorBitField;
-use status_response::bit_field::field_at;
-use status_response::copied;
 use status_response::fields::StatusAnswer;
 use status_response::fields::StatusFields;
 use status_response::fields::deserialize;
 use status_response::fields::read_fields;
+use status_response::given;
 use status_response::walk::EntryStep;
 use status_response::walk::step_from;
+use types::causes::ENTRY_INVALID;
+use types::causes::TOO_SHORT;
 use types::common::NetTime;
 use types::error_mode::ErrorEntryMode;
+use types::error_mode::ErrorEntryModeAnswer;
 use types::hal::PowerlinkError;
 use types::poll_flags::PRFlag;
 use types::poll_flags::RSFlag;
@@ -46,7 +49,10 @@ pub extern "C" fn powerlink_deserialize_status(
         StatusAnswer::Status(f) => {
             let status = deserialize(payload);
             let bits = status.static_error_bit_field;
-            *values = status_values(f);
+            let mut numbers = status_values(f);
+            // The state's number is its octet: the compiler then makes no table of states.
+            numbers[4] = payload[2] as u64;
+            *values = numbers;
             *field = bits.to_bytes();
             0
         }
@@ -104,7 +110,7 @@ pub extern "C" fn powerlink_entry_step(
     0
 }
 
-// Writes one entry (EPSG DS 301, Table 94), a terminator too: the mode is in two bits, so that any number has one.
+// Writes one entry (EPSG DS 301, Table 94), a terminator too. A mode that is none is no entry's: cause 8, after 1.
 #[no_mangle]
 pub extern "C" fn powerlink_serialize_entry(
     status_entry: bool,
@@ -120,22 +126,32 @@ pub extern "C" fn powerlink_serialize_entry(
 ) -> u8
     ensures { λ r. ⌜ WritesTo (entryBytes (entryGiven «status_entry» «send_to_queue» mode profile code (time seconds nanoseconds) information)) r (now (target .entry)) (now (target .exit)) (now (written .entry)) (now (written .exit)) ⌝ }
 {
-    let entry = ErrorEntry {
-        entry_type: EntryType {
-            is_status_entry: status_entry,
-            send_to_queue,
-            mode: ErrorEntryMode::from_bits(mode),
-            profile,
-        },
-        error_code: code,
-        timestamp: NetTime {
-            seconds,
-            nanoseconds,
-        },
-        additional_information: information,
-    };
-    let answer = entry.serialize(target);
-    written_or(answer, written)
+    match ErrorEntryMode::from_u8(mode) {
+        ErrorEntryModeAnswer::Unknown(_) => {
+            if target.len() < ENTRY_LEN {
+                return TOO_SHORT;
+            }
+            ENTRY_INVALID
+        }
+        ErrorEntryModeAnswer::Known(mode) => {
+            let entry = ErrorEntry {
+                entry_type: EntryType {
+                    is_status_entry: status_entry,
+                    send_to_queue,
+                    mode,
+                    profile,
+                },
+                error_code: code,
+                timestamp: NetTime {
+                    seconds,
+                    nanoseconds,
+                },
+                additional_information: information,
+            };
+            let answer = entry.serialize(target);
+            written_or(answer, written)
+        }
+    }
 }
 
 // Writes the static error bit field by itself.
@@ -147,12 +163,13 @@ pub extern "C" fn powerlink_serialize_error_field(
 ) -> u8
     ensures { λ r. ⌜ WritesTo (fieldBytes (fieldOf (now (field .entry)))) r (now (target .entry)) (now (target .exit)) (now (written .entry)) (now (written .exit)) ⌝ }
 {
-    let bits = field_at(field);
+    let bits = StaticErrorBitField::from_bytes(field);
     let answer = bits.serialize(target);
     written_or(answer, written)
 }
 
-// Writes the payload of a StatusResponse. `entries` are the octets of the entries, 20 each; a rest is left aside.
+// Writes the payload of a StatusResponse. `entries` are the octets of the entries, 20 each; a rest is an entry that is too
+// short: cause 1.
 #[no_mangle]
 pub extern "C" fn powerlink_serialize_status(
     en: bool,
@@ -170,7 +187,10 @@ pub extern "C" fn powerlink_serialize_status(
 {
     match NmtState::from_u8(state) {
         NmtStateAnswer::Unknown(b) => {
-            let needed = copied::payload_len(entries);
+            if entries.len() % ENTRY_LEN != 0 {
+                return TOO_SHORT;
+            }
+            let needed = given::payload_len(entries);
             unnamed(
                 PowerlinkError::InvalidNmtState(b),
                 needed,
@@ -186,7 +206,8 @@ pub extern "C" fn powerlink_serialize_status(
                 rs: RSFlag(rs),
                 nmt_state,
             };
-            let answer = copied::serialize(fields, field_at(field), entries, target);
+            let bits = StaticErrorBitField::from_bytes(field);
+            let answer = given::serialize(fields, bits, entries, target);
             written_or(answer, written)
         }
     }

@@ -1,23 +1,28 @@
 // Error entries in lent octets, each at the front of a record: the store of both ends of the error exchange.
 ghost use mathlib.Core.Path.{_≡_};
-ghost use Rattle.records.specs.Records.{recordAt, withRecord};
+ghost use lib.ListN.{drop};
+ghost use Rattle.error_entry.specs.Entry.{readEntry};
+ghost use Rattle.records.specs.Records.{PutsRecord};
 pub use error_entry::ENTRY_LEN;
 use error_entry::ErrorEntry;
-use error_entry::entry_at;
+use error_entry::ErrorEntryAnswer;
 use octets::slices::tail;
+use section::WriteAnswer;
+use types::hal::PowerlinkError;
 
-// The entry whose record begins at an octet, those past the end counting as 0.
-pub fn get(s: &[u8], at: usize) -> ErrorEntry
-    ensures { λ r. ⌜ r ≡ recordAt (now (s .entry)) at ⌝ }
+// The entry whose record begins at an octet, if it is there whole.
+pub fn get(s: &[u8], at: usize) -> ErrorEntryAnswer
+    ensures { λ r. ⌜ r ≡ readEntry (drop at (now (s .entry))) ⌝ }
 {
-    entry_at(tail(s, at))
+    ErrorEntry::deserialize(tail(s, at))
 }
 
-// Puts the record of an entry at an octet; what would lie past the end is dropped.
-pub fn put(s: &mut [u8], at: usize, e: ErrorEntry)
-    ensures { λ _. ⌜ now (s .exit) ≡ withRecord (now (s .entry)) at e ⌝ }
+// Puts the record of an entry at an octet, if it fits there whole.
+pub fn put(s: &mut [u8], at: usize, e: ErrorEntry) -> WriteAnswer
+    ensures { λ r. ⌜ PutsRecord at e r (now (s .entry)) (now (s .exit)) ⌝ }
 {
-    if at <= s.len() {
-        e.put(&mut s[at..]);
+    if s.len() < at {
+        return WriteAnswer::Refused(PowerlinkError::BufferTooShort);
     }
+    e.serialize(&mut s[at..])
 }

@@ -77,10 +77,10 @@ fn first_four(state: &Reporter) -> [ErrorEntry; 4]
 {
     let at = start(state);
     [
-        get(state, record_place(at)),
-        get(state, record_place(at + 1)),
-        get(state, record_place(at + 2)),
-        get(state, record_place(at + 3)),
+        get(state, record_place(at)).or_terminator(),
+        get(state, record_place(at + 1)).or_terminator(),
+        get(state, record_place(at + 2)).or_terminator(),
+        get(state, record_place(at + 3)).or_terminator(),
     ]
 }
 

@@ -1,5 +1,5 @@
 pub mod Again
-pub mod CopyLaws
+pub mod GivenLaws
 pub mod Lent
 pub mod Padded
 pub mod Places

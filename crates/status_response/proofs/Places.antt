@@ -1,19 +1,19 @@
--- Where the entries stand in the target, when they fit, and how many of a batch are meant.
+-- Where the entries stand in the target, and when they fit.
 -- Assumes nothing.
 use Prim.Native.Nat.{ℕ, zero, suc, _+_, _*_, _-_, _/_, _≤_, _<_}
 use mathlib.Core.Path.{_≡_, refl, sym, ap, _∙_}
 use mathlib.Core.Bool.{Bool, true, false}
 use mathlib.Core.List.{List, _++_, append-assoc}
 use native.Mathlib.Omega.{arith}
-use lib.Dec.{leb, ltb}
+use lib.Dec.{leb}
 use lib.ListN.{length, take, drop, length-drop, take-append-drop}
 use lib.Seq.{sets, length-sets, sets-eq, take-all, drop-drop, drop-append-le, length-take-le}
-use borrow.Author.Tests.{ltb-true, ltb-false, leb-true, leb-false, le-leb, lt-leb}
+use borrow.Author.Tests.{leb-true, leb-false, le-leb, lt-leb}
 use borrow.Rule.Slice.PartMut.{midOf, putMid}
 use Rattle.octets.proofs.Sets.{sets-front}
 use Rattle.error_entry.specs.Entry.{entryBytes}
 use Rattle.error_entry.specs.declared.ErrorEntry.{ErrorEntry}
-use Rattle.status_response.specs.Parts.{batchCount, entriesFit, entryAtPlace, entriesPut}
+use Rattle.status_response.specs.Parts.{entriesFit, entryAtPlace, entriesPut}
 
 pub entry-length : (e : ErrorEntry) → length (entryBytes e) ≡ 20
 unfolding entryBytes
@@ -26,12 +26,16 @@ rest-is t at = take-all (length t - at) (drop at t) (simp length-drop (omega ari
 pub rest-length : (t : List ℕ) (at : ℕ) → length (take (length t - at) (drop at t)) ≡ length t - at
 rest-length t at = ap length (rest-is t at) ∙ length-drop at t
 
+-- a part of a list has its length
+pub part-length : (at k : ℕ) (t : List ℕ) → at + k ≤ length t → length (midOf at k t) ≡ k
+part-length at k t h = length-take-le k (drop at t) (simp length-drop (omega arith))
+
 -- a write to the front of a part of a list is a write of the whole
 pub sets-part : (at k : ℕ) (t vs : List ℕ) → at + k ≤ length t → length vs ≤ k → putMid at k t (sets (midOf at k t) 0 vs) ≡ sets t at vs
 sets-part at k t vs h few =
     let d : List ℕ = drop at t in
     let m : ℕ = length vs in
-    let part : m ≤ length (take k d) = rw (length-take-le k d (simp length-drop (omega arith))) few in
+    let part : m ≤ length (take k d) = rw (part-length at k t h) few in
     let behind : drop m (take k d) ++ drop k d ≡ drop (at + m) t =
     sym (drop-append-le m (take k d) (drop k d) part) ∙ ap (drop m) (take-append-drop k d) ∙ drop-drop m at t in
     ap (λ (l : List ℕ). take at t ++ (l ++ drop k d)) (sets-front (take k d) vs part)
@@ -68,19 +72,3 @@ module _ (es : List ErrorEntry) (t : List ℕ) where
   -- each entry of a list that fits has its place
   pub place-fits : (i : ℕ) → i < length es → 34 + 20 * length es ≤ length t → 34 + 20 * i ≤ length (entriesPut es t i)
   place-fits i l h = omega (arith, put-length i)
-
-module _ (n : ℕ) where
-  pub count-small : batchCount n ≤ 4
-  count-small = split (ltb n 4) refl
-    where
-      split : (b : Bool) → ltb n 4 ≡ b → batchCount n ≤ 4
-      split true e = rw e (omega (arith, ltb-true n 4 e))
-      split false e = rw e (omega arith)
-
-  -- what lies above four adds no entry
-  pub count-takes : {A : Type 0} (batch : List A) → length batch ≡ 4 → take (batchCount n) batch ≡ take n batch
-  count-takes batch h = split (ltb n 4) refl
-    where
-      split : (b : Bool) → ltb n 4 ≡ b → take (batchCount n) batch ≡ take n batch
-      split true e = rw e
-      split false e = rw e (take-all 4 batch (omega arith) ∙ sym (take-all n batch (omega (arith, ltb-false n 4 e))))

@@ -17,15 +17,15 @@ use Rattle.section.specs.declared.WriteAnswer.{WriteAnswer}
 use Rattle.section.specs.declared.WriteAnswer.the-variants.{Written, Refused}
 use Rattle.section.proofs.Behind.{refused, written}
 use Rattle.section.proofs.Sections.{refuses, writes}
-use Rattle.error_entry.specs.Entry.{entryBytes}
+use Rattle.error_entry.specs.Entry.{entryBytes, terminator}
 use Rattle.error_entry.specs.declared.ErrorEntry.{ErrorEntry}
 use Rattle.status_response.specs.BitField.{fieldBytes}
 use Rattle.status_response.specs.Fields.{headBytes}
 use Rattle.status_response.specs.declared.bit_field.StaticErrorBitField.{StaticErrorBitField}
 use Rattle.status_response.specs.declared.fields.StatusFields.{StatusFields}
-use Rattle.status_response.specs.Parts.{batchCount, entriesFit, entriesPut, entryAtPlace, headPut, noEntry, statusAnswer, terminated}
+use Rattle.status_response.specs.Parts.{entriesFit, entriesPut, entryAtPlace, headPut, statusAnswer, terminated}
 use Rattle.status_response.specs.Steps.{entriesBytes, statusBytes}
-use Rattle.status_response.proofs.Places.{count-takes, entry-length, fit-true, fit-false, put-length}
+use Rattle.status_response.proofs.Places.{entry-length, fit-true, fit-false, put-length}
 
 entries-append : (es fs : List ErrorEntry) → entriesBytes (es ++ fs) ≡ entriesBytes es ++ entriesBytes fs
 entries-append [] fs = refl
@@ -41,13 +41,13 @@ status-length head es = simp (length-append, length-replicate) (omega (arith, en
 
 module _ (es : List ErrorEntry) (t : List ℕ) where
   -- the entries put one after the other are one write
-  put-is : (i : ℕ) → i ≤ length es → entriesPut es t i ≡ sets t 14 (entriesBytes (take i es))
+  pub put-is : (i : ℕ) → i ≤ length es → entriesPut es t i ≡ sets t 14 (entriesBytes (take i es))
   put-is zero h = refl
   put-is (suc i) h =
       let l : length (entriesBytes (take i es)) ≡ 20 * i = entries-length (take i es) ∙ omega (arith, length-take-le i es (le-of-lt h)) in
       rw (
         put-is i (le-of-lt h),
-        take-suc es i noEntry h,
+        take-suc es i terminator h,
         entries-append (take i es) (entryAtPlace es i ∷ []),
         append-nil (entryBytes (entryAtPlace es i)),
         sets-append t 14 (entriesBytes (take i es)) (entryBytes (entryAtPlace es i)),
@@ -144,12 +144,6 @@ module _ (f : StatusFields) (field : StaticErrorBitField) (r a : WriteAnswer) (t
   pub both-write : (es : List ErrorEntry) → Writes (statusBytes (take 14 t) es) a t t₁ → Writes (statusBytes (headBytes f field) es) r t t₂
   unfolding headBytes fieldBytes
   both-write es w = rw (wrote .0) (head-writes es t (headBytes f field) a t₁ t₂ refl w (wrote .1))
-
-  -- of the first entries of a batch
-  pub batch-writes : (batch : List ErrorEntry) (n k : ℕ) → k ≡ batchCount n
-      → (length batch ≡ 4) × Writes (statusBytes (take 14 t) (take k batch)) a t t₁
-      → Writes (statusBytes (headBytes f field) (take n batch)) r t t₂
-  batch-writes batch n k e w = rw (← count-takes n batch (w .0), ← e) (both-write (take k batch) (w .1))
 
 -- the cases of `headPut`
 pub head-put : (a : WriteAnswer) (m : ℕ) (h head t t₁ : List ℕ) → a ≡ Written m → h ≡ head → t₁ ≡ sets t 0 h

@@ -1,6 +1,6 @@
 pub mod BitField
-pub mod Copied
 pub mod Fields
+pub mod Given
 pub mod Parts
 pub mod ReadBack
 pub mod Steps

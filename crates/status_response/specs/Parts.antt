@@ -1,34 +1,23 @@
 -- What the parts of the StatusResponse writer leave: the contracts of private functions cite these, and no public one does.
 -- Assumes nothing.
 use Prim.Native.Nat.{ℕ, zero, suc, _+_, _*_}
-use mathlib.Core.Bool.{Bool, false}
-use mathlib.Core.List.{List}
-use lib.ListN.{length, getD, replicate}
+use mathlib.Core.Bool.{Bool}
+use mathlib.Core.List.{List, [], _∷_}
+use lib.ListN.{length, getD, drop, replicate}
 use lib.Seq.{sets}
-use lib.Dec.{leb, ltb}
+use lib.Dec.{leb}
 use Rattle.types.specs.Codes.{pick}
-use Rattle.types.specs.declared.error_mode.ErrorEntryMode.the-variants.{Terminator}
 use Rattle.types.specs.declared.hal.PowerlinkError.the-variants.{BufferTooShort}
 use Rattle.section.specs.declared.WriteAnswer.{WriteAnswer}
 use Rattle.section.specs.declared.WriteAnswer.the-variants.{Written, Refused}
-use Rattle.error_entry.specs.Entry.{entryLength, entryBytes}
+use Rattle.error_entry.specs.Entry.{entryLength, entryBytes, terminator, readEntry, orTerminator}
 use Rattle.error_entry.specs.declared.ErrorEntry.{ErrorEntry}
 use Rattle.status_response.specs.Fields.{frontLength}
 use Rattle.status_response.specs.Steps.{statusLength}
 
--- what counts as an entry past the end of a list
-abbrev pub noEntry : ErrorEntry
-noEntry =
-    record {
-      «entry_type» = record { «is_status_entry» = false; «send_to_queue» = false; mode = Terminator; profile = 0 };
-      «error_code» = 0;
-      timestamp = record { seconds = 0; nanoseconds = 0 };
-      «additional_information» = 0;
-    }
-
 -- the entry at a place of a list
 abbrev pub entryAtPlace : List ErrorEntry → ℕ → ErrorEntry
-entryAtPlace es i = getD es i noEntry
+entryAtPlace es i = getD es i terminator
 
 -- where the entry after the first i stands
 abbrev pub entryPlace : ℕ → ℕ
@@ -56,6 +45,7 @@ abbrev pub headPut : WriteAnswer → List ℕ → List ℕ → List ℕ
 headPut (Written n) head t = sets t 0 head
 headPut (Refused e) head t = t
 
--- how many entries of a batch of four are meant by n
-abbrev pub batchCount : ℕ → ℕ
-batchCount n = pick (ltb n 4) n 4
+-- n entries, one after the other, terminators in the place of those that are not there whole
+abbrev pub batchOf : ℕ → List ℕ → List ErrorEntry
+batchOf zero s = []
+batchOf (suc n) s = orTerminator (readEntry s) ∷ batchOf n (drop entryLength s)

@@ -27,6 +27,13 @@ pub struct DeserializedErrorField {
 }
 
 impl StaticErrorBitField {
+    // The field that 8 octets are.
+    pub fn from_bytes(octets: &[u8; 8]) -> StaticErrorBitField
+        ensures { λ r. ⌜ r ≡ fieldOf (now (octets .entry)) ⌝ }
+    {
+        field_in(octets)
+    }
+
     // The 8 octets of the field.
     pub fn to_bytes(self) -> [u8; 8]
         ensures { λ r. ⌜ r ≡ fieldBytes self ⌝ }
@@ -89,7 +96,7 @@ fn field_in(buffer: &[u8]) -> StaticErrorBitField
 }
 
 // The field that the first 8 octets are, those past the end counting as 0.
-pub fn field_at(s: &[u8]) -> StaticErrorBitField
+pub(crate) fn field_at(s: &[u8]) -> StaticErrorBitField
     ensures { λ r. ⌜ r ≡ fieldOf (now (s .entry)) ⌝ }
 {
     if 8 <= s.len() {

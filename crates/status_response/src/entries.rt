@@ -2,11 +2,13 @@
 ghost use mathlib.Core.Path.{_≡_};
 ghost use Prim.Native.Nat.{_≤_};
 ghost use lib.ListN.{length, take, replicate};
+ghost use lib.Dec.{leb};
 ghost use lib.Seq.{sets};
 ghost use Rattle.section.specs.Write.{Writes};
 ghost use Rattle.error_entry.specs.Entry.{entryLength, entryBytes};
 ghost use Rattle.status_response.specs.Fields.{frontLength, headBytes};
-ghost use Rattle.status_response.specs.Parts.{batchCount, entriesFit, entriesPut, entryPlace, headPut, statusAnswer, terminated};
+ghost use Rattle.status_response.specs.Given.{WritesWhole};
+ghost use Rattle.status_response.specs.Parts.{entriesFit, entriesPut, entryPlace, headPut, statusAnswer, terminated};
 ghost use Rattle.status_response.specs.Steps.{statusBytes, statusLength};
 use crate::bit_field::StaticErrorBitField;
 use crate::fields::FRONT_LEN;
@@ -21,7 +23,7 @@ use types::hal::PowerlinkError;
 pub(crate) const EMPTY_LEN: usize = FRONT_LEN + ENTRY_LEN;
 
 // Whether `n` entries and the terminator fit into `len` octets, behind what stands in front.
-fn fits(n: usize, len: usize) -> bool
+pub(crate) fn fits(n: usize, len: usize) -> bool
     ensures { λ r. ⌜ r ≡ entriesFit n len ⌝ }
 {
     if len < EMPTY_LEN {
@@ -36,7 +38,7 @@ fn put_entry(e: ErrorEntry, i: usize, target: &mut [u8])
     ensures { λ _. ⌜ now (target .exit) ≡ sets (now (target .entry)) (entryPlace i) (entryBytes e) ⌝ }
 {
     let at = FRONT_LEN + ENTRY_LEN * i;
-    e.put(&mut target[at..at + ENTRY_LEN]);
+    e.serialize(&mut target[at..at + ENTRY_LEN]);
 }
 
 // Writes the terminator behind `n` entries.
@@ -45,7 +47,8 @@ pub(crate) fn put_terminator(n: usize, target: &mut [u8])
     ensures { λ _. ⌜ now (target .exit) ≡ sets (now (target .entry)) (entryPlace n) (replicate entryLength 0) ⌝ }
 {
     let zeros = [0u8; ENTRY_LEN];
-    put(target, FRONT_LEN + ENTRY_LEN * n, &zeros);
+    let at = FRONT_LEN + ENTRY_LEN * n;
+    put(&mut target[at..at + ENTRY_LEN], 0, &zeros);
 }
 
 // Writes the terminator behind `n` entries, if it fits, and answers for them all.
@@ -116,25 +119,30 @@ pub fn serialize(
     put_head(fields, field, answer, target)
 }
 
-// How many entries of a batch are meant: at most all of them.
-fn batch_count(n: usize) -> usize
-    ensures { λ r. ⌜ r ≡ batchCount n ⌝ }
+// The first entries of a batch, lent to the writer of entries.
+pub(crate) fn put_batch(batch: [ErrorEntry; 4], n: usize, target: &mut [u8])
+    requires { ⌜ (n ≤ 4) × (statusLength n ≤ length (now target)) ⌝ }
+    ensures { λ _. ⌜ now (target .exit) ≡ entriesPut (take n batch) (now (target .entry)) n ⌝ }
 {
-    if n < 4 {
-        return n;
-    }
-    4
+    write_entries(&batch[..n], target)
 }
 
-// The first entries of a batch, lent to the writer of a list.
-fn list_batch(batch: [ErrorEntry; 4], n: usize, target: &mut [u8]) -> WriteAnswer
+// The first entries of a batch, lent to the writer.
+fn lend_batch(
+    fields: StatusFields,
+    field: StaticErrorBitField,
+    batch: [ErrorEntry; 4],
+    n: usize,
+    target: &mut [u8],
+) -> WriteAnswer
     requires { ⌜ n ≤ 4 ⌝ }
-    ensures { λ r. ⌜ (length batch ≡ 4) × Writes (statusBytes (take frontLength (now (target .entry))) (take n batch)) r (now (target .entry)) (now (target .exit)) ⌝ }
+    ensures { λ r. ⌜ Writes (statusBytes (headBytes fields field) (take n batch)) r (now (target .entry)) (now (target .exit)) ⌝ }
 {
-    write_list(&batch[..n], target)
+    serialize(fields, field, &batch[..n], target)
 }
 
-// The same as `serialize`, of the first `n` entries of a batch: whoever calls it needs no slice of entries.
+// The same as `serialize`, of the first `n` entries of a batch: whoever calls it needs no slice of entries. A batch that has
+// fewer is too short.
 pub fn serialize_batch(
     fields: StatusFields,
     field: StaticErrorBitField,
@@ -142,8 +150,10 @@ pub fn serialize_batch(
     n: usize,
     target: &mut [u8],
 ) -> WriteAnswer
-    ensures { λ r. ⌜ Writes (statusBytes (headBytes fields field) (take n batch)) r (now (target .entry)) (now (target .exit)) ⌝ }
+    ensures { λ r. ⌜ WritesWhole (leb n 4) (statusBytes (headBytes fields field) (take n batch)) r (now (target .entry)) (now (target .exit)) ⌝ }
 {
-    let answer = list_batch(batch, batch_count(n), target);
-    put_head(fields, field, answer, target)
+    if 4 < n {
+        return WriteAnswer::Refused(PowerlinkError::BufferTooShort);
+    }
+    lend_batch(fields, field, batch, n, target)
 }

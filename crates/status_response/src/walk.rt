@@ -4,7 +4,7 @@ ghost use Rattle.status_response.specs.Steps.{stepAt};
 use crate::fields::FRONT_LEN;
 use error_entry::ENTRY_LEN;
 use error_entry::ErrorEntry;
-use error_entry::entry_at;
+use error_entry::ErrorEntryAnswer;
 use types::error_mode::ErrorEntryMode;
 
 // What a step finds: an entry with the offset after it, or the end of the list.
@@ -25,18 +25,18 @@ fn entry_step(payload: &[u8], offset: usize) -> EntryStep
     if payload.len() < offset {
         return EntryStep::End;
     }
-    let rest = &payload[offset..];
-    if rest.len() < ENTRY_LEN {
-        return EntryStep::End;
-    }
-    let entry = entry_at(rest);
-    let entry_type = entry.entry_type;
-    let mode = entry_type.mode;
-    match mode {
-        ErrorEntryMode::Terminator => EntryStep::End,
-        ErrorEntryMode::ErrorActive => EntryStep::Entry(entry, offset + ENTRY_LEN),
-        ErrorEntryMode::ErrorCleared => EntryStep::Entry(entry, offset + ENTRY_LEN),
-        ErrorEntryMode::EventOccurred => EntryStep::Entry(entry, offset + ENTRY_LEN),
+    match ErrorEntry::deserialize(&payload[offset..]) {
+        ErrorEntryAnswer::Refused(_) => EntryStep::End,
+        ErrorEntryAnswer::Entry(entry) => {
+            let entry_type = entry.entry_type;
+            let mode = entry_type.mode;
+            match mode {
+                ErrorEntryMode::Terminator => EntryStep::End,
+                ErrorEntryMode::ErrorActive => EntryStep::Entry(entry, offset + ENTRY_LEN),
+                ErrorEntryMode::ErrorCleared => EntryStep::Entry(entry, offset + ENTRY_LEN),
+                ErrorEntryMode::EventOccurred => EntryStep::Entry(entry, offset + ENTRY_LEN),
+            }
+        }
     }
 }
 

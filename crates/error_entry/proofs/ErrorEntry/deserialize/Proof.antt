@@ -12,7 +12,7 @@ returns c = rw (lt-leb 20 _ (c .if1 .taken))
 
 returns-2 : tie.Need-returns-2
 unfolding readEntry
-returns-2 c = rw (c .entry-at .ensures, le-leb 20 _ (c .before .if1 .left))
+returns-2 c = rw (c .entry-in .ensures, le-leb 20 _ (c .before .if1 .left))
 
 pub deserialize-spec : {M : Type 1} → statement M
 deserialize-spec = tie.close (tie.spec returns (search needs) returns-2)

@@ -1,22 +1,18 @@
--- `entries::serialize_batch` meets its contract: the list is written first, then what stands in front.
+-- `entries::serialize_batch` meets its contract: a count above four is refused.
 -- Assumes nothing.
+use mathlib.Core.Path.{refl}
+use borrow.Author.Tests.{le-leb, lt-leb}
 use borrow.Author.Needs.{needs}
-use Rattle.status_response.proofs.Places.{count-small}
-use Rattle.status_response.proofs.WriteLaws.{batch-writes}
 use Rattle.status_response.proofs.entries.serialize_batch.Statement.{statement}
 use Rattle.status_response.proofs.entries.serialize_batch.Tie as tie
 
-list-batch-requires : tie.Need-list-batch-requires
-list-batch-requires c κs = rw (c .before .batch-count .ensures) (count-small (c .before .before .before .args .n))
-
 returns : tie.Need-returns
-returns c =
-    let p = c .before .before in
-    let l = p .before .before .before .before in
-    let b = l .before .before in
-    let a = b .before .before .args in
-    batch-writes (a .fields) (a .field) _ _ (a .target .now) _ _ (p .put-head .ensures) (a .batch) (a .n) _ (b .batch-count .ensures)
-    (l .list-batch .ensures)
+returns c = rw (lt-leb _ 4 (c .if1 .taken)) (refl, refl)
+
+returns-2 : tie.Need-returns-2
+returns-2 c =
+    let l = c .before .before in
+    rw (le-leb _ 4 (l .before .before .if1 .left)) (l .lend-batch .ensures)
 
 pub serialize-batch-spec : {M : Type 1} → statement M
-serialize-batch-spec = tie.close (tie.spec (search needs) list-batch-requires (search needs) (search needs) returns)
+serialize-batch-spec = tie.close (tie.spec returns (λ c κs. search needs) (λ c. search needs) returns-2)

@@ -47,8 +47,9 @@ use denote.Triple.Clauses.{ensured, lasts}
 use denote.Triple.Table.{entered, cited}
 use denote.Triple.Walked.{says, needs, Stays, stay-none-slice, stay-slice, walkOf, goes-none-slice, goes-slice, Walks, ends-at, walked, walk-meets}
 use denote.Exit.{yes}
+use Rattle.error_entry.specs.Entry.{terminator}
 use Rattle.error_entry.specs.declared.ErrorEntry.{ErrorEntry}
-use Rattle.status_response.specs.Parts.{noEntry, entryAtPlace, entriesPut}
+use Rattle.status_response.specs.Parts.{entryAtPlace, entriesPut}
 use Rattle.error_entry.proofs.ErrorEntry as T
 use Rattle.error_entry.proofs.ErrorEntry.Laws as T′
 use Rattle.status_response.proofs.Places.{put-length, place-fits}
@@ -199,11 +200,11 @@ module _ {M : Type 1} (𝓤 : URA M) (H : Heap 𝓤) (A : Atoms 𝓤) (W : Given
         rewrite ! 10 (λ (p : ℕ). ‵ (fat fullShare tyPtr l₈ 0 (vptr b₀ p))) (sym (place-is size o₀ i)) refl $
         -- the entries are Copy: one copy of what they own is kept, and of the other the fractured borrow is looked into
         move ! (3 ∷ []) $ use1 W (‵ Entries ⊛ ‵ Entries) (shr-slice-copy 𝓤 H A W (named 0) κ₀ R .twice x₀ (s₀ ∷ [])) $ split ! $ fsplit ! $ drop ! $ fsplit ! $ drop ! $ move ! (0 ∷ 4 ∷ []) $
-        looks-slice ! tt R (Is R) (shows 𝓤 H A R) vals (LL.tells T.the-type T′.the-laws) (LL.copy T.the-type T′.the-copy 𝓤 H A W) es b₀ o₀ (λ q′. elem-out ! R (Is R) (shows 𝓤 H A R) vals (LL.tells T.the-type T′.the-laws) q′ es i noEntry b₀ o₀ l (λ g.
+        looks-slice ! tt R (Is R) (shows 𝓤 H A R) vals (LL.tells T.the-type T′.the-laws) (LL.copy T.the-type T′.the-copy 𝓤 H A W) es b₀ o₀ (λ q′. elem-out ! R (Is R) (shows 𝓤 H A R) vals (LL.tells T.the-type T′.the-laws) q′ es i terminator b₀ o₀ l (λ g.
         -- [entries[i]; what it owns; the others; what shuts; the fractured borrow; the entries; the target; its token; _11; …]
         assigns ! (of-opd ! (load ! (from ! (hop ! (look ! 14 refl) (stop !))) (look-raw ! 0 refl))) (from ! (stop !)) (init ! 12 refl (LL.lawful T.the-type T′.the-laws 𝓤 H A W .typed (elem i) _ g .0)) $
         move ! (1 ∷ []) $ use1 W (‵ (R .own (elem i) (v i ∷ [])) ⊛ ‵ (R .own (elem i) (v i ∷ []))) (LL.copy T.the-type T′.the-copy 𝓤 H A W .twice (elem i) (v i ∷ [])) $ split ! $ move ! (2 ∷ 0 ∷ 3 ∷ 4 ∷ []) $
-        elem-back ! R q′ es i noEntry (v i ∷ []) b₀ o₀ l $ shuts-slice ! tt R q′ es b₀ o₀ $ move ! (2 ∷ []) $ drop ! $
+        elem-back ! R q′ es i terminator (v i ∷ []) b₀ o₀ l $ shuts-slice ! tt R q′ es b₀ o₀ $ move ! (2 ∷ []) $ drop ! $
         -- [the entries' token; what the element owns; the entries; the target; its token; _11; …]
         assigns ! (addr ! (from ! (fld ! refl (hop ! (look-in ! 23 (sub ! 0 refl (whole !))) (stop !))))) (from ! (stop !)) (init ! 7 refl (tt, tt)) $
         assigns ! (agg ! (and-then ! (load ! (from ! (stop !)) (look ! 7 refl)) (and-then ! (load ! (from ! (fld ! refl (stop !))) (look-in ! 23 (sub ! 1 refl (whole !)))) (no-more !)))) (from ! (stop !)) (init ! 5 refl (tt, (tt, (record { fits = room .0 }, tt)))) $

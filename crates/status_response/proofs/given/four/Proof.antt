@@ -1,0 +1,45 @@
+-- `given::four` meets its contract.
+-- Assumes nothing.
+use lib.Seq.{drop-drop}
+use borrow.Author.Needs.{needs}
+use Rattle.status_response.proofs.given.four.Statement.{statement}
+use Rattle.status_response.proofs.given.four.Tie as tie
+
+returns : tie.Need-returns
+returns c =
+    let o₃ = c .before .before .before in
+    let o₂ = o₃ .before .before .before in
+    let o₁ = o₂ .before .before .before in
+    rw (
+      c .or-terminator4 .ensures,
+      c .before .deserialize4 .ensures,
+      c .before .before .tail3 .ensures,
+      o₃ .or-terminator3 .ensures,
+      o₃ .before .deserialize3 .ensures,
+      o₃ .before .before .tail2 .ensures,
+      o₂ .or-terminator2 .ensures,
+      o₂ .before .deserialize2 .ensures,
+      o₂ .before .before .tail .ensures,
+      o₁ .or-terminator .ensures,
+      o₁ .before .deserialize .ensures,
+    )
+    (simp drop-drop)
+
+pub four-spec : {M : Type 1} → statement M
+four-spec =
+    tie.close
+    (tie.spec
+    (λ c κs. search needs)
+    (λ c κs. search needs)
+    (λ c κs. search needs)
+    (λ c κs. search needs)
+    (λ c κs. search needs)
+    (λ c. search needs)
+    (λ c κs. search needs)
+    (λ c κs. search needs)
+    (λ c κs. search needs)
+    (λ c. search needs)
+    (λ c κs. search needs)
+    (λ c κs. search needs)
+    (λ c κs. search needs)
+    returns)

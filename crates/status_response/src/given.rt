@@ -1,0 +1,92 @@
+// Writing a StatusResponse whose entries are given as their octets, for callers that have no records. Four at a time are read
+// and lent to the writer of a list, so that no heap is needed.
+ghost use mathlib.Core.Path.{_≡_};
+ghost use Prim.Native.Nat.{_+_, _/_, _%_, _≤_};
+ghost use lib.Dec.{eqb};
+ghost use lib.ListN.{length};
+ghost use lib.Seq.{sets};
+ghost use Rattle.error_entry.specs.Entry.{entryLength};
+ghost use Rattle.status_response.specs.Given.{WritesWhole, entriesGiven};
+ghost use Rattle.status_response.specs.Fields.{frontLength, headBytes};
+ghost use Rattle.status_response.specs.Parts.{batchOf};
+ghost use Rattle.status_response.specs.Steps.{statusBytes, statusLength};
+use crate::bit_field::StaticErrorBitField;
+use crate::entries::EMPTY_LEN;
+use crate::entries::fits;
+use crate::entries::put_batch;
+use crate::entries::put_terminator;
+use crate::fields::StatusFields;
+use error_entry::ENTRY_LEN;
+use error_entry::ErrorEntry;
+use octets::slices::put;
+use octets::slices::tail;
+use section::WriteAnswer;
+use types::hal::PowerlinkError;
+
+// The octets of four entries.
+const GROUP_LEN: usize = 4 * ENTRY_LEN;
+
+// How many octets the payload has.
+pub fn payload_len(entries: &[u8]) -> usize
+    ensures { λ r. ⌜ r ≡ statusLength (length (now (entries .entry)) / entryLength) ⌝ }
+{
+    EMPTY_LEN + ENTRY_LEN * (entries.len() / ENTRY_LEN)
+}
+
+// Four entries, terminators in the place of those that are not there.
+fn four(s: &[u8]) -> [ErrorEntry; 4]
+    ensures { λ r. ⌜ r ≡ batchOf 4 (now (s .entry)) ⌝ }
+{
+    [
+        ErrorEntry::deserialize(s).or_terminator(),
+        ErrorEntry::deserialize(tail(s, ENTRY_LEN)).or_terminator(),
+        ErrorEntry::deserialize(tail(s, 2 * ENTRY_LEN)).or_terminator(),
+        ErrorEntry::deserialize(tail(s, 3 * ENTRY_LEN)).or_terminator(),
+    ]
+}
+
+// Writes the up to four entries that `s` is behind the front of `target`, which stays.
+fn put_group(s: &[u8], target: &mut [u8])
+    requires { ⌜ (length (now s) % entryLength ≡ 0) × ((length (now s) ≤ 80) × (frontLength + length (now s) + entryLength ≤ length (now target))) ⌝ }
+    ensures { λ _. ⌜ now (target .exit) ≡ sets (now (target .entry)) frontLength (now (s .entry)) ⌝ }
+{
+    put_batch(four(s), s.len() / ENTRY_LEN, target);
+}
+
+// Writes all entries there, four at a time.
+fn put_groups(entries: &[u8], target: &mut [u8])
+    requires { ⌜ (length (now entries) % entryLength ≡ 0) × (frontLength + length (now entries) + entryLength ≤ length (now target)) ⌝ }
+    ensures { λ _. ⌜ now (target .exit) ≡ sets (now (target .entry)) frontLength (now (entries .entry)) ⌝ }
+{
+    let len = entries.len();
+    let mut at = 0;
+    while GROUP_LEN <= len - at {
+        put_group(&entries[at..at + GROUP_LEN], &mut target[at..]);
+        at += GROUP_LEN;
+    }
+    if at < len {
+        put_group(&entries[at..], &mut target[at..]);
+    }
+}
+
+// Writes the payload, if it fits. A rest that is shorter than an entry is an entry that is too short.
+pub fn serialize(
+    fields: StatusFields,
+    field: StaticErrorBitField,
+    entries: &[u8],
+    target: &mut [u8],
+) -> WriteAnswer
+    ensures { λ r. ⌜ WritesWhole (eqb (length (now (entries .entry)) % entryLength) 0) (statusBytes (headBytes fields field) (entriesGiven (now (entries .entry)))) r (now (target .entry)) (now (target .exit)) ⌝ }
+{
+    if entries.len() % ENTRY_LEN != 0 {
+        return WriteAnswer::Refused(PowerlinkError::BufferTooShort);
+    }
+    let n = entries.len() / ENTRY_LEN;
+    if fits(n, target.len()) {
+        put(target, 0, &fields.to_bytes(field));
+        put_groups(entries, target);
+        put_terminator(n, target);
+        return WriteAnswer::Written(EMPTY_LEN + ENTRY_LEN * n);
+    }
+    WriteAnswer::Refused(PowerlinkError::BufferTooShort)
+}
