@@ -2,19 +2,24 @@
 -- Assumes nothing.
 use Prim.Native.Nat.{ℕ, zero, suc, _+_, _*_, _≤_, _<_}
 use mathlib.Core.Path.{_≡_, refl, sym, ap, _∙_}
+use mathlib.Core.Bool.{Bool, true, false}
 use mathlib.Core.List.{List, [], _∷_}
 use mathlib.Core.Logic.{⊎-elim}
 use native.Mathlib.Nat.{mul-le-mul-left, mul-suc}
 use native.Mathlib.Omega.{arith}
-use lib.ListN.{length, take, drop, getD, set}
+use lib.Dec.{leb}
+use lib.ListN.{length, take, drop, getD, set, length-drop}
+use borrow.Author.Tests.{le-leb}
 use lib.Seq.{sets, length-sets, getD-drop, getD-set-other}
 use Rattle.octets.specs.Numbers.{le, leAt}
 use Rattle.octets.proofs.NumberBack.{Octets, number-small}
 use Rattle.octets.proofs.Order.{le-or-lt}
 use Rattle.octets.proofs.ReadBack.{drop-sets}
-use Rattle.error_entry.specs.Entry.{entryTypeOf, entryOf, entryBytes}
+use Rattle.types.specs.Codes.{pick}
+use Rattle.error_entry.specs.Entry.{entryTypeOf, entryOf, entryBytes, readEntry, orTerminator}
 use Rattle.error_entry.specs.ReadBack.{InRange}
 use Rattle.error_entry.specs.declared.ErrorEntry.{ErrorEntry}
+use Rattle.error_entry.specs.declared.ErrorEntryAnswer.{ErrorEntryAnswer}
 use Rattle.error_entry.proofs.ReadBack.{entry-back}
 use Rattle.records.specs.Records.{entryLength, recordAt, withRecord}
 
@@ -74,25 +79,38 @@ sets-above : (vs l : List ℕ) (at i : ℕ) → at + length vs ≤ i → getD (s
 sets-above [] l at i h = refl
 sets-above (v ∷ vs) l at i h = sets-above vs (set l at v) (suc at) i (omega arith) ∙ getD-set-other l at i v 0 (omega arith)
 
+-- a store with an entry put, by whether its record fits
+by-fit : (P : List ℕ → Type 0) (s : List ℕ) (at : ℕ) (e : ErrorEntry) → P (sets s at (entryBytes e)) → P s → P (withRecord s at e)
+unfolding withRecord
+by-fit P s at e put kept = split (leb (at + entryLength) (length s))
+  where
+    split : (b : Bool) → P (pick b (sets s at (entryBytes e)) s)
+    split true = put
+    split false = kept
+
 module _ (s : List ℕ) (at : ℕ) (e : ErrorEntry) where
   pub length-record : length (withRecord s at e) ≡ length s
-  unfolding withRecord
-  length-record = length-sets s at (entryBytes e)
+  length-record = by-fit (λ (l : List ℕ). length l ≡ length s) s at e (length-sets s at (entryBytes e)) refl
 
   pub octet-record : (i : ℕ) → i < at → getD (withRecord s at e) i 0 ≡ getD s i 0
-  unfolding withRecord
-  octet-record i h = sets-below (entryBytes e) s at i h
+  octet-record i h = by-fit (λ (l : List ℕ). getD l i 0 ≡ getD s i 0) s at e (sets-below (entryBytes e) s at i h) refl
 
   pub octet-record-above : (i : ℕ) → at + entryLength ≤ i → getD (withRecord s at e) i 0 ≡ getD s i 0
-  unfolding withRecord
-  octet-record-above i h = sets-above (entryBytes e) s at i (omega (arith, bytes-length e))
+  octet-record-above i h =
+      by-fit (λ (l : List ℕ). getD l i 0 ≡ getD s i 0) s at e (sets-above (entryBytes e) s at i (omega (arith, bytes-length e))) refl
 
   -- ---- records
 
+  pub record-put : at + entryLength ≤ length s → withRecord s at e ≡ sets s at (entryBytes e)
+  unfolding withRecord
+  record-put fits = rw (le-leb (at + entryLength) (length s) fits)
+
   pub record-same : at + entryLength ≤ length s → InRange e → recordAt (withRecord s at e) at ≡ e
-  unfolding recordAt withRecord
+  unfolding recordAt
   record-same fits range =
-      ap entryOf (drop-sets s at (entryBytes e) (omega (arith, bytes-length e))) ∙ entry-back e (drop (at + length (entryBytes e)) s) range
+      ap (λ (l : List ℕ). entryOf (drop at l)) (record-put fits)
+      ∙ ap entryOf (drop-sets s at (entryBytes e) (omega (arith, bytes-length e)))
+      ∙ entry-back e (drop (at + length (entryBytes e)) s) range
 
   pub record-below : (b : ℕ) → b + entryLength ≤ at → recordAt (withRecord s at e) b ≡ recordAt s b
   record-below b h = record-same-octets (withRecord s at e) s b (λ i l m. octet-record i (omega arith))
@@ -131,3 +149,10 @@ in-range s o =
       nanoseconds = omega (arith, number-small s o 4 8);
       information = omega (arith, number-small s o 8 12);
     }
+
+-- the entry of a record that is there whole
+pub record-read : (s : List ℕ) (at : ℕ) (a : ErrorEntryAnswer) (e : ErrorEntry) → at + entryLength ≤ length s → a ≡ readEntry (drop at s) → e ≡ orTerminator a
+    → e ≡ recordAt s at
+unfolding recordAt readEntry
+record-read s at a e fits ea ee =
+    ee ∙ ap orTerminator ea ∙ rw (le-leb entryLength (length (drop at s)) (simp length-drop (omega arith)))

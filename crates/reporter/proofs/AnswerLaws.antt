@@ -5,8 +5,10 @@ use mathlib.Core.Path.{_≡_, sym, ap, _∙_}
 use mathlib.Core.List.{List, _++_, append-assoc}
 use native.Mathlib.Nat.{zero-add}
 use native.Mathlib.Omega.{arith}
+use lib.Dec.{leb}
 use lib.ListN.{length, take, replicate, length-append, length-replicate}
 use lib.Seq.{sets}
+use borrow.Author.Tests.{le-leb}
 use Rattle.octets.proofs.Sets.{sets-append, sets-front}
 use Rattle.types.specs.Header.{ethBytes}
 use Rattle.types.specs.declared.hal.PowerlinkError.{PowerlinkError}
@@ -21,11 +23,12 @@ use Rattle.control.specs.declared.asnd.NewASndFrame.{NewASndFrame}
 use Rattle.frame.specs.Write.{frameBytes}
 use Rattle.error_entry.specs.declared.ErrorEntry.{ErrorEntry}
 use Rattle.status_response.specs.Fields.{headBytes}
+use Rattle.status_response.specs.Given.{WritesWhole}
 use Rattle.status_response.specs.Steps.{statusBytes}
 use Rattle.status_response.specs.declared.fields.StatusFields.{StatusFields}
 use Rattle.reporter.specs.Calls.{Answers}
 use Rattle.reporter.specs.Layout.{headOf, carriedIn, firstFour, answerBytes}
-use Rattle.reporter.specs.Rules.{Head, opened, statusFields, answerPayload, filledPayload, answerASnd, answerFront, answerFrame, afterAnswer}
+use Rattle.reporter.specs.Rules.{Head, batchLength, opened, statusFields, answerPayload, filledPayload, answerASnd, answerFront, answerFrame, afterAnswer}
 use Rattle.reporter.specs.declared.AnswerFields.{AnswerFields}
 use Rattle.reporter.proofs.Meaning.{carried-batch, answer-size}
 
@@ -93,9 +96,11 @@ module _ (f : AnswerFields) (s : List ℕ) where
   payload-is front four n e₁ e₂ e₃ = rw (e₁, e₂, e₃, carried-batch s)
 
   pub payload-writes : (front : StatusFields) (four : List ErrorEntry) (n : ℕ) (t after : List ℕ) (r : WriteAnswer)
-      → front ≡ statusFields f (opened (headOf s) .en) → four ≡ firstFour s → n ≡ carriedIn s
-      → Writes (statusBytes (headBytes front (f .«static_error_bit_field»)) (take n four)) r t after → Writes payload r t after
-  payload-writes front four n t after r e₁ e₂ e₃ w = rw (payload-is front four n e₁ e₂ e₃) at w
+      → front ≡ statusFields f (opened (headOf s) .en) → four ≡ firstFour s → (n ≡ carriedIn s) × (n ≤ batchLength)
+      → WritesWhole (leb n batchLength) (statusBytes (headBytes front (f .«static_error_bit_field»)) (take n four)) r t after → Writes payload r t after
+  payload-writes front four n t after r e₁ e₂ e₃ w =
+      let p : Writes (statusBytes (headBytes front (f .«static_error_bit_field»)) (take n four)) r t after = rw (le-leb n batchLength (e₃ .1)) at w in
+      rw (payload-is front four n e₁ e₂ (e₃ .0)) at p
 
   pub answers : (r r′ : WriteAnswer) (after t written : List ℕ) → r ≡ r′ → Writes (answerFrame f (opened (headOf s))) r t written
       → headOf after ≡ afterAnswer r′ (headOf s) → after ≡ answerBytes r′ s → Answers f r′ s after t written

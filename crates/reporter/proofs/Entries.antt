@@ -9,11 +9,13 @@ use native.Mathlib.Omega.{arith}
 use lib.ListN.{length, take, drop, set, drop-of-length-le}
 use lib.Seq.{take-all}
 use Rattle.octets.proofs.Order.{le-or-lt}
+use Rattle.error_entry.specs.Entry.{readEntry, orTerminator}
 use Rattle.error_entry.specs.ReadBack.{InRange}
 use Rattle.error_entry.specs.declared.ErrorEntry.{ErrorEntry}
+use Rattle.error_entry.specs.declared.ErrorEntryAnswer.{ErrorEntryAnswer}
 use Rattle.records.specs.Records.{recordAt, withRecord}
 use Rattle.records.specs.Ring.{ring}
-use Rattle.records.proofs.RecordLaws.{record-same, record-other, record-set}
+use Rattle.records.proofs.RecordLaws.{record-read, record-same, record-other, record-set}
 use Rattle.records.proofs.RingLaws.{apart, length-ring, ring-same, ring-take, ring-drop}
 use Rattle.reporter.specs.Layout.{reporterLength, places, recordLength, controlLength, recordPlace, entryIn}
 use Rattle.reporter.specs.Rules.{batchLength}
@@ -22,9 +24,10 @@ pub entry-set : (s : List ℕ) (i x p : ℕ) → i < controlLength → entryIn (
 entry-set s i x p h = record-set s i x (recordPlace p) (omega arith)
 
 -- an entry that was read at a place of the ring
-pub entry-got : (s : List ℕ) (p at : ℕ) (e : ErrorEntry) → at ≡ recordPlace p → e ≡ recordAt s at → e ≡ entryIn s (p % places)
-entry-got s p at e ea ee =
-    ee ∙ ap (recordAt s) ea ∙ ap (λ (k : ℕ). recordAt s (controlLength + recordLength * k)) (sym (mod-mod p places))
+pub entry-got : (s : List ℕ) (p at : ℕ) (a : ErrorEntryAnswer) (e : ErrorEntry) → length s ≡ reporterLength → at ≡ recordPlace p → a ≡ readEntry (drop at s) → e ≡ orTerminator a
+    → e ≡ entryIn s (p % places)
+entry-got s p at a e size ea eg ee =
+    record-read s at a e (omega arith) eg ee ∙ ap (recordAt s) ea ∙ ap (λ (k : ℕ). recordAt s (controlLength + recordLength * k)) (sym (mod-mod p places))
 
 pub four-got : (s : List ℕ) (at : ℕ) (e₀ e₁ e₂ e₃ : ErrorEntry) → e₀ ≡ entryIn s (at % places) → e₁ ≡ entryIn s ((at + 1) % places)
     → e₂ ≡ entryIn s ((at + 2) % places) → e₃ ≡ entryIn s ((at + 3) % places) → (e₀ ∷ e₁ ∷ e₂ ∷ e₃ ∷ []) ≡ ring (entryIn s) places at batchLength

@@ -19,7 +19,7 @@ returns c =
     let t = n .before .before in
     let a = t .args in
     let e : set (c .put .last .0) (block (a .k) + 3) (n .count .result + 1) ≡ pushedBytes (a .state .now) (a .k) (a .e) =
-    rw (c .put .ensures, p .record-place .ensures, first .start .ensures .0, n .count .ensures .0) in
+    rw (c .put .ensures .holds, p .record-place .ensures, first .start .ensures .0, n .count .ensures .0) in
     (e, ap (λ (l : List ℕ). countIn l (a .k)) e ∙ pushed-count (a .state .now) (a .k) (a .e) (c .before .put-arg .given .0 .1) (t .pre .0) (t .pre .1))
 
 pub push-spec : {M : Type 1} → statement M

@@ -25,7 +25,7 @@ returns-2 c =
     let g = n .before in
     let a = g .before .before .before .args in
     filled-refused (answerPayload (a .fields) (opened (headOf (a .state .now)))) (a .target .now) 42 _ _ _
-    (payload-writes (a .fields) (a .state .now) _ _ _ (a .target .now) _ _ (g .status-fields .ensures) (q .first-four .ensures) (n .carried .ensures .0)
+    (payload-writes (a .fields) (a .state .now) _ _ _ (a .target .now) _ _ (g .status-fields .ensures) (q .first-four .ensures) (n .carried .ensures)
     (w .serialize-batch .ensures))
     (e .e .given .1)
 
@@ -42,7 +42,7 @@ returns-3 c =
     let a = k .before .before .args in
     rw (f .fill .ensures .0)
     (filled-written (answerPayload (a .fields) (opened (headOf (a .state .now)))) (a .target .now) 42 _ _ _ _
-    (payload-writes (a .fields) (a .state .now) _ _ _ (a .target .now) _ _ (g .status-fields .ensures) (q .first-four .ensures) (n .carried .ensures .0)
+    (payload-writes (a .fields) (a .state .now) _ _ _ (a .target .now) _ _ (g .status-fields .ensures) (q .first-four .ensures) (n .carried .ensures)
     (w .serialize-batch .ensures))
     (m .len .given .1)
     (k .if1 .left)

@@ -14,7 +14,7 @@ returns c =
     let b = o .before .before in
     let w = b .before .before in
     let s = w .before .before .args .state .now in (
-      rw (c .put .ensures, p .record-place .ensures, b .start .ensures .0, o .«open» .ensures .0, w .waiting .ensures .0),
+      rw (c .put .ensures .holds, p .record-place .ensures, b .start .ensures .0, o .«open» .ensures .0, w .waiting .ensures .0),
       o .«open» .ensures .2,
     )
 
