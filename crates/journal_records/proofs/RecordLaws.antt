@@ -6,8 +6,8 @@ use mathlib.Core.Path.{_≡_, refl, sym, ap, _∙_}
 use mathlib.Core.List.{List, [], _∷_}
 use native.Mathlib.Omega.{arith}
 use lib.Dec.{leb}
-use lib.ListN.{length, set}
-use lib.Seq.{sets, set-comm}
+use lib.ListN.{length, drop, set, length-drop}
+use lib.Seq.{sets, set-comm, length-take-le}
 use borrow.Rule.Slice.PartMut.{midOf, putMid}
 use borrow.Author.Tests.{le-leb, lt-leb, leb-true, leb-false}
 use Rattle.octets.proofs.Sets.{sets-front}
@@ -15,8 +15,11 @@ use Rattle.types.specs.Modes.{modeCode}
 use Rattle.types.specs.Nodes.{isCnNodeId}
 use Rattle.types.specs.declared.NodeId.{NodeId}
 use Rattle.types.specs.declared.error_mode.ErrorEntryMode.{ErrorEntryMode}
+use Rattle.section.specs.Write.{Writes}
+use Rattle.section.specs.declared.WriteAnswer.{WriteAnswer}
 use Rattle.error_entry.specs.Entry.{entryBytes}
 use Rattle.error_entry.specs.declared.ErrorEntry.{ErrorEntry}
+use Rattle.error_entry.proofs.Places.{writes-sets}
 use Rattle.records.proofs.PutLaws.{sets-rest}
 use Rattle.records.proofs.RecordLaws.{bytes-length}
 use Rattle.journal_records.specs.Record.{recordBytes, validRecord, WritesRecord}
@@ -72,10 +75,13 @@ module _ (node : NodeId) (e : ErrorEntry) (t : List ℕ) where
         }
 
     -- the entry is put behind the ID's place, and then the ID
-    pub record-put : (part : List ℕ) → validRecord (node .0) e ≡ true → part ≡ sets (midOf 1 (length t - 1) t) 0 (entryBytes e)
+    pub record-put : (r : WriteAnswer) (part : List ℕ) → validRecord (node .0) e ≡ true → Writes (entryBytes e) r (midOf 1 (length t - 1) t) part
         → WritesRecord node e (Written 21) t (set (putMid 1 (length t - 1) t part) 0 (node .0))
     unfolding recordBytes
-    record-put part h p =
+    record-put r part h w =
+        let l : length (midOf 1 (length t - 1) t) ≡ length t - 1 = length-take-le (length t - 1) (drop 1 t) (simp length-drop (omega arith)) in
+        let p : part ≡ sets (midOf 1 (length t - 1) t) 0 (entryBytes e) =
+        writes-sets (entryBytes e) (midOf 1 (length t - 1) t) r part w (omega (arith, bytes-length e)) in
         let q : set (putMid 1 (length t - 1) t part) 0 (node .0) ≡ sets t 0 (recordBytes (node .0) e) =
         ap (λ (l : List ℕ). set (putMid 1 (length t - 1) t l) 0 (node .0)) p
         ∙ ap (λ (l : List ℕ). set l 0 (node .0)) (sets-rest 1 t (entryBytes e) (omega arith))

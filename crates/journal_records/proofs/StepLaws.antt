@@ -2,13 +2,18 @@
 -- Assumes nothing.
 use Prim.Native.Nat.{ℕ, _≤_, _<_}
 use mathlib.Core.Bool.{Bool, true, false}
-use mathlib.Core.Path.{_≡_, refl}
+use mathlib.Core.Path.{_≡_, refl, ap, _∙_}
 use mathlib.Core.List.{List}
 use native.Mathlib.Nat.{zero-add}
-use lib.Dec.{ltb}
-use lib.ListN.{length}
+use native.Mathlib.Omega.{arith}
+use lib.ListN.{length, drop}
 use borrow.Author.Tests.{le-leb, lt-leb, eq-eqb, ne-eqb}
 use Rattle.octets.specs.Numbers.{leAt}
+use Rattle.error_entry.specs.Entry.{readEntry, orTerminator}
+use Rattle.error_entry.specs.declared.ErrorEntry.{ErrorEntry}
+use Rattle.error_entry.specs.declared.ErrorEntryAnswer.{ErrorEntryAnswer}
+use Rattle.records.specs.Records.{recordAt}
+use Rattle.records.proofs.RecordLaws.{record-read}
 use Rattle.journal_records.specs.Listing.{nodeOf, recordedEntry, version1, layoutOf, headerLine, recordLine, goodRecord, marked, fieldsLine}
 use Rattle.journal_records.specs.Parts.{Piece, stopped, refusal, oneLine, headerStep, recordStep, phaseStep, needed, awaits, ended, stepOf, told, Prints}
 use Rattle.journal_records.specs.Record.{validRecord}
@@ -42,7 +47,11 @@ module _ (s : List ℕ) where
   record-cut h = rw (lt-leb 21 (length s) h)
 
   module _ (long : 21 ≤ length s) where
-    pub record-fault : validRecord (nodeOf s) (recordedEntry s) ≡ false → recordStep s ≡ refusal RecordInvalid Records
+    pub entry-read : (t : List ℕ) (a : ErrorEntryAnswer) (e : ErrorEntry) → t ≡ drop 1 s → a ≡ readEntry t → e ≡ orTerminator a → e ≡ recordedEntry s
+    unfolding recordAt
+    entry-read t a e et ea ee = record-read s 1 a e (omega arith) (ea ∙ ap readEntry et) ee
+
+    pub record-fault : validRecord (nodeOf s) (recordedEntry s) ≡ false → recordStep s last ≡ refusal 19
     unfolding recordStep version1 goodRecord
     record-fault e = rw (le-leb 21 (length s) long, e)
 

@@ -1,12 +1,14 @@
--- The frames, entries and fields that numbers give, and what writing them comes to. pr counts modulo 8, a mode modulo 4.
+-- The frames, entries and fields that numbers give, and what writing them comes to. pr counts modulo 8.
 -- Assumes nothing.
-use Prim.Native.Nat.{ℕ, _+_, _/_, max}
+use Prim.Native.Nat.{ℕ, _+_, _/_, _%_, max}
 use mathlib.Core.Bool.{Bool}
 use mathlib.Core.List.{List, []}
+use lib.Dec.{eqb}
 use lib.ListN.{length}
+use Rattle.types.specs.Codes.{need}
 use Rattle.types.specs.Header.{ethLength}
 use Rattle.types.specs.Messages.{messageOf}
-use Rattle.types.specs.Modes.{modeIn}
+use Rattle.types.specs.Modes.{modeOf}
 use Rattle.types.specs.PollFlags.{priorityIn}
 use Rattle.types.specs.RequestedServices.{requestedOf}
 use Rattle.types.specs.Services.{serviceOf}
@@ -16,6 +18,7 @@ use Rattle.types.specs.declared.basic.EthernetHeader.{EthernetHeader}
 use Rattle.types.specs.declared.basic.MacAddress.{MacAddress}
 use Rattle.types.specs.declared.common.NetTime.{NetTime}
 use Rattle.types.specs.declared.error_mode.ErrorEntryMode.{ErrorEntryMode}
+use Rattle.types.specs.declared.hal.PowerlinkError.the-variants.{BufferTooShort}
 use Rattle.types.specs.declared.requested_service.RequestedServiceId.{RequestedServiceId}
 use Rattle.types.specs.declared.service.ServiceId.{ServiceId}
 use Rattle.types.specs.declared.states.NmtState.{NmtState}
@@ -45,11 +48,11 @@ use Rattle.frame.specs.declared.PowerlinkFrame.the-variants.{Soc, PReq, PRes, S
 use Rattle.error_entry.specs.Entry.{entryLength}
 use Rattle.error_entry.specs.declared.ErrorEntry.{ErrorEntry}
 use Rattle.status_response.specs.BitField.{fieldOf}
-use Rattle.status_response.specs.Copied.{entriesGiven}
+use Rattle.status_response.specs.Given.{entriesGiven}
 use Rattle.status_response.specs.Fields.{headBytes}
 use Rattle.status_response.specs.Steps.{statusBytes, statusLength}
 use Rattle.status_response.specs.declared.fields.StatusFields.{StatusFields}
-use Rattle.powerlink.specs.Writing.{Coded, octets, typed, stated, served, requested}
+use Rattle.powerlink.specs.Writing.{Coded, octets, unnamed, WritesEntry, typed, stated, served, requested}
 
 abbrev pub node : ℕ → NodeId
 node i = record { 0 = i }
@@ -196,16 +199,18 @@ entryWith status queue mode profile code stamp information =
       «additional_information» = information;
     }
 
--- the mode is in the two low bits of its number
-abbrev pub entryGiven : Bool → Bool → ℕ → ℕ → ℕ → NetTime → ℕ → ErrorEntry
-entryGiven status queue mode profile code stamp information =
-    entryWith status queue (modeIn mode) profile code stamp information
+-- the entry whose mode a number names
+abbrev pub EntryWrites : Bool → Bool → ℕ → ℕ → ℕ → NetTime → ℕ → ℕ → List ℕ → List ℕ → ℕ → ℕ → Type 0
+EntryWrites status queue mode profile code stamp information =
+    WritesEntry (λ m. entryWith status queue m profile code stamp information) (modeOf mode)
 
 abbrev pub fieldsGiven : Bool → Bool → ℕ → ℕ → NmtState → StatusFields
 fieldsGiven en ec pr rs state =
     record { «en_flag» = en; «ec_flag» = ec; pr = priorityIn pr; rs = record { 0 = rs }; «nmt_state» = state }
 
+-- octets that are no whole entries are an input that is too short: cause 1, whatever the target and the state are
 abbrev pub statusWriting : Bool → Bool → ℕ → ℕ → ℕ → List ℕ → List ℕ → Coded
 statusWriting en ec pr rs state field entries =
-    stated (statusLength (length entries / entryLength)) (stateOf state)
-    (λ s. octets (statusBytes (headBytes (fieldsGiven en ec pr rs s) (fieldOf field)) (entriesGiven entries)))
+    let n = statusLength (length entries / entryLength) in
+    need (eqb (length entries % entryLength) 0) (unnamed n BufferTooShort)
+    (stated n (stateOf state) (λ s. octets (statusBytes (headBytes (fieldsGiven en ec pr rs s) (fieldOf field)) (entriesGiven entries))))

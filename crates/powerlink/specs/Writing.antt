@@ -3,7 +3,13 @@
 use Prim.Native.Nat.{ℕ}
 use mathlib.Core.Path.{_≡_}
 use mathlib.Core.List.{List}
+use lib.Dec.{leb}
 use lib.ListN.{length}
+use Rattle.types.specs.CauseNumbers.{tooShort, entryInvalid}
+use Rattle.types.specs.Codes.{need}
+use Rattle.types.specs.declared.error_mode.ErrorEntryMode.{ErrorEntryMode}
+use Rattle.types.specs.declared.error_mode.ErrorEntryModeAnswer.{ErrorEntryModeAnswer}
+use Rattle.types.specs.declared.error_mode.ErrorEntryModeAnswer.the-variants as mode
 use Rattle.types.specs.declared.hal.PowerlinkError.{PowerlinkError}
 use Rattle.types.specs.declared.hal.PowerlinkError.the-variants.{InvalidMessageType, InvalidNmtState, InvalidServiceId, InvalidRequestedServiceId}
 use Rattle.types.specs.declared.message_type.MessageType.{MessageType}
@@ -20,6 +26,8 @@ use Rattle.types.specs.declared.states.NmtStateAnswer.{NmtStateAnswer}
 use Rattle.types.specs.declared.states.NmtStateAnswer.the-variants as state
 use Rattle.section.specs.Write.{writeAnswer, writeCause, overwritten}
 use Rattle.section.specs.declared.WriteAnswer.{WriteAnswer}
+use Rattle.error_entry.specs.Entry.{entryLength, entryBytes}
+use Rattle.error_entry.specs.declared.ErrorEntry.{ErrorEntry}
 use Rattle.c_values.specs.Answers.{lengthAfter, octetAfter, unnamedAnswer}
 
 -- r is the number of what writing bs comes to, t′ what the target t then holds, and n′ the length that is told where n stood
@@ -27,6 +35,11 @@ pub record WritesTo (bs : List ℕ) (r : ℕ) (t t′ : List ℕ) (n n′ : ℕ)
   pub cause : r ≡ writeCause (writeAnswer bs t) .number
   pub target : t′ ≡ overwritten bs t
   pub written : n′ ≡ lengthAfter (writeAnswer bs t) n
+
+-- the same of the entry that a mode makes; where a number names no mode 1, then 8, and all as it was
+abbrev pub WritesEntry : (ErrorEntryMode → ErrorEntry) → ErrorEntryModeAnswer → ℕ → List ℕ → List ℕ → ℕ → ℕ → Type 0
+WritesEntry e (mode.Known m) r t t′ n n′ = WritesTo (entryBytes (e m)) r t t′ n n′
+WritesEntry e (mode.Unknown b) r t t′ n n′ = (r ≡ need (leb entryLength (length t)) tooShort entryInvalid) × ((t′ ≡ t) × (n′ ≡ n))
 
 -- ---- codes that may name nothing
 

@@ -1,7 +1,6 @@
 // The payload of a StatusResponse: its front, its error field and its entries.
-ghost use Rattle.error_entry.specs.Entry.{entryBytes};
 ghost use Rattle.status_response.specs.BitField.{fieldOf, fieldBytes};
-ghost use Rattle.powerlink.specs.Given.{time, entryGiven, statusWriting};
+ghost use Rattle.powerlink.specs.Given.{time, EntryWrites, statusWriting};
 ghost use Rattle.powerlink.specs.Reading.{StatusRead, FieldRead, EntryRead, StepRead};
 ghost use Rattle.powerlink.specs.Writing.{WritesTo, WritesCoded};
 use crate::frame_values::status_values;
@@ -124,7 +123,7 @@ pub extern "C" fn powerlink_serialize_entry(
     target: &mut [u8],
     written: &mut usize,
 ) -> u8
-    ensures { λ r. ⌜ WritesTo (entryBytes (entryGiven «status_entry» «send_to_queue» mode profile code (time seconds nanoseconds) information)) r (now (target .entry)) (now (target .exit)) (now (written .entry)) (now (written .exit)) ⌝ }
+    ensures { λ r. ⌜ EntryWrites «status_entry» «send_to_queue» mode profile code (time seconds nanoseconds) information r (now (target .entry)) (now (target .exit)) (now (written .entry)) (now (written .exit)) ⌝ }
 {
     match ErrorEntryMode::from_u8(mode) {
         ErrorEntryModeAnswer::Unknown(_) => {
@@ -185,11 +184,11 @@ pub extern "C" fn powerlink_serialize_status(
 ) -> u8
     ensures { λ r. ⌜ WritesCoded (statusWriting en ec pr rs state (now (field .entry)) (now (entries .entry))) r (now (target .entry)) (now (target .exit)) (now (written .entry)) (now (written .exit)) (now (octet .entry)) (now (octet .exit)) ⌝ }
 {
+    if entries.len() % ENTRY_LEN != 0 {
+        return TOO_SHORT;
+    }
     match NmtState::from_u8(state) {
         NmtStateAnswer::Unknown(b) => {
-            if entries.len() % ENTRY_LEN != 0 {
-                return TOO_SHORT;
-            }
             let needed = given::payload_len(entries);
             unnamed(
                 PowerlinkError::InvalidNmtState(b),

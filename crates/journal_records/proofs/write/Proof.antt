@@ -20,7 +20,7 @@ returns-3 c =
     let p = c .before .before in
     let i = p .before .before in
     let v = i .before in
-    record-put _ _ _ (v .before .if1 .left) _ (sym (v .valid .ensures) ∙ not-false _ (i .if2 .left)) (p .put .ensures)
+    record-put _ _ _ (v .before .if1 .left) _ _ (sym (v .valid .ensures) ∙ not-false _ (i .if2 .left)) (p .serialize .ensures)
 
 pub write-spec : {M : Type 1} → statement M
 write-spec =

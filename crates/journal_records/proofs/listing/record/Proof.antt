@@ -3,10 +3,9 @@
 use mathlib.Core.Path.{sym, ap, _∙_}
 use borrow.Author.Needs.{needs}
 use borrow.Author.Tests.{not-true, not-false}
-use Rattle.error_entry.specs.Entry.{entryOf}
 use Rattle.journal_records.specs.Listing.{fieldsLine}
 use Rattle.journal_records.specs.Record.{validRecord}
-use Rattle.journal_records.proofs.StepLaws.{record-cut, record-fault, record-good, prints-as, prints-text}
+use Rattle.journal_records.proofs.StepLaws.{entry-read, record-cut, record-fault, record-good, prints-as, prints-text}
 use Rattle.journal_records.proofs.TextLaws.{put-as}
 use Rattle.journal_records.proofs.listing.record.Statement.{statement}
 use Rattle.journal_records.proofs.listing.record.Tie as tie
@@ -22,11 +21,12 @@ returns-2 c =
     let i = r .before .before in
     let v = i .before in
     let e = v .before in
-    let t = e .before in
+    let t = e .before .before in
+    let a = t .before .before .before .before .before .args in
     prints-as
-    (record-fault _ (t .before .before .if1 .left)
-    (ap (validRecord _) (sym (e .entry-at .ensures ∙ ap entryOf (t .tail .ensures .octets))) ∙ sym (v .valid .ensures) ∙ not-true _ (i .if2 .taken)))
-    (r .refuse2 .ensures)
+    (record-fault _ _ (t .before .before .if1 .left)
+    (ap (validRecord _) (sym (entry-read (a .bytes .now) (a .last) (t .before .before .if1 .left) _ _ _ (t .tail .ensures) (e .before .deserialize .ensures) (e .or-terminator .ensures))) ∙ sym (v .valid .ensures) ∙ not-true _ (i .if2 .taken)))
+    (r .refuse .ensures)
 
 returns-3 : tie.Need-returns-3
 returns-3 c =
@@ -34,8 +34,9 @@ returns-3 c =
     let i = p .before .before in
     let v = i .before in
     let e = v .before in
-    let t = e .before in
-    let read = e .entry-at .ensures ∙ ap entryOf (t .tail .ensures .octets) in
+    let t = e .before .before in
+    let a = t .before .before .before .before .before .args in
+    let read = entry-read (a .bytes .now) (a .last) (t .before .before .if1 .left) _ _ _ (t .tail .ensures) (e .before .deserialize .ensures) (e .or-terminator .ensures) in
     prints-as
     (record-good _ (t .before .before .if1 .left)
     (ap (validRecord _) (sym read) ∙ sym (v .valid .ensures) ∙ not-false _ (i .if2 .left)))
@@ -49,6 +50,7 @@ record-spec =
     (λ c. search needs)
     returns
     (λ c. search needs)
+    (λ c κs. search needs)
     (λ c κs. search needs)
     (λ c κs. search needs)
     (λ c κs. search needs)
