@@ -400,9 +400,8 @@ uint8_t powerlink_serialize_pl_header(
     uint8_t *POWERLINK_RESTRICT target, size_t target_len, size_t *POWERLINK_RESTRICT written,
     uint8_t *POWERLINK_RESTRICT octet);
 
-/* Writes the 20 octets of an entry. The mode is in the two low bits of its number, and 12 bits of the profile are
- * written.
- * Tests: 1. Refused: nothing is written. */
+/* Writes the 20 octets of an entry, a terminator's too. 12 bits of the profile are written. A mode above 3 is no entry's: 8.
+ * Tests: 1, 8. Refused: nothing is written. */
 uint8_t powerlink_serialize_entry(
     bool status_entry, bool send_to_queue, uint8_t mode, uint16_t profile, uint16_t code,
     uint32_t seconds, uint32_t nanoseconds, uint64_t information,
@@ -415,7 +414,8 @@ uint8_t powerlink_serialize_error_field(
     uint8_t *POWERLINK_RESTRICT target, size_t target_len, size_t *POWERLINK_RESTRICT written);
 
 /* Writes the payload of a StatusResponse: 14 octets, the entries, and the 20 zeros that end the list. `entries` are the
- * octets of the entries, 20 each, as powerlink_serialize_entry writes them; a rest of under 20 octets is left aside.
+ * octets of the entries, 20 each, as powerlink_serialize_entry writes them; a rest of 1 to 19 octets is an entry that is
+ * too short: 1.
  * Not for a node that has a reporter: an EN that its Answer did not write makes its next batch known, and lost.
  * Tests: 1, 5. Refused: nothing is written, but `octet` with 5. */
 uint8_t powerlink_serialize_status(

@@ -1,19 +1,25 @@
 -- What a caller of a writer is told, from what the writer promises.
 -- Assumes nothing.
-use Prim.Native.Nat.{ℕ}
+use Prim.Native.Nat.{ℕ, _≤_, _<_}
 use mathlib.Core.Bool.{Bool, true, false}
 use mathlib.Core.Path.{_≡_, refl, ap, _∙_}
 use mathlib.Core.List.{List}
 use lib.ListN.{length}
 use lib.Dec.{leb}
+use borrow.Author.Tests.{le-leb, lt-leb}
 use Rattle.types.specs.Codes.{pick, need}
+use Rattle.types.specs.declared.error_mode.ErrorEntryMode.{ErrorEntryMode}
+use Rattle.types.specs.declared.error_mode.ErrorEntryModeAnswer.{ErrorEntryModeAnswer}
+use Rattle.types.specs.declared.error_mode.ErrorEntryModeAnswer.the-variants as mode
 use Rattle.types.specs.declared.hal.PowerlinkError.{PowerlinkError}
 use Rattle.types.specs.declared.hal.PowerlinkError.the-variants.{BufferTooShort}
 use Rattle.section.specs.Write.{writeAnswer, writeCause, Writes}
 use Rattle.section.specs.declared.WriteAnswer.{WriteAnswer}
 use Rattle.section.specs.declared.WriteAnswer.the-variants.{Written, Refused}
+use Rattle.error_entry.specs.Entry.{entryBytes}
+use Rattle.error_entry.specs.declared.ErrorEntry.{ErrorEntry}
 use Rattle.c_values.specs.Answers.{lengthAfter, octetAfter, unnamedAnswer}
-use Rattle.powerlink.specs.Writing.{WritesTo, Coded, octets, unnamed, WritesCoded}
+use Rattle.powerlink.specs.Writing.{WritesTo, WritesEntry, Coded, octets, unnamed, WritesCoded}
 
 -- what `written_or` tells of an answer
 abbrev Told : WriteAnswer → ℕ → ℕ → ℕ → Type 0
@@ -61,3 +67,22 @@ refuses-coded w t r n o o′ k e ew h =
       written = kept-length (leb k (length t)) e n ∙ rw ew;
       octet = h .1 ∙ rw ew;
     }
+
+-- cause 1 is the same whether the target is too short or the input
+short-either : (b : Bool) (o : ℕ) → (_≡_ {A = ℕ} 1 (writeCause (need b (Refused BufferTooShort) (Refused BufferTooShort)) .number)) × (o ≡ octetAfter (need b (Refused BufferTooShort) (Refused BufferTooShort)) o)
+short-either true o = (refl, refl)
+short-either false o = (refl, refl)
+
+pub refuses-short : (w : Coded) (t : List ℕ) (n o k : ℕ) → w ≡ unnamed k BufferTooShort → WritesCoded w 1 t t n n o o
+refuses-short w t n o k ew = refuses-coded w t 1 n o o k BufferTooShort ew (short-either (leb k (length t)) o)
+
+-- an entry, by its mode
+module _ (e : ErrorEntryMode → ErrorEntry) (m : ErrorEntryModeAnswer) (t : List ℕ) (n : ℕ) where
+  pub entry-short : (b : ℕ) → m ≡ mode.Unknown b → length t < 20 → WritesEntry e m 1 t t n n
+  entry-short b q h = record { cause = rw (q, lt-leb 20 (length t) h); target = rw q; written = rw q }
+
+  pub entry-none : (b : ℕ) → m ≡ mode.Unknown b → 20 ≤ length t → WritesEntry e m 8 t t n n
+  entry-none b q h = record { cause = rw (q, le-leb 20 (length t) h); target = rw q; written = rw q }
+
+  pub entry-told : (k : ErrorEntryMode) (r : ℕ) (t′ : List ℕ) (n′ : ℕ) → m ≡ mode.Known k → WritesTo (entryBytes (e k)) r t t′ n n′ → WritesEntry e m r t t′ n n′
+  entry-told k r t′ n′ q w = record { cause = w .cause ∙ rw q; target = w .target ∙ rw q; written = w .written ∙ rw q }

@@ -201,8 +201,8 @@ entryWith status queue mode profile code stamp information =
 
 -- the entry whose mode a number names
 abbrev pub EntryWrites : Bool → Bool → ℕ → ℕ → ℕ → NetTime → ℕ → ℕ → List ℕ → List ℕ → ℕ → ℕ → Type 0
-EntryWrites status queue mode profile code stamp information =
-    WritesEntry (λ m. entryWith status queue m profile code stamp information) (modeOf mode)
+EntryWrites status queue mode profile code stamp information r t t′ n n′ =
+    WritesEntry (λ m. entryWith status queue m profile code stamp information) (modeOf mode) r t t′ n n′
 
 abbrev pub fieldsGiven : Bool → Bool → ℕ → ℕ → NmtState → StatusFields
 fieldsGiven en ec pr rs state =

@@ -36,10 +36,24 @@ pub record WritesTo (bs : List ℕ) (r : ℕ) (t t′ : List ℕ) (n n′ : ℕ)
   pub target : t′ ≡ overwritten bs t
   pub written : n′ ≡ lengthAfter (writeAnswer bs t) n
 
--- the same of the entry that a mode makes; where a number names no mode 1, then 8, and all as it was
-abbrev pub WritesEntry : (ErrorEntryMode → ErrorEntry) → ErrorEntryModeAnswer → ℕ → List ℕ → List ℕ → ℕ → ℕ → Type 0
-WritesEntry e (mode.Known m) r t t′ n n′ = WritesTo (entryBytes (e m)) r t t′ n n′
-WritesEntry e (mode.Unknown b) r t t′ n n′ = (r ≡ need (leb entryLength (length t)) tooShort entryInvalid) × ((t′ ≡ t) × (n′ ≡ n))
+-- ---- an entry of the mode that a number names: 1, then 8 where it names none, as Raise refuses it
+
+abbrev pub entryCauseBy : (ErrorEntryMode → ErrorEntry) → ErrorEntryModeAnswer → List ℕ → ℕ
+entryCauseBy e (mode.Known m) t = writeCause (writeAnswer (entryBytes (e m)) t) .number
+entryCauseBy e (mode.Unknown b) t = need (leb entryLength (length t)) tooShort entryInvalid
+
+abbrev pub entryTargetBy : (ErrorEntryMode → ErrorEntry) → ErrorEntryModeAnswer → List ℕ → List ℕ
+entryTargetBy e (mode.Known m) t = overwritten (entryBytes (e m)) t
+entryTargetBy e (mode.Unknown b) t = t
+
+abbrev pub entryLengthBy : (ErrorEntryMode → ErrorEntry) → ErrorEntryModeAnswer → List ℕ → ℕ → ℕ
+entryLengthBy e (mode.Known m) t n = lengthAfter (writeAnswer (entryBytes (e m)) t) n
+entryLengthBy e (mode.Unknown b) t n = n
+
+pub record WritesEntry (e : ErrorEntryMode → ErrorEntry) (m : ErrorEntryModeAnswer) (r : ℕ) (t t′ : List ℕ) (n n′ : ℕ) : Type 0 where
+  pub cause : r ≡ entryCauseBy e m t
+  pub target : t′ ≡ entryTargetBy e m t
+  pub written : n′ ≡ entryLengthBy e m t n
 
 -- ---- codes that may name nothing
 

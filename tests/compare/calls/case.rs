@@ -106,7 +106,7 @@ pub const SHAPES: [Shape; CALLS] = [
     writes("serialize_asnd", &[Octet, Octet, Service], &[Slice], 4, 46, &[0, 1, 6]),
     writes("serialize_eth_header", &[Half], &[Array(6), Array(6)], 14, 14, &[0, 1]),
     writes("serialize_pl_header", &[Message, Octet, Octet], &[], 3, 3, &[0, 1, 4]),
-    writes("serialize_entry", &[Flag, Flag, Octet, Half, Half, Word, Word, Long], &[], 20, 20, &[0, 1]),
+    writes("serialize_entry", &[Flag, Flag, Octet, Half, Half, Word, Word, Long], &[], 20, 20, &[0, 1, 8]),
     writes("serialize_error_field", &[], &[Array(8)], 8, 8, &[0, 1]),
     writes("serialize_status", &[Flag, Flag, Octet, Octet, State], &[Array(8), Entries], 34, 34, &[0, 1, 5]),
     writes("new_soc", &[Flag, Flag, Word, Word, Long], &[Array(6)], 36, 60, &[0, 1]),

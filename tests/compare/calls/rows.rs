@@ -69,6 +69,9 @@ pub fn all(run: &mut Run) {
         let mut case = writer(WRITE_ENTRY, 0, 20);
         case.numbers[2] = b.into();
         row(run, &case, Row::ModeAbove3, b > 3);
+        let mut case = writer(WRITE_STATUS, 0, 70);
+        case.bytes[1].resize(usize::from(b % 41), 1);
+        row(run, &case, Row::EntryCut, b % 41 % 20 != 0);
         if b > 3 && ErrorEntryMode::try_from(b) != Err(PowerlinkError::InvalidEnumValue) {
             run.fail(format!("the Rust has a mode {b}"));
         }

@@ -24,15 +24,17 @@ pub enum Row {
     PlSilent,
     MessageOctet,
     ModeAbove3,
+    EntryCut,
 }
 
-pub const ROWS: [&str; 6] = [
+pub const ROWS: [&str; 7] = [
     "deserialize_pl_header, unknown message type: InvalidEnumValue, not 4 with the octet",
     "a writer that refuses has written its fields",
     "serialize_eth_header is silent on a target under 14 octets",
     "serialize_pl_header is silent on a target under 3 octets",
     "MessageType::try_from: an error without the octet",
-    "ErrorEntryMode::try_from refuses a mode above 3; our writer of an entry takes its two low bits",
+    "ErrorEntryMode::try_from refuses a mode above 3, without a number; our writer of an entry with 8, after 1",
+    "the Rust's entries are records; our writer of a StatusResponse takes their octets, and refuses a rest with 1",
 ];
 
 /// Besides the answer: what only the Rust holds, and how often each row was met.
@@ -400,14 +402,16 @@ impl Theirs {
     fn write_entry(&mut self, case: &Case, out: &mut Out) -> Result<(), String> {
         let n = &case.numbers;
         let mode = n[2] as u8;
-        if ErrorEntryMode::try_from(mode).is_err() {
+        let Ok(mode) = ErrorEntryMode::try_from(mode) else {
             self.row(Row::ModeAbove3);
-        }
+            out.cause = if case.target < 20 { 1 } else { 8 };
+            return Ok(());
+        };
         let entry = ErrorEntry {
             entry_type: EntryType {
                 is_status_entry: n[0] != 0,
                 send_to_queue: n[1] != 0,
-                mode: ErrorEntryMode::try_from(mode & 3).map_err(|e| format!("the Rust refuses a mode: {e:?}"))?,
+                mode,
                 profile: n[3] as u16,
             },
             error_code: n[4] as u16,
@@ -436,6 +440,11 @@ impl Theirs {
     fn write_status(&mut self, case: &Case, out: &mut Out) -> Result<(), String> {
         let n = &case.numbers;
         let (state, unnamed) = code(NmtState::try_from(n[4] as u8), NmtState::NmtGsOff);
+        if case.bytes[1].len() % 20 != 0 {
+            self.row(Row::EntryCut);
+            out.cause = 1;
+            return Ok(());
+        }
         let mut entries = Vec::new();
         for octets in case.bytes[1].chunks_exact(20) {
             entries.push(ErrorEntry::deserialize(octets).map_err(|e| format!("the Rust refuses an entry: {e:?}"))?);

@@ -8,7 +8,7 @@ use Rattle.powerlink.proofs.status.powerlink_serialize_error_field.Tie 
 returns : tie.Need-returns
 returns c =
     let s = c .before .before .before .before in
-    writes-to _ _ _ _ _ _ _ (rw (s .before .before .field-at .ensures) at (s .serialize .ensures)) (c .written-or .ensures)
+    writes-to _ _ _ _ _ _ _ (rw (s .before .before .from-bytes .ensures) at (s .serialize .ensures)) (c .written-or .ensures)
 
 pub powerlink-serialize-error-field-spec : {M : Type 1} → statement M
 powerlink-serialize-error-field-spec =
