@@ -1,4 +1,4 @@
-// A StatusResponse that was read, written again with a count of five entries: a batch has four, so these are written.
+// A StatusResponse that was read, written again: its batch of four entries, and five of them, which it has not.
 use crate::print::column;
 use crate::print::end;
 use crate::print::octets;
@@ -31,7 +31,7 @@ fn number(answer: WriteAnswer) -> u64 {
 }
 
 // A line: 01's number or the length, and what the target holds after the call.
-fn write(payload: &[u8], len: usize) {
+fn write(payload: &[u8], n: usize, len: usize) {
     let read = deserialize(payload);
     let field = read.static_error_bit_field;
     let answer = read.answer;
@@ -46,7 +46,7 @@ fn write(payload: &[u8], len: usize) {
     ];
     let mut space = [FILL; SPACE];
     let target = target_in(&mut space, len);
-    column(number(serialize_batch(fields, field, batch, 5, target)));
+    column(number(serialize_batch(fields, field, batch, n, target)));
     octets(target);
     end();
 }
@@ -54,9 +54,10 @@ fn write(payload: &[u8], len: usize) {
 pub fn all() {
     let payload =
         b"\x20\x37\xFD\x00\x00\x00\xA1\xB1\xB2\xB3\xB4\xB5\xB6\xB7\xFF\x9F\x78\x56\x01\x02\x03\x04\x05\x06\x07\x08\x09\x0A\x0B\x0C\x0D\x0E\x0F\x10\x01\x70\x01\x00\x02\x00\x00\x00\x03\x00\x00\x00\x04\x00\x00\x00\x00\x00\x00\x00\x05\x00\x06\x00\x07\x00\x00\x00\x08\x00\x00\x00\x09\x00\x00\x00\x00\x00\x00\x00\x23\xE1\xFF\xFE\xFF\xFF\xFF\xFF\x00\x00\x00\x00\xFF\xFF\xFF\xFF\xFF\xFF\xFF\xFF";
-    write(payload, 0);
-    write(payload, 14);
-    write(payload, 113);
-    write(payload, 114);
-    write(payload, 115);
+    write(payload, 4, 0);
+    write(payload, 4, 14);
+    write(payload, 4, 113);
+    write(payload, 4, 114);
+    write(payload, 4, 115);
+    write(payload, 5, 160);
 }

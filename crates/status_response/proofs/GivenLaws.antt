@@ -82,6 +82,12 @@ module _ (at k : ℕ) (s t t₀ : List ℕ) (there : at + k ≤ length s) (fits 
       let m : length (midOf at (length t - at) t) ≡ length t - at = part-length at (length t - at) t (omega (arith, same)) in
       (rw l e, (omega arith, omega (arith, same)))
 
+  pub four-fits : k ≡ 80 → (length (take k (drop at s)) ≡ 80) × (34 + 20 * 4 ≤ length (midOf at (length t - at) t))
+  four-fits e =
+      let l : length (take k (drop at s)) ≡ k = length-take-le k (drop at s) (simp length-drop (omega arith)) in
+      let m : length (midOf at (length t - at) t) ≡ length t - at = part-length at (length t - at) t (omega (arith, same)) in
+      (l ∙ e, omega (arith, same))
+
   pub group-behind : (n : ℕ) (u : List ℕ) → n ≡ at + k → u ≡ sets (midOf at (length t - at) t) frontLength (take k (drop at s))
       → putMid at (length t - at) t u ≡ sets t₀ frontLength (take n s)
   group-behind n u en eu =

@@ -45,8 +45,17 @@ fn four(s: &[u8]) -> [ErrorEntry; 4]
     ]
 }
 
-// Writes the up to four entries that `s` is behind the front of `target`, which stays.
-fn put_group(s: &[u8], target: &mut [u8])
+// Writes the four entries that `s` is behind the front of `target`, which stays. A number that the compiler knows spares it
+// the loop over them.
+fn put_four(s: &[u8], target: &mut [u8])
+    requires { ⌜ (length (now s) ≡ 80) × (statusLength 4 ≤ length (now target)) ⌝ }
+    ensures { λ _. ⌜ now (target .exit) ≡ sets (now (target .entry)) frontLength (now (s .entry)) ⌝ }
+{
+    put_batch(four(s), 4, target);
+}
+
+// The same of the up to three that are left.
+fn put_rest(s: &[u8], target: &mut [u8])
     requires { ⌜ (length (now s) % entryLength ≡ 0) × ((length (now s) ≤ 80) × (frontLength + length (now s) + entryLength ≤ length (now target))) ⌝ }
     ensures { λ _. ⌜ now (target .exit) ≡ sets (now (target .entry)) frontLength (now (s .entry)) ⌝ }
 {
@@ -61,11 +70,11 @@ fn put_groups(entries: &[u8], target: &mut [u8])
     let len = entries.len();
     let mut at = 0;
     while GROUP_LEN <= len - at {
-        put_group(&entries[at..at + GROUP_LEN], &mut target[at..]);
+        put_four(&entries[at..at + GROUP_LEN], &mut target[at..]);
         at += GROUP_LEN;
     }
     if at < len {
-        put_group(&entries[at..], &mut target[at..]);
+        put_rest(&entries[at..], &mut target[at..]);
     }
 }
 

@@ -50,6 +50,16 @@ pub fn new<'a>(payload: &'a [u8]) -> EntryWalk<'a>
     }
 }
 
+// The walk from an offset on, which the entry before it told.
+pub fn moved<'a>(w: EntryWalk<'a>, offset: usize) -> EntryWalk<'a>
+    ensures { λ r. ⌜ (r .payload ≡ w .entry .payload) × (r .offset ≡ offset) ⌝ }
+{
+    EntryWalk {
+        payload: w.payload,
+        offset,
+    }
+}
+
 // One step: the entry at the walk's offset with the offset after it, or the end.
 pub fn step<'a>(w: EntryWalk<'a>) -> EntryStep
     ensures { λ s. ⌜ s ≡ stepAt (now (w .entry .payload)) (w .entry .offset) ⌝ }
@@ -57,9 +67,9 @@ pub fn step<'a>(w: EntryWalk<'a>) -> EntryStep
     entry_step(w.payload, w.offset)
 }
 
-// A step from a plain slice and an offset, through the walk.
+// A step from a plain slice and an offset, through the walk: whoever calls it needs no struct with a reference.
 pub fn step_from(payload: &[u8], offset: usize) -> EntryStep
     ensures { λ r. ⌜ r ≡ stepAt (now (payload .entry)) offset ⌝ }
 {
-    step(EntryWalk { payload, offset })
+    step(moved(new(payload), offset))
 }

@@ -142,7 +142,7 @@ def writing(line, samples):
     given = given | dict(zip(words[::2], words[1::2]))
     code, names, parts = WRITERS[call]
     payload = bytes(1 + i % 251 for i in range(int(given.get("payload", 0))))
-    entries = samples.get("batch", b"")[: 20 * int(given.get("entries", 0))]
+    entries = samples.get("batch", b"")[: 20 * int(given.get("entries", 0)) - int(given.get("cut", 0))]
     lent = {"payload": payload, "entries": entries}
     given.setdefault("size", str(len(payload)))
     numbers = [number(name, given[name]) for name in names.split()]

@@ -6,7 +6,7 @@ use mathlib.Core.Path.{_≡_, refl, ap, _∙_}
 use native.Mathlib.Omega.{arith}
 use lib.ListN.{length, take}
 use lib.Seq.{sets, length-sets}
-use Rattle.status_response.proofs.GivenLaws.{group-fits, group-behind, all-put}
+use Rattle.status_response.proofs.GivenLaws.{group-fits, four-fits, group-behind, all-put}
 use borrow.Author.Needs.{needs}
 use Rattle.status_response.proofs.given.put_groups.Statement.{statement}
 use Rattle.status_response.proofs.given.put_groups.Tie as tie
@@ -17,12 +17,12 @@ Inv-loop entries target₀ len at₀ target at = (at ≤ length entries) × ((at
 abbrev μ-loop : tie.MeasureT-loop
 μ-loop entries target₀ len at₀ target at = length entries - at
 
-put-group-requires : tie.Need-put-group-requires Inv-loop μ-loop
-put-group-requires c κs =
+put-four-requires : tie.Need-put-four-requires Inv-loop μ-loop
+put-four-requires c κs =
     let t = c .before .before in
     let o = t .before in
     let a = o .before .before .before .args in
-    group-fits (o .loop .at) (o .loop .at + 80 - o .loop .at) (a .entries .now) (o .loop .target) (a .target .now) (omega arith) (omega arith) (o .loop .inv .1 .1 .0) (omega arith) (omega arith)
+    four-fits (o .loop .at) (o .loop .at + 80 - o .loop .at) (a .entries .now) (o .loop .target) (a .target .now) (omega arith) (omega arith) (o .loop .inv .1 .1 .0) (omega arith)
 
 loop-again : tie.Need-loop-again Inv-loop μ-loop
 loop-again c =
@@ -32,11 +32,11 @@ loop-again c =
     let a = o .before .before .before .args in
     let next =
     group-behind (o .loop .at) (o .loop .at + 80 - o .loop .at) (a .entries .now) (o .loop .target) (a .target .now) (omega arith) (omega arith) (o .loop .inv .1 .1 .0) (o .loop .at + 80) _ (omega arith)
-    (g .put-group .ensures) in
+    (g .put-four .ensures) in
     (omega arith, (omega arith, (next, ap length next ∙ simp length-sets)))
 
-put-group-requires-2 : tie.Need-put-group-requires-2 Inv-loop μ-loop
-put-group-requires-2 c κs =
+put-rest-requires : tie.Need-put-rest-requires Inv-loop μ-loop
+put-rest-requires c κs =
     let o = c .before .before .before .before in
     let a = o .before .before .before .args in
     group-fits (o .loop .at) (length (a .entries .now) - o .loop .at) (a .entries .now) (o .loop .target) (a .target .now) (omega arith) (omega arith) (o .loop .inv .1 .1 .0) (omega arith) (omega arith)
@@ -48,7 +48,7 @@ returns c =
     let a = o .before .before .before .args in
     all-put (length (a .entries .now)) (a .entries .now) _ (a .target .now) (omega arith)
     (group-behind (o .loop .at) (length (a .entries .now) - o .loop .at) (a .entries .now) (o .loop .target) (a .target .now) (omega arith) (omega arith) (o .loop .inv .1 .1 .0) (length (a .entries .now)) _ (omega arith)
-    (g .put-group2 .ensures))
+    (g .put-rest .ensures))
 
 returns-2 : tie.Need-returns-2 Inv-loop μ-loop
 returns-2 c =
@@ -74,7 +74,7 @@ put-groups-spec =
     (λ c. omega arith)
     (λ c. omega arith)
     (λ c. omega arith)
-    put-group-requires
+    put-four-requires
     (λ c. omega arith)
     (λ c. omega arith)
     loop-again
@@ -84,7 +84,7 @@ put-groups-spec =
     (λ c. omega arith)
     (λ c. omega arith)
     (λ c. omega arith)
-    put-group-requires-2
+    put-rest-requires
     (λ c. search needs)
     returns
     same-length-2
