@@ -124,6 +124,38 @@ static void refused_by_the_exchange(void)
     want("the octet", octet, 0xEE);
 }
 
+/* A number that names no mode is 8, after 1; octets that are no whole entries are 1, whatever the target and the state are. */
+static void refused_entries(void)
+{
+    uint8_t target[POWERLINK_ENTRY_LEN * 4], before[sizeof target], entries[POWERLINK_ENTRY_LEN * 2] = {0};
+    size_t written = 0xEE, len;
+
+    memset(target, 0x55, sizeof target);
+    memcpy(before, target, sizeof target);
+    want("an entry of mode 4 and 19 octets",
+        powerlink_serialize_entry(true, false, 4, 2, 1, 1, 1, 1, target, POWERLINK_ENTRY_LEN - 1, &written),
+        POWERLINK_TOO_SHORT);
+    want("an entry of mode 4",
+        powerlink_serialize_entry(true, false, 4, 2, 1, 1, 1, 1, target, sizeof target, &written), POWERLINK_ENTRY_INVALID);
+    want("an entry of mode 255",
+        powerlink_serialize_entry(true, false, 255, 2, 1, 1, 1, 1, target, sizeof target, &written), POWERLINK_ENTRY_INVALID);
+    for (len = 1; len < sizeof entries; len++) {
+        if (len % POWERLINK_ENTRY_LEN == 0)
+            continue;
+        want("a cut entry",
+            powerlink_serialize_status(true, false, 0, 0, POWERLINK_OPERATIONAL, field, entries, len, target, sizeof target,
+                &written, &octet),
+            POWERLINK_TOO_SHORT);
+        want("a cut entry and state 1",
+            powerlink_serialize_status(
+                true, false, 0, 0, 1, field, entries, len, target, sizeof target, &written, &octet),
+            POWERLINK_TOO_SHORT);
+    }
+    want("the length", written, 0xEE);
+    want("the octet", octet, 0xEE);
+    want_octets("the target", target, before, sizeof target);
+}
+
 /* Refused for the target or for a code: 11, then 1, then 5, 6 and 7. */
 static void refused_by_writers(void)
 {
@@ -164,6 +196,7 @@ static void refusals(void)
     memcpy(head_before, head, sizeof head);
     memcpy(box_before, box, sizeof box);
     refused_by_the_exchange();
+    refused_entries();
     refused_by_writers();
     want_octets("the head", head, head_before, sizeof head);
     want_octets("the box", box, box_before, sizeof box);
