@@ -41,7 +41,7 @@ pub struct Run {
     expected: Out,
     found: Out,
     /// Cases by call and cause, frames that were read by message type, and entries that were walked over.
-    counts: [[u64; 8]; CALLS + 1],
+    counts: [[u64; 9]; CALLS + 1],
     kinds: [u64; 7],
     steps: u64,
     chain: chain::Counts,
