@@ -595,7 +595,7 @@ pub fn serialize_error_field(
     })
 }
 
-/// `entries` are the octets of the entries, 20 each.
+/// `entries` are the octets of the entries, 20 each; a rest is refused with 1, as an entry that is too short.
 pub fn serialize_status(
     fields: &StatusFields,
     entries: &[u8],
