@@ -1,11 +1,8 @@
 -- The numbers of what was read, for a caller in C. A flag is 1 or 0.
 -- Assumes nothing.
 use Prim.Native.Nat.{ℕ}
-use mathlib.Core.Bool.{Bool}
 use mathlib.Core.List.{List, [], _∷_}
-use Rattle.types.specs.Codes.{pick}
 use Rattle.types.specs.Messages.{messageCode}
-use Rattle.types.specs.Modes.{modeCode}
 use Rattle.types.specs.PollFlags.{priorityCode}
 use Rattle.types.specs.RequestedServices.{requestedCode}
 use Rattle.types.specs.Services.{serviceCode}
@@ -19,11 +16,8 @@ use Rattle.poll.specs.declared.pres.PResFrame.{PResFrame}
 use Rattle.frame.specs.declared.PowerlinkFrame.{PowerlinkFrame}
 use Rattle.frame.specs.declared.PowerlinkFrame.the-variants.{Soc, PReq, PRes, SoA, ASnd}
 use Rattle.codec.specs.declared.PayloadPlace.{PayloadPlace}
-use Rattle.error_entry.specs.declared.ErrorEntry.{ErrorEntry}
+pub use Rattle.error_entry.specs.Values.{asNumber, entryNumbers}
 use Rattle.status_response.specs.declared.fields.StatusFields.{StatusFields}
-
-abbrev pub asNumber : Bool → ℕ
-asNumber on = pick on 1 0
 
 -- ---- frames
 
@@ -71,9 +65,3 @@ frameNumbers (ASnd f) p = asndNumbers f p
 abbrev pub statusNumbers : StatusFields → List ℕ
 statusNumbers f =
     asNumber (f .«en_flag») ∷ asNumber (f .«ec_flag») ∷ priorityCode (f .pr) ∷ f .rs .0 ∷ stateCode (f .«nmt_state») ∷ []
-
--- status entry, send to queue, mode, profile, code, seconds, nanoseconds, information
-abbrev pub entryNumbers : ErrorEntry → List ℕ
-entryNumbers e =
-    asNumber (e .«entry_type» .«is_status_entry») ∷ asNumber (e .«entry_type» .«send_to_queue») ∷ modeCode (e .«entry_type» .mode)
-    ∷ e .«entry_type» .profile ∷ e .«error_code» ∷ e .timestamp .seconds ∷ e .timestamp .nanoseconds ∷ e .«additional_information» ∷ []

@@ -105,7 +105,7 @@ module _ (i : ℕ) (f : RequestFields) (ea : Bool) (soa : NewSoAFrame) (made : s
       ap (λ (x : NewSoAFrame). frameBytes (x .«eth_header») (SoA (x .frame)) []) made in
       (ap asRequest (w .answer) ∙ ap (λ (bs : List ℕ). asRequest (writeAnswer bs target)) e, w .holds ∙ ap (λ (bs : List ℕ). overwritten bs target) e)
 
-pub requests : (i : NodeId) (f : RequestFields) (r : RequestAnswer) (s target written : List ℕ)
+pub requests : (i : NodeId) (f : RequestFields) → length (f .«source_mac» .0) ≡ 6 → (r : RequestAnswer) (s target written : List ℕ)
     → r ≡ requestAnswer (i .0) f target (accountOf s (i .0)) → written ≡ afterRequest (i .0) f target (accountOf s (i .0)) → Requests i f r s target written
-requests i f r s target written a h =
-    record { answer = a; cause = ap requestCause a; size = λ ea. request-size (i .0) f ea; holds = h }
+requests i f six r s target written a h =
+    record { answer = a; cause = ap requestCause a; source = six; size = λ ea. request-size (i .0) f ea; holds = h }

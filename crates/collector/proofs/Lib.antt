@@ -3,6 +3,7 @@ pub mod BatchLaws
 pub mod BlockLaws
 pub mod BookLaws
 pub mod CallLaws
+pub mod Causes
 pub mod IdLaws
 pub mod Meaning
 pub mod PlacedLaws

@@ -1,5 +1,6 @@
 -- What each call of a collector promises: its answer is the rule's on what the state means, with 01's number; what the state means
--- afterwards is the rule's, for every ID; and the octets themselves. A refusal leaves state and target as they were.
+-- afterwards is the rule's, for every ID; and the octets themselves. A refusal leaves state and target as they were. The range that the
+-- type of a request's fields gives is told too.
 -- Assumes nothing.
 use Prim.Native.Nat.{ℕ}
 use mathlib.Core.Bool.{Bool}
@@ -41,6 +42,8 @@ pub record Flags (i : NodeId) (r : FlagsAnswer) (state : List ℕ) : Type 0 wher
 pub record Requests (i : NodeId) (f : RequestFields) (r : RequestAnswer) (state target written : List ℕ) : Type 0 where
   pub answer : r ≡ requestAnswer (i .0) f target (accountOf state (i .0))
   pub cause : requestCause r ≡ requestCause (requestAnswer (i .0) f target (accountOf state (i .0)))
+  -- an address of six octets
+  pub source : length (f .«source_mac» .0) ≡ 6
   pub size : (ea : Bool) → length (requestFrame (i .0) f ea) ≡ 60
   pub holds : written ≡ afterRequest (i .0) f target (accountOf state (i .0))
 

@@ -27,6 +27,7 @@ use Rattle.frame.specs.declared.PowerlinkFrame.the-variants.{Soc, PReq, PRes, S
 use Rattle.codec.specs.Frame.{readFrame}
 use Rattle.codec.specs.declared.FrameAnswer.{FrameAnswer}
 use Rattle.codec.specs.declared.FrameAnswer.the-variants as frame
+use Rattle.error_entry.specs.Values.{asNumber, entryNumbers}
 use Rattle.error_entry.specs.declared.ErrorEntry.{ErrorEntry}
 use Rattle.status_response.specs.Fields.{readFields}
 use Rattle.status_response.specs.Steps.{statusEntries}
@@ -198,9 +199,10 @@ responseAnswer (heard.Status source) said b = accountAnswer said (b .accounts (s
 unfoldable pub readAnswer : List ℕ → Box → ReadAnswer
 readAnswer f b = responseAnswer (responseIn f) (statusIn f) b
 
+-- 01's number for each case; behind 0 what C tells: 0 known, 1 booked
 abbrev pub readCause : ReadAnswer → Cause
-readCause Booked = row 0 []
-readCause Known = row 0 []
+readCause Booked = row 0 (1 ∷ [])
+readCause Known = row 0 (0 ∷ [])
 readCause (Refused e) = causeOf e
 readCause NotStatusResponse = row cause.notStatusResponse []
 readCause NotRegistered = notRegistered
@@ -235,8 +237,9 @@ abbrev pub flagsAnswer : Option Account → FlagsAnswer
 flagsAnswer none = flagging.NotRegistered
 flagsAnswer (some p) = flagging.Flags (record { ea = p .ea; er = false })
 
+-- EA, then ER
 abbrev pub flagsCause : FlagsAnswer → Cause
-flagsCause (flagging.Flags f) = row 0 []
+flagsCause (flagging.Flags f) = row 0 (asNumber (f .ea) ∷ asNumber (f .er) ∷ [])
 flagsCause flagging.NotRegistered = notRegistered
 
 -- ---- request
@@ -284,8 +287,9 @@ abbrev pub takeAnswer : Option Account → TakeAnswer
 takeAnswer none = taking.NotRegistered
 takeAnswer (some p) = takeFirst (p .book)
 
+-- the entry's numbers
 abbrev pub takeCause : TakeAnswer → Cause
-takeCause (taking.Taken e) = row 0 []
+takeCause (taking.Taken e) = row 0 (entryNumbers e)
 takeCause taking.NotRegistered = notRegistered
 takeCause taking.NothingBooked = row cause.nothingBooked []
 

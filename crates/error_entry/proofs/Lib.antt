@@ -3,3 +3,4 @@ pub mod Numbers
 pub mod Places
 pub mod ReadBack
 pub mod TypeBack
+pub mod Values

@@ -26,7 +26,7 @@ use Rattle.status_response.specs.Fields.{headBytes}
 use Rattle.status_response.specs.Given.{WritesWhole}
 use Rattle.status_response.specs.Steps.{statusBytes}
 use Rattle.status_response.specs.declared.fields.StatusFields.{StatusFields}
-use Rattle.reporter.specs.Calls.{Answers}
+use Rattle.reporter.specs.Calls.{AnswerSizes, Answers}
 use Rattle.reporter.specs.Layout.{headOf, carriedIn, firstFour, answerBytes}
 use Rattle.reporter.specs.Rules.{Head, batchLength, opened, statusFields, answerPayload, filledPayload, answerASnd, answerFront, answerFrame, afterAnswer}
 use Rattle.reporter.specs.declared.AnswerFields.{AnswerFields}
@@ -102,7 +102,7 @@ module _ (f : AnswerFields) (s : List ℕ) where
       let p : Writes (statusBytes (headBytes front (f .«static_error_bit_field»)) (take n four)) r t after = rw (le-leb n batchLength (e₃ .1)) at w in
       rw (payload-is front four n e₁ e₂ (e₃ .0)) at p
 
-  pub answers : (r r′ : WriteAnswer) (after t written : List ℕ) → r ≡ r′ → Writes (answerFrame f (opened (headOf s))) r t written
+  pub answers : AnswerSizes f → (r r′ : WriteAnswer) (after t written : List ℕ) → r ≡ r′ → Writes (answerFrame f (opened (headOf s))) r t written
       → headOf after ≡ afterAnswer r′ (headOf s) → after ≡ answerBytes r′ s → Answers f r′ s after t written
-  answers r r′ after t written er w h b =
-      record { writes = rw er at w; size = answer-size f (opened (headOf s)); head = h; bytes = b }
+  answers sizes r r′ after t written er w h b =
+      record { writes = rw er at w; size = answer-size f (opened (headOf s)); sizes = sizes; head = h; bytes = b }

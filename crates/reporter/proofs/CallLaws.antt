@@ -11,7 +11,7 @@ use Rattle.types.specs.Nodes.{isCnNodeId}
 use Rattle.types.specs.declared.NodeId.{NodeId}
 use Rattle.error_entry.specs.declared.ErrorEntry.{ErrorEntry}
 use Rattle.codec.specs.Frame.{readFrame}
-use Rattle.reporter.specs.Calls.{Makes, Raises, Acknowledges, Reads}
+use Rattle.reporter.specs.Calls.{Makes, Numbers, Raises, Acknowledges, Reads}
 use Rattle.reporter.specs.Layout.{reporterLength, enOf, openOf, waitingOf, headOf, newBytes, raiseBytes, acknowledgeBytes}
 use Rattle.reporter.specs.Rules.{queueLength, newAnswer, newCause, isRaisable, raiseAnswer, raiseCause, eaAnswer, acknowledgeAnswer, readCause, afterAcknowledge, eaTold}
 use Rattle.reporter.specs.declared.NewAnswer.the-variants.{Made, IdOutOfRange}
@@ -19,7 +19,7 @@ use Rattle.reporter.specs.declared.RaiseAnswer.the-variants.{Raised, Ent
 use Rattle.reporter.specs.declared.ReadAnswer.{ReadAnswer}
 use Rattle.reporter.specs.declared.ReadAnswer.the-variants.{Closed, Kept}
 use Rattle.reporter.specs.declared.acknowledge.Heard.{Heard}
-use Rattle.reporter.proofs.Meaning.{Widths, made, raises-means, reads-means}
+use Rattle.reporter.proofs.Meaning.{made, raises-means, reads-means}
 use Rattle.reporter.proofs.Ranges.{en-is, waiting-length, batch-empty}
 use Rattle.reporter.proofs.Rows.{read-row}
 
@@ -55,15 +55,16 @@ module _ (e : ErrorEntry) (s : List ℕ) where
       unfolding raiseAnswer
       raise-good l = rw (sym eb ∙ h, waiting-length s, ← en, lt-ltb n queueLength l)
 
-  pub invalid : EntryInvalid ≡ raiseAnswer e (headOf s) → Raises e EntryInvalid s s
-  invalid r = record { answer = r; cause = ap raiseCause r; head = refl; bytes = refl }
+  module _ (w : Numbers e) where
+    pub invalid : EntryInvalid ≡ raiseAnswer e (headOf s) → Raises e EntryInvalid s s
+    invalid r = record { answer = r; cause = ap raiseCause r; numbers = w; head = refl; bytes = refl }
 
-  pub full : QueueFull ≡ raiseAnswer e (headOf s) → Raises e QueueFull s s
-  full r = record { answer = r; cause = ap raiseCause r; head = refl; bytes = refl }
+    pub full : QueueFull ≡ raiseAnswer e (headOf s) → Raises e QueueFull s s
+    full r = record { answer = r; cause = ap raiseCause r; numbers = w; head = refl; bytes = refl }
 
-  pub raised : (after : List ℕ) → length s ≡ reporterLength → Widths e → Raised ≡ raiseAnswer e (headOf s) → after ≡ raiseBytes Raised e s → Raises e Raised s after
-  raised after size w r b =
-      record { answer = r; cause = ap raiseCause r; head = ap headOf b ∙ rw (← r) at (raises-means e s size w); bytes = b }
+    pub raised : (after : List ℕ) → length s ≡ reporterLength → Raised ≡ raiseAnswer e (headOf s) → after ≡ raiseBytes Raised e s → Raises e Raised s after
+    raised after size r b =
+        record { answer = r; cause = ap raiseCause r; numbers = w; head = ap headOf b ∙ rw (← r) at (raises-means e s size w); bytes = b }
 
 -- ---- reading
 
@@ -89,4 +90,4 @@ module _ (frame s after : List ℕ) (r : ReadAnswer) (x : Heard) (ex : x ≡ eaT
   pub reads : r ≡ acknowledgeAnswer x (headOf s) → headOf after ≡ afterAcknowledge r (headOf s) → after ≡ acknowledgeBytes r s → Reads frame r s after
   reads e h b =
       let f : r ≡ acknowledgeAnswer (eaTold (headOf s .id) frame) (headOf s) = e ∙ ap (λ (y : Heard). acknowledgeAnswer y (headOf s)) ex in
-      record { answer = f; cause = ap readCause f ∙ read-row (headOf s .id) (readFrame frame) (headOf s); head = h; bytes = b }
+      record { answer = f; cause = ap (λ (x : ReadAnswer). readCause x .number) f ∙ read-row (headOf s .id) (readFrame frame) (headOf s); head = h; bytes = b }

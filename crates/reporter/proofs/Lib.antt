@@ -1,6 +1,8 @@
 pub mod AnswerLaws
 pub mod Answering
+pub mod Bounds
 pub mod CallLaws
+pub mod Causes
 pub mod Closing
 pub mod Entries
 pub mod Meaning

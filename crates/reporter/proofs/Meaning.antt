@@ -15,6 +15,7 @@ use Rattle.error_entry.specs.declared.ErrorEntry.{ErrorEntry}
 use Rattle.records.specs.Ring.{ring}
 use Rattle.records.proofs.RingLaws.{length-ring, ring-take}
 use Rattle.status_response.specs.Steps.{unlessTerminator}
+use Rattle.reporter.specs.Calls.{Numbers}
 use Rattle.reporter.specs.Layout.{reporterLength, places, enOf, startOf, openOf, waitingOf, entryIn, headOf, newBytes, raiseBytes, opensIn, carriedIn, firstFour, openedBytes, acknowledgeBytes}
 use Rattle.reporter.specs.Rules.{queueLength, batchLength, Head, freshHead, isRaisable, raiseAnswer, afterRaise, opened, answerFrame, answerLength, afterAcknowledge}
 use Rattle.reporter.specs.declared.AnswerFields.{AnswerFields}
@@ -58,14 +59,7 @@ profile-small ErrorActive p e = ltb-true p 4096 e
 profile-small ErrorCleared p e = ltb-true p 4096 e
 profile-small EventOccurred p e = ltb-true p 4096 e
 
--- the numbers of an entry are of their machine types' widths; its profile may have 16 bits
-pub record Widths (e : ErrorEntry) : Type 0 where
-  pub code : e .«error_code» < 2 ^ 16
-  pub seconds : e .timestamp .seconds < 2 ^ 32
-  pub nanoseconds : e .timestamp .nanoseconds < 2 ^ 32
-  pub information : e .«additional_information» < 2 ^ 64
-
-pub raisable-range : (e : ErrorEntry) → Widths e → isRaisable e ≡ true → InRange e
+pub raisable-range : (e : ErrorEntry) → Numbers e → isRaisable e ≡ true → InRange e
 unfolding isRaisable
 raisable-range e w h =
     record {
@@ -82,7 +76,7 @@ module _ (e : ErrorEntry) (s : List ℕ) where
   raises-length EntryInvalid = refl
   raises-length QueueFull = refl
 
-  pub raises-means : length s ≡ reporterLength → Widths e
+  pub raises-means : length s ≡ reporterLength → Numbers e
       → headOf (raiseBytes (raiseAnswer e (headOf s)) e s) ≡ afterRaise (raiseAnswer e (headOf s)) e (headOf s)
   unfolding raiseAnswer
   raises-means size w =

@@ -1,7 +1,8 @@
 -- What each call of a reporter promises: its answer is the rule's on what the state means, with 01's number; what the state means
--- afterwards is the rule's; and the octets themselves. A refusal leaves state and target as they were.
+-- afterwards is the rule's; and the octets themselves. A refusal leaves state and target as they were. The ranges that the types of its
+-- parameters give are told too.
 -- Assumes nothing.
-use Prim.Native.Nat.{ℕ}
+use Prim.Native.Nat.{ℕ, _^_, _<_}
 use mathlib.Core.Bool.{Bool}
 use mathlib.Core.Path.{_≡_}
 use mathlib.Core.List.{List}
@@ -19,6 +20,19 @@ use Rattle.reporter.specs.declared.NewAnswer.the-variants.{Made}
 use Rattle.reporter.specs.declared.RaiseAnswer.{RaiseAnswer}
 use Rattle.reporter.specs.declared.ReadAnswer.{ReadAnswer}
 
+-- the numbers of an entry are of their types' widths; its profile may have 16 bits
+pub record Numbers (e : ErrorEntry) : Type 0 where
+  pub code : e .«error_code» < 2 ^ 16
+  pub seconds : e .timestamp .seconds < 2 ^ 32
+  pub nanoseconds : e .timestamp .nanoseconds < 2 ^ 32
+  pub information : e .«additional_information» < 2 ^ 64
+
+-- addresses of six octets, an error field of eight
+pub record AnswerSizes (f : AnswerFields) : Type 0 where
+  pub source : length (f .«source_mac» .0) ≡ 6
+  pub destination : length (f .«dest_mac» .0) ≡ 6
+  pub errors : length (f .«static_error_bit_field» .«specific_errors») ≡ 7
+
 -- a head is made, and it is a fresh one; or "no head is made"
 pub record Makes (i : NodeId) (r : NewAnswer) (state after : List ℕ) : Type 0 where
   pub answer : r ≡ newAnswer (i .0)
@@ -29,12 +43,14 @@ pub record Makes (i : NodeId) (r : NewAnswer) (state after : List ℕ) : Type 0 
 pub record Raises (e : ErrorEntry) (r : RaiseAnswer) (state after : List ℕ) : Type 0 where
   pub answer : r ≡ raiseAnswer e (headOf state)
   pub cause : raiseCause r ≡ raiseCause (raiseAnswer e (headOf state))
+  pub numbers : Numbers e
   pub head : headOf after ≡ afterRaise r e (headOf state)
   pub bytes : after ≡ raiseBytes r e state
 
 pub record Answers (f : AnswerFields) (r : WriteAnswer) (state after target written : List ℕ) : Type 0 where
   pub writes : Writes (answerFrame f (opened (headOf state))) r target written
   pub size : length (answerFrame f (opened (headOf state))) ≡ answerLength (length (opened (headOf state) .batch))
+  pub sizes : AnswerSizes f
   pub head : headOf after ≡ afterAnswer r (headOf state)
   pub bytes : after ≡ answerBytes r state
 
@@ -46,6 +62,6 @@ pub record Acknowledges (ea : Bool) (r : ReadAnswer) (state after : List ℕ) : 
 
 pub record Reads (frame : List ℕ) (r : ReadAnswer) (state after : List ℕ) : Type 0 where
   pub answer : r ≡ acknowledgeAnswer (eaTold (headOf state .id) frame) (headOf state)
-  pub cause : readCause r ≡ frameCause (readFrame frame)
+  pub cause : readCause r .number ≡ frameCause (readFrame frame) .number
   pub head : headOf after ≡ afterAcknowledge r (headOf state)
   pub bytes : after ≡ acknowledgeBytes r state

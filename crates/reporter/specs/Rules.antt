@@ -190,10 +190,11 @@ acknowledgeAnswer (heard.Refused e) h = Refused e
 acknowledgeAnswer heard.Nothing h = Ignored
 acknowledgeAnswer (heard.Ea ea) h = eaAnswer ea h
 
+-- 01's number for each case; behind 0 what C tells: 0 ignored, 1 kept, 2 closed
 abbrev pub readCause : ReadAnswer → Cause
-readCause Closed = row 0 []
-readCause Kept = row 0 []
-readCause Ignored = row 0 []
+readCause Closed = row 0 (2 ∷ [])
+readCause Kept = row 0 (1 ∷ [])
+readCause Ignored = row 0 (0 ∷ [])
 readCause (Refused e) = causeOf e
 
 abbrev pub whenClosed : {A : Type 0} → ReadAnswer → A → A → A

@@ -16,6 +16,7 @@ use Rattle.section.specs.declared.WriteAnswer.the-variants as write
 use Rattle.codec.specs.Frame.{readFrame}
 use Rattle.error_entry.specs.declared.ErrorEntry.{ErrorEntry}
 use Rattle.reporter.specs.Calls as reporter
+use Rattle.reporter.specs.Calls.{Numbers, AnswerSizes}
 use Rattle.reporter.specs.Layout.{reporterLength, headOf, newBytes, raiseBytes, answerBytes, acknowledgeBytes}
 use Rattle.reporter.specs.Rules.{newAnswer, newCause, raiseAnswer, opened, answerFrame, afterAnswer, acknowledgeAnswer, eaTold}
 use Rattle.reporter.specs.declared.AnswerFields.{AnswerFields}
@@ -28,7 +29,7 @@ use Rattle.collector.specs.Layout.{collectorLength, boxOf, accountOf, freshByte
 use Rattle.collector.specs.Rules.{registerAnswer, readAnswer, requestAnswer, afterRequest, takeAnswer}
 use Rattle.collector.specs.declared.RequestFields.{RequestFields}
 use Rattle.collector.proofs.Meaning.{fresh-means, register-means, register-length, read-means, read-length, request-size, take-means, take-length}
-use Rattle.signaling.specs.Calls.{Numbers, node}
+use Rattle.signaling.specs.Calls.{node}
 
 -- ---- the head's calls
 
@@ -42,9 +43,8 @@ raises s e size n = (
   record {
     answer = refl;
     cause = refl;
-    head =
-        raises-means e s size
-        (record { code = n .code; seconds = n .seconds; nanoseconds = n .nanoseconds; information = n .information });
+    numbers = n;
+    head = raises-means e s size n;
     bytes = refl;
   },
   raises-length e s (raiseAnswer e (headOf s)) ∙ size,
@@ -67,17 +67,18 @@ module _ (s : List ℕ) (size : length s ≡ reporterLength) where
   answer-means (write.Written n) = opens-means s size
   answer-means (write.Refused e) = refl
 
-pub answers : (s : List ℕ) (f : AnswerFields) (target : List ℕ) → length s ≡ reporterLength
+pub answers : (s : List ℕ) (f : AnswerFields) → AnswerSizes f → (target : List ℕ) → length s ≡ reporterLength
     → reporter.Answers f (writeAnswer (answerFrame f (opened (headOf s))) target) s
     (answerBytes (writeAnswer (answerFrame f (opened (headOf s))) target) s)
     target
     (overwritten (answerFrame f (opened (headOf s))) target)
     × (length (answerBytes (writeAnswer (answerFrame f (opened (headOf s))) target) s) ≡ reporterLength)
-answers s f target size =
+answers s f sizes target size =
     let r = writeAnswer (answerFrame f (opened (headOf s))) target in (
       record {
         writes = writes (answerFrame f (opened (headOf s))) target;
         size = answer-size f (opened (headOf s));
+        sizes = sizes;
         head = answer-means s size r;
         bytes = refl;
       },
@@ -110,9 +111,9 @@ pub books : (s bs : List ℕ) → length s ≡ collectorLength → Octets bs
 books s bs size octets =
     (record { answer = refl; cause = refl; box = read-means s size bs octets; bytes = refl }, read-length (readAnswer bs (boxOf s)) bs s ∙ size)
 
-pub asks : (s : List ℕ) (i : ℕ) (f : RequestFields) (target : List ℕ)
+pub asks : (s : List ℕ) (i : ℕ) (f : RequestFields) → length (f .«source_mac» .0) ≡ 6 → (target : List ℕ)
     → collector.Requests (node i) f (requestAnswer i f target (accountOf s i)) s target (afterRequest i f target (accountOf s i))
-asks s i f target = record { answer = refl; cause = refl; size = request-size i f; holds = refl }
+asks s i f six target = record { answer = refl; cause = refl; source = six; size = request-size i f; holds = refl }
 
 pub hands : (s : List ℕ) (i : ℕ) → length s ≡ collectorLength
     → collector.Takes (node i) (takeAnswer (accountOf s i)) s (takeBytes (takeAnswer (accountOf s i)) i s)

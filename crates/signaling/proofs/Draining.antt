@@ -18,12 +18,12 @@ use Rattle.signaling.proofs.Invariant.{bookOf}
 -- ---- a box has 5,184 octets
 
 step-size : {i : ℕ} {w v : World} {x : Event} → Step i w x v → length (v .box) ≡ length (w .box)
-step-size (raise e r after n c) = refl
-step-size (answer f r after target written sizes c) = refl
+step-size (raise e r after c) = refl
+step-size (answer f r after target written c) = refl
 step-size (headReads o bs r after d c) = refl
 step-size {w} (register j r after c) = ap length (c .bytes) ∙ register-length r j (w .box)
 step-size {w} (boxReads o bs r after d c) = ap length (c .bytes) ∙ read-length r bs (w .box)
-step-size (request j f r target written six c) = refl
+step-size (request j f r target written c) = refl
 step-size {w} (takes j r after c) = ap length (c .bytes) ∙ take-length r j (w .box)
 step-size (hosts bs told) = refl
 

@@ -32,6 +32,7 @@ use Rattle.status_response.specs.BitField.{fieldBytes}
 use Rattle.status_response.specs.Fields.{headBytes}
 use Rattle.status_response.specs.Steps.{statusBytes}
 use Rattle.frame_laws.proofs.ReadBack.{frames-read-back}
+use Rattle.reporter.specs.Calls.{Numbers, AnswerSizes}
 use Rattle.reporter.specs.Rules.{Head, freshHead, isRaisable, answerPayload, answerFrame, eaFor, eaTold}
 use Rattle.reporter.specs.declared.AnswerFields.{AnswerFields}
 use Rattle.reporter.specs.declared.acknowledge.Heard.the-variants as heard
@@ -40,7 +41,7 @@ use Rattle.collector.specs.Rules.{requestFrame, responseIn}
 use Rattle.collector.specs.declared.RequestFields.{RequestFields}
 use Rattle.collector.specs.declared.reading.Heard.the-variants as boxHears
 use Rattle.collector.proofs.Meaning.{request-size}
-use Rattle.signaling.specs.Calls.{NotFrom, Numbers, AnswerSizes, node}
+use Rattle.signaling.specs.Calls.{NotFrom, node}
 use Rattle.signaling.specs.Example.{entry, five, madeStatus}
 use Rattle.signaling.proofs.Calls.{request-else}
 use Rattle.signaling.proofs.Facts.{both}

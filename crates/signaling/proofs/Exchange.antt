@@ -70,9 +70,9 @@ module _ {i : ℕ} {h : Head} {ea : Bool} {n m : ℕ} where
 -- the answer that opens: from its place on, all answers say what the opened head holds
 first-steady : {i : ℕ} {w v : World} {n : ℕ} {bs : List ℕ} → Step i w (answered (write.Written n) bs) v → Ready i w
     → Steady i (opened (headIn w)) (eaOf (placeFor i w)) (length (answersSent i (w .log))) (length (requestsSent i (w .log))) v
-first-steady {i} {w} {n} {bs} (answer f r after target written sizes c) y =
+first-steady {i} {w} {n} {bs} (answer f r after target written c) y =
     let s : Step i w (answered (write.Written n) bs) (record { head = after; box = w .box; log = answered (write.Written n) bs ∷ w .log }) =
-    answer f (write.Written n) after target bs sizes c in
+    answer f (write.Written n) after target bs c in
     steady-by (goes-on s y) (calm (y .held) s tt) (c .head) refl
     (λ p a le e. absurd (omega (arith, at-lt (answersSent i (w .log)) a p e)))
     (λ q f x le e me. absurd (omega (arith, at-lt (requestsSent i (w .log)) f q e)))

@@ -6,6 +6,7 @@ use mathlib.Core.List.{List, _∷_, _++_}
 use lib.ListN.{length}
 use Rattle.octets.proofs.NumberBack.{Octets}
 use Rattle.section.specs.declared.WriteAnswer.the-variants as write
+use Rattle.reporter.specs.Calls.{AnswerSizes}
 use Rattle.reporter.specs.Rules.{Head, opened, answerFrame, answerLength, eaAnswer, afterAcknowledge, eaTold}
 use Rattle.reporter.specs.declared.AnswerFields.{AnswerFields}
 use Rattle.reporter.specs.declared.ReadAnswer.the-variants.{Closed}
@@ -14,7 +15,7 @@ use Rattle.collector.specs.Rules.{withBook, withEa, Account, bookAnswer, reques
 use Rattle.collector.specs.declared.ReadAnswer.the-variants as box
 use Rattle.collector.specs.declared.RequestAnswer.the-variants as requesting
 use Rattle.collector.specs.declared.RequestFields.{RequestFields}
-use Rattle.signaling.specs.Calls.{sent, answered, headRead, boxRead, requested, Log, answersSent, requestsSent, tally, Delivered, AnswerSizes}
+use Rattle.signaling.specs.Calls.{sent, answered, headRead, boxRead, requested, Log, answersSent, requestsSent, tally, Delivered}
 use Rattle.signaling.specs.Exchanges.{Exchange, still}
 use Rattle.signaling.proofs.Frames.{Says}
 use Rattle.signaling.proofs.Making.{world, Knows, held, answering, hearing, booking, asking}

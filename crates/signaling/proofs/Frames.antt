@@ -31,12 +31,13 @@ use Rattle.status_response.proofs.ReadBack.{status-reads-back}
 use Rattle.frame_laws.proofs.ASndBack.{asnd-back}
 use Rattle.frame_laws.proofs.HeaderBack.{section-back}
 use Rattle.frame_laws.proofs.ReadBack.{frames-read-back}
+use Rattle.reporter.specs.Calls.{Numbers, AnswerSizes}
 use Rattle.reporter.specs.Rules.{Head, isRaisable, statusFields, answerPayload, answerASnd, answerFrame}
 use Rattle.reporter.specs.declared.AnswerFields.{AnswerFields}
 use Rattle.collector.specs.Rules.{statusPayload, requestSoA, requestFrame, responseIn}
 use Rattle.collector.specs.declared.RequestFields.{RequestFields}
 use Rattle.collector.specs.declared.reading.Heard.the-variants as heard
-use Rattle.signaling.specs.Calls.{Numbers, AnswerSizes, node}
+use Rattle.signaling.specs.Calls.{node}
 use Rattle.signaling.proofs.Facts.{clash}
 
 -- every entry may be raised and is of machine numbers

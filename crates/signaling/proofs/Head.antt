@@ -11,6 +11,7 @@ use lib.Dec.{ltb}
 use Rattle.types.specs.Codes.{pick, need}
 use Rattle.section.specs.declared.WriteAnswer.the-variants as write
 use Rattle.error_entry.specs.declared.ErrorEntry.{ErrorEntry}
+use Rattle.reporter.specs.Calls.{Numbers}
 use Rattle.reporter.specs.Rules.{withNewBatch, queueLength, batchLength, Head, isRaisable, raiseAnswer, afterRaise, isEmpty, opens, opened, eaAnswer, acknowledgeAnswer, afterAcknowledge, eaTold}
 use Rattle.reporter.specs.declared.RaiseAnswer.{RaiseAnswer}
 use Rattle.reporter.specs.declared.RaiseAnswer.the-variants.{Raised, EntryInvalid, QueueFull}
@@ -18,7 +19,7 @@ use Rattle.reporter.specs.declared.ReadAnswer.the-variants.{Closed, Kept}
 use Rattle.reporter.specs.declared.acknowledge.Heard.{Heard}
 use Rattle.reporter.specs.declared.acknowledge.Heard.the-variants as heard
 use Rattle.collector.specs.Rules.{enIn}
-use Rattle.signaling.specs.Calls.{sent, raised, answered, Tally, onEntries, onAnswers, onRequests, onRuled, accepts, sends, gives, becomes, answers, adds, Numbers}
+use Rattle.signaling.specs.Calls.{sent, raised, answered, Tally, onEntries, onAnswers, onRequests, onRuled, accepts, sends, gives, becomes, answers, adds}
 use Rattle.signaling.proofs.Facts.{beq-same, beq-other, beq-true, both, at-snoc, at-lt, join-more, no-batch, is-cons}
 use Rattle.signaling.proofs.Frames.{Good, Says}
 use Rattle.signaling.proofs.Invariant.{enSaid, batchSaid, Inv}

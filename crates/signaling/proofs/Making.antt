@@ -15,6 +15,7 @@ use Rattle.section.specs.Write.{writeAnswer, overwritten}
 use Rattle.section.specs.declared.WriteAnswer.the-variants as write
 use Rattle.error_entry.specs.declared.ErrorEntry.{ErrorEntry}
 use Rattle.reporter.specs.Calls as reporter
+use Rattle.reporter.specs.Calls.{Numbers, AnswerSizes}
 use Rattle.reporter.specs.Layout.{reporterLength, headOf, newBytes, raiseBytes, acknowledgeBytes}
 use Rattle.reporter.specs.Rules.{Head, freshHead, newAnswer, raiseAnswer, afterRaise, opened, answerFrame, answerLength, acknowledgeAnswer, afterAcknowledge, eaTold}
 use Rattle.reporter.specs.declared.AnswerFields.{AnswerFields}
@@ -32,7 +33,7 @@ use Rattle.collector.specs.declared.RequestAnswer.the-variants as requesting
 use Rattle.collector.specs.declared.RequestFields.{RequestFields}
 use Rattle.collector.specs.declared.TakeAnswer.the-variants as taking
 use Rattle.collector.specs.declared.reading.Heard.the-variants as boxHears
-use Rattle.signaling.specs.Calls.{Origin, sent, Event, raised, answered, headRead, registered, boxRead, requested, taken, hosted, Log, tally, ruled, World, Delivered, Numbers, AnswerSizes, node, Step, raise, answer, headReads, register, boxReads, request, takes, hosts}
+use Rattle.signaling.specs.Calls.{Origin, sent, Event, raised, answered, headRead, registered, boxRead, requested, taken, hosted, Log, tally, ruled, World, Delivered, node, Step, raise, answer, headReads, register, boxReads, request, takes, hosts}
 use Rattle.signaling.proofs.Callable.{makes, raises, answers, hears, freshes, registers, books, asks, hands}
 use Rattle.signaling.proofs.Frames.{Says}
 
@@ -143,15 +144,15 @@ module _ {i : ℕ} {s b : List ℕ} {l : Log} {h : Head} {p : Account} (k : Know
   raising e r n ok =
       let q : raiseAnswer e (headOf s) ≡ r = rw (k .means) ok in
       let c = rw q at (raises s e (k .headSize) n) in
-      by-head (raise e r (raiseBytes r e s) n (c .0)) (c .1) (c .0 .head ∙ rw (k .means)) (rw (k .rules, ok))
+      by-head (raise e r (raiseBytes r e s) (c .0)) (c .1) (c .0 .head ∙ rw (k .means)) (rw (k .rules, ok))
 
   pub answering : (f : AnswerFields) → AnswerSizes f → answerLength (length (opened h .batch)) ≤ 200
       → Next i s b l (answered (write.Written (length (answerFrame f (opened h)))) (held (answerFrame f (opened h)))) (opened h) p
   answering f sizes small =
-      let a = rw (k .means) at (answers s f target (k .headSize)) in
+      let a = rw (k .means) at (answers s f sizes target (k .headSize)) in
       let fits : length (answerFrame f (opened h)) ≤ 200 = rw (rw (k .means) at (a .0 .size)) small in
       let c = rw (is-written (answerFrame f (opened h)) fits, is-held (answerFrame f (opened h)) fits) at a in
-      by-head (answer f _ _ target (held (answerFrame f (opened h))) sizes (c .0)) (c .1) (c .0 .head ∙ rw (k .means)) (rw (k .rules))
+      by-head (answer f _ _ target (held (answerFrame f (opened h))) (c .0)) (c .1) (c .0 .head ∙ rw (k .means)) (rw (k .rules))
 
   pub hearing : (o : Origin) (bs : List ℕ) (r : ReadAnswer) → Delivered 240 o bs (tally i l .requests) → h .id ≡ i
       → acknowledgeAnswer (eaTold i bs) h ≡ r → Next i s b l (headRead o bs r) (afterAcknowledge r h) p
@@ -218,10 +219,10 @@ module _ {i : ℕ} {s b : List ℕ} {l : Log} {h : Head} {p : Account} (k : Know
   pub asking : (j : ℕ) (q : Account) → accountOf b j ≡ some q → (f : RequestFields) → length (f .«source_mac» .0) ≡ 6
       → Next i s b l (requested j (requesting.Written (length (requestFrame j f (q .ea)))) (held (requestFrame j f (q .ea)))) h p
   asking j q there f six =
-      let a = rw there at (asks b j f target) in
+      let a = rw there at (asks b j f six target) in
       let fits : length (requestFrame j f (q .ea)) ≤ 200 = rw (a .size (q .ea)) (omega arith) in
       let c = rw (is-written (requestFrame j f (q .ea)) fits, is-held (requestFrame j f (q .ea)) fits) at a in
-      by-box (request j f _ target (held (requestFrame j f (q .ea))) six c) (k .boxSize) (k .place) refl
+      by-box (request j f _ target (held (requestFrame j f (q .ea))) c) (k .boxSize) (k .place) refl
 
   pub handing : (e : ErrorEntry) (es : List ErrorEntry) → p .book ≡ e ∷ es → Next i s b l (taken i (taking.Taken e)) h (withBook es p)
   handing e es first =

@@ -91,13 +91,13 @@ module _ {k : ℕ} where
 
   few-stays : {i : ℕ} {w v : World} {x : Event} → Step i w x v → NoRaise i x → length (entries (headIn w)) ≤ k
       → length (entries (headIn v)) ≤ k
-  few-stays {i} {w} (raise e r after n c) unraised few = rw (c .head, not-raised i e r unraised (headIn w)) few
-  few-stays {w} (answer f r after target written sizes c) unraised few = rw (c .head, answered-entries r (headIn w)) few
+  few-stays {i} {w} (raise e r after c) unraised few = rw (c .head, not-raised i e r unraised (headIn w)) few
+  few-stays {w} (answer f r after target written c) unraised few = rw (c .head, answered-entries r (headIn w)) few
   few-stays {w} (headReads o bs r after d c) unraised few =
       elim (read-head r (headIn w)) [ inl e ↦ rw (c .head, e) few | inr e ↦ rw (c .head, e) (shut-few (headIn w) few) ]
   few-stays (register j r after c) unraised few = few
   few-stays (boxReads o bs r after d c) unraised few = few
-  few-stays (request j f r target written six c) unraised few = few
+  few-stays (request j f r target written c) unraised few = few
   few-stays (takes j r after c) unraised few = few
   few-stays (hosts bs told) unraised few = few
 

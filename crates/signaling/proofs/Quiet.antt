@@ -73,12 +73,12 @@ module _ (i : ℕ) (b : Box) (is : IsPlace (b .accounts i)) where
   take-stays j taking.NothingBooked = is
 
 place-stays : {i : ℕ} {w v : World} {x : Event} → Step i w x v → IsPlace (placeFor i w) → IsPlace (placeFor i v)
-place-stays (raise e r after n c) y = y
-place-stays (answer f r after target written sizes c) y = y
+place-stays (raise e r after c) y = y
+place-stays (answer f r after target written c) y = y
 place-stays (headReads o bs r after d c) y = y
 place-stays {i} {w} (register j r after c) y = rw (c .box .accounts i) (register-stays i (boxOf (w .box)) y j r)
 place-stays {i} {w} (boxReads o bs r after d c) y = rw (c .box .accounts i) (read-stays i (boxOf (w .box)) y bs r)
-place-stays (request j f r target written six c) y = y
+place-stays (request j f r target written c) y = y
 place-stays {i} {w} (takes j r after c) y = rw (c .box .accounts i) (take-stays i (boxOf (w .box)) y j r)
 place-stays (hosts bs told) y = y
 
@@ -108,12 +108,12 @@ hands-on true taking.NotRegistered es = omega arith
 hands-on true taking.NothingBooked es = omega arith
 
 pub room-stays : {i : ℕ} {w v : World} {x : Event} → Step i w x v → NoRaise i x → Roomy i w → Roomy i v
-room-stays {i} {w} (raise e r after n c) k y = rw (k (tally i (w .log))) y
-room-stays (answer f r after target written sizes c) k y = y
+room-stays {i} {w} (raise e r after c) k y = rw (k (tally i (w .log))) y
+room-stays (answer f r after target written c) k y = y
 room-stays (headReads o bs r after d c) k y = y
 room-stays (register j r after c) k y = y
 room-stays (boxReads o bs r after d c) k y = y
-room-stays (request j f r target written six c) k y = y
+room-stays (request j f r target written c) k y = y
 room-stays {i} {w} (takes j r after c) k y = omega (arith, y, hands-on (eqb j i) r (handedOut i (w .log)))
 room-stays (hosts bs told) k y = y
 
@@ -172,23 +172,23 @@ read-head Ignored h = inl refl
 read-head (Refused e) h = inl refl
 
 pub calm : {i : ℕ} {w v : World} {x : Event} → Held i w → Step i w x v → Quiet i x → Calm i w v
-calm {i} {w} t (raise e r after n c) k =
+calm {i} {w} t (raise e r after c) k =
     record {
       head = inl (inl (c .head ∙ not-raised i e r (quiet-raises-not i (raised e r) k) (headIn w)));
       bit = refl;
       answers = λ p a y. inl y;
       requests = λ q f y. inl y;
     }
-calm {i} {w} t (answer f (write.Refused e) after target written sizes c) k =
+calm {i} {w} t (answer f (write.Refused e) after target written c) k =
     record { head = inl (inl (c .head)); bit = refl; answers = λ p a y. inl y; requests = λ q f y. inl y }
-calm {i} {w} t (answer f (write.Written n) after target written sizes c) k =
+calm {i} {w} t (answer f (write.Written n) after target written c) k =
     record {
       head = inr (c .head);
       bit = refl;
       answers = λ p a y.
           elim (at-snoc (answersSent i (w .log)) (take n written) a p y) [
             | inl z ↦ inl (z .1)
-            | inr z ↦ inr (rw (c .head, ← (z .1)) (answer-says t f n after target written sizes c))
+            | inr z ↦ inr (rw (c .head, ← (z .1)) (answer-says t f n after target written c))
           ];
       requests = λ q f y. inl y;
     }
@@ -214,11 +214,11 @@ calm {i} {w} t (boxReads foreign bs r after d c) k =
       requests = λ q f y. inl y;
     }
 calm {i} {w} t (boxReads (sent p) bs r after d c) k = absurd k
-calm {i} {w} t (request j f requesting.NotRegistered target written six c) k =
+calm {i} {w} t (request j f requesting.NotRegistered target written c) k =
     record { head = inl (inl refl); bit = refl; answers = λ p a y. inl y; requests = λ q f y. inl y }
-calm {i} {w} t (request j f (requesting.Refused e) target written six c) k =
+calm {i} {w} t (request j f (requesting.Refused e) target written c) k =
     record { head = inl (inl refl); bit = refl; answers = λ p a y. inl y; requests = λ q f y. inl y }
-calm {i} {w} t (request j f (requesting.Written n) target written six c) k =
+calm {i} {w} t (request j f (requesting.Written n) target written c) k =
     record {
       head = inl (inl refl);
       bit = refl;
@@ -226,7 +226,7 @@ calm {i} {w} t (request j f (requesting.Written n) target written six c) k =
       requests = λ q g y.
           elim (at-snoc (requestsSent i (w .log)) (take n written) g q y) [
             | inl z ↦ inl (z .1)
-            | inr z ↦ inr (rw (← (z .1)) (request-says t j f n target written six c))
+            | inr z ↦ inr (rw (← (z .1)) (request-says t j f n target written c))
           ];
     }
 calm {i} {w} t (hosts bs told) k =

@@ -28,7 +28,7 @@ use Rattle.collector.specs.declared.RequestAnswer.the-variants as requesting
 use Rattle.collector.specs.declared.RequestFields.{RequestFields}
 use Rattle.collector.specs.declared.TakeAnswer.{TakeAnswer}
 use Rattle.collector.specs.declared.TakeAnswer.the-variants as taking
-use Rattle.signaling.specs.Calls.{Origin, sent, foreign, Event, answered, headRead, boxRead, requested, taken, tally, ruled, Delivered, AnswerSizes, node, World, Step, raise, answer, headReads, register, boxReads, request, takes, hosts, Run, fresh, call, eaOf}
+use Rattle.signaling.specs.Calls.{Origin, sent, foreign, Event, answered, headRead, boxRead, requested, taken, tally, ruled, Delivered, node, World, Step, raise, answer, headReads, register, boxReads, request, takes, hosts, Run, fresh, call, eaOf}
 use Rattle.signaling.proofs.Facts.{either, beq-false, at-lt}
 use Rattle.signaling.proofs.Frames.{Says, answer-reads}
 use Rattle.signaling.proofs.Invariant.{enSaid, batchSaid, bookOf, Inv, headIn, placeFor, Held}
@@ -46,19 +46,19 @@ module _ {i : ℕ} {w : World} (t : Held i w) where
   -- ---- the head's calls
 
   -- what is sent is an answer of the head as it opened
-  pub answer-says : (f : AnswerFields) (n : ℕ) (after target written : List ℕ) → AnswerSizes f
+  pub answer-says : (f : AnswerFields) (n : ℕ) (after target written : List ℕ)
       → reporter.Answers f (write.Written n) (w .head) after target written → Says (take n written) (opened (headIn w))
-  answer-says f n after target written sizes c =
+  answer-says f n after target written c =
       let bs = answerFrame f (opened h) in
       let octets : take n written ≡ bs = rw (c .writes .holds) (written-frame bs target n (c .writes .answer)) in
-      rw octets (answer-reads f (opened h) sizes (rw (t .head) (opened-keeps (t .inv) .batch)))
+      rw octets (answer-reads f (opened h) (c .sizes) (rw (t .head) (opened-keeps (t .inv) .batch)))
 
-  answer-keeps : (f : AnswerFields) (r : WriteAnswer) (after target written : List ℕ) → AnswerSizes f
+  answer-keeps : (f : AnswerFields) (r : WriteAnswer) (after target written : List ℕ)
       → reporter.Answers f r (w .head) after target written
       → Inv i (eaOf o) (bookOf o) (tally i (answered r written ∷ w .log))
-  answer-keeps f (write.Refused e) after target written sizes c = t .inv
-  answer-keeps f (write.Written n) after target written sizes c =
-      answer-written (t .inv) n written (rw (t .head) at (answer-says f n after target written sizes c))
+  answer-keeps f (write.Refused e) after target written c = t .inv
+  answer-keeps f (write.Written n) after target written c =
+      answer-written (t .inv) n written (rw (t .head) at (answer-says f n after target written c))
 
   pub head-now : (bs : List ℕ) (r : ReadAnswer) (after : List ℕ) → reporter.Reads bs r (w .head) after
       → headOf after ≡ afterAcknowledge (acknowledgeAnswer (eaTold i bs) (headIn w)) (headIn w)
@@ -97,10 +97,10 @@ module _ {i : ℕ} {w : World} (t : Held i w) where
   box-read-keeps (sent p) bs box.BookFull after d c = rw (c .box .accounts i) (box-passes (t .inv) p bs (d .0) (d .1))
 
   -- what is sent tells the head EA, if it tells it anything
-  pub request-says : (j : ℕ) (f : RequestFields) (n : ℕ) (target written : List ℕ) → length (f .«source_mac» .0) ≡ 6
+  pub request-says : (j : ℕ) (f : RequestFields) (n : ℕ) (target written : List ℕ)
       → collector.Requests (node j) f (requesting.Written n) (w .box) target written
       → (x : Bool) → eaTold i (take n written) ≡ heard.Ea x → x ≡ eaOf (placeFor i w)
-  request-says j f n target written six c x me =
+  request-says j f n target written c x me =
       let y = requested-frame j f (accountOf (w .box) j) target n (c .answer) in
       let ea = y .place .ea in
       let octets : take n written ≡ requestFrame j f ea = rw (c .holds) (y .octets) in
@@ -109,16 +109,16 @@ module _ {i : ℕ} {w : World} (t : Held i w) where
       (λ here.
       let same : j ≡ i = eqb-true j i here in
       let place : o ≡ some (y .place) = rw (← same) (y .known) in
-      rw place (cc (request-here i j f ea six same, mine)))
-      (λ away. cc (request-else i j f ea six (eqb-false j i away), mine))
+      rw place (cc (request-here i j f ea (c .source) same, mine)))
+      (λ away. cc (request-else i j f ea (c .source) (eqb-false j i away), mine))
 
-  request-keeps : (j : ℕ) (f : RequestFields) (r : RequestAnswer) (target written : List ℕ) → length (f .«source_mac» .0) ≡ 6
+  request-keeps : (j : ℕ) (f : RequestFields) (r : RequestAnswer) (target written : List ℕ)
       → collector.Requests (node j) f r (w .box) target written
       → Inv i (eaOf o) (bookOf o) (tally i (requested j r written ∷ w .log))
-  request-keeps j f requesting.NotRegistered target written six c = t .inv
-  request-keeps j f (requesting.Refused e) target written six c = t .inv
-  request-keeps j f (requesting.Written n) target written six c =
-      request-sends (t .inv) (take n written) (request-says j f n target written six c)
+  request-keeps j f requesting.NotRegistered target written c = t .inv
+  request-keeps j f (requesting.Refused e) target written c = t .inv
+  request-keeps j f (requesting.Written n) target written c =
+      request-sends (t .inv) (take n written) (request-says j f n target written c)
 
   take-here : (r : TakeAnswer) (after : List ℕ) → collector.Takes (node i) r (w .box) after
       → Inv i (eaOf (accountOf after i)) (bookOf (accountOf after i)) (tally i (taken i r ∷ w .log))
@@ -139,13 +139,13 @@ module _ {i : ℕ} {w : World} (t : Held i w) where
 -- ---- every call
 
 pub keeps : {i : ℕ} {w v : World} {x : Event} → Held i w → Step i w x v → Held i v
-keeps {i} {w} t (raise e r after n c) =
+keeps {i} {w} t (raise e r after c) =
     record {
       head = cc (c .head, c .answer, t .head);
-      inv = raise-keeps (t .inv) e r (c .answer ∙ ap (raiseAnswer e) (t .head)) n;
+      inv = raise-keeps (t .inv) e r (c .answer ∙ ap (raiseAnswer e) (t .head)) (c .numbers);
     }
-keeps {i} {w} t (answer f r after target written sizes c) =
-    record { head = c .head ∙ ap (afterAnswer r) (t .head); inv = answer-keeps t f r after target written sizes c }
+keeps {i} {w} t (answer f r after target written c) =
+    record { head = c .head ∙ ap (afterAnswer r) (t .head); inv = answer-keeps t f r after target written c }
 keeps {i} {w} t (headReads from bs r after d c) =
     record {
       head = head-now t bs r after c ∙ ap (λ (h : Head). afterAcknowledge (acknowledgeAnswer (eaTold i bs) h) h) (t .head);
@@ -155,7 +155,7 @@ keeps {i} {w} t (register j r after c) =
     let y = register-same i j (boxOf (w .box)) r (c .answer) in
     record { head = t .head; inv = rw (c .box .accounts i, y .0, y .1) (t .inv) }
 keeps {i} {w} t (boxReads from bs r after d c) = record { head = t .head; inv = box-read-keeps t from bs r after d c }
-keeps {i} {w} t (request j f r target written six c) = record { head = t .head; inv = request-keeps t j f r target written six c }
+keeps {i} {w} t (request j f r target written c) = record { head = t .head; inv = request-keeps t j f r target written c }
 keeps {i} {w} t (takes j r after c) = record { head = t .head; inv = take-keeps t j r after c }
 keeps t (hosts bs told) = record { head = t .head; inv = request-sends (t .inv) bs told }
 

@@ -4,7 +4,7 @@
 -- the head an EA gives the box's when it is sent (`Tells`), as `collector::flags` tells it (`FlagsTell`); Example.antt has lists that lose
 -- entries by a frame that does not.
 -- Assumes nothing.
-use Prim.Native.Nat.{ℕ, suc, _^_, _≤_, _<_}
+use Prim.Native.Nat.{ℕ, suc, _≤_}
 use mathlib.Core.Bool.{Bool, true, false, _||_}
 use mathlib.Core.Path.{_≡_}
 use mathlib.Core.List.{List, [], _∷_, _++_}
@@ -242,18 +242,6 @@ abbrev pub Delivered : ℕ → Origin → List ℕ → Line → Type 0
 Delivered i (sent p) bs l = (l .at ≤ p) × (getElem? (l .frames) p ≡ some bs)
 Delivered i foreign bs l = NotFrom i (readFrame bs)
 
--- the ranges of machine values
-pub record Numbers (e : ErrorEntry) : Type 0 where
-  pub code : e .«error_code» < 2 ^ 16
-  pub seconds : e .timestamp .seconds < 2 ^ 32
-  pub nanoseconds : e .timestamp .nanoseconds < 2 ^ 32
-  pub information : e .«additional_information» < 2 ^ 64
-
-pub record AnswerSizes (f : AnswerFields) : Type 0 where
-  pub source : length (f .«source_mac» .0) ≡ 6
-  pub destination : length (f .«dest_mac» .0) ≡ 6
-  pub errors : length (f .«static_error_bit_field» .«specific_errors») ≡ 7
-
 abbrev pub node : ℕ → NodeId
 node i = record { 0 = i }
 
@@ -269,9 +257,9 @@ Tells i s bs = (ea : Bool) → eaTold i bs ≡ heard.Ea ea → ea ≡ eaOf (acco
 -- One call between the head with ID i and the box, with its event: "the head's Raise, Answer and reading, and the box's registering,
 -- reading, request and Take, these for any ID"; or a frame that the box's host sends. What a call leaves is what its contract says; the other state stays.
 pub data Step (i : ℕ) (w : World) : Event → World → Type 0 where
-  raise : (e : ErrorEntry) (r : RaiseAnswer) (after : List ℕ) → Numbers e → reporter.Raises e r (w .head) after
+  raise : (e : ErrorEntry) (r : RaiseAnswer) (after : List ℕ) → reporter.Raises e r (w .head) after
       → Step i w (raised e r) (record { head = after; box = w .box; log = raised e r ∷ w .log })
-  answer : (f : AnswerFields) (r : WriteAnswer) (after target written : List ℕ) → AnswerSizes f
+  answer : (f : AnswerFields) (r : WriteAnswer) (after target written : List ℕ)
       → reporter.Answers f r (w .head) after target written
       → Step i w (answered r written) (record { head = after; box = w .box; log = answered r written ∷ w .log })
   headReads : (o : Origin) (bs : List ℕ) (r : ReadAnswer) (after : List ℕ) → Delivered 240 o bs (tally i (w .log) .requests)
@@ -282,7 +270,7 @@ pub data Step (i : ℕ) (w : World) : Event → World → Type 0 where
   boxReads : (o : Origin) (bs : List ℕ) (r : BoxReadAnswer) (after : List ℕ) → Delivered i o bs (tally i (w .log) .answers)
       → collector.Reads bs r (w .box) after
       → Step i w (boxRead o bs r) (record { head = w .head; box = after; log = boxRead o bs r ∷ w .log })
-  request : (j : ℕ) (f : RequestFields) (r : RequestAnswer) (target written : List ℕ) → length (f .«source_mac» .0) ≡ 6
+  request : (j : ℕ) (f : RequestFields) (r : RequestAnswer) (target written : List ℕ)
       → collector.Requests (node j) f r (w .box) target written
       → Step i w (requested j r written) (record { head = w .head; box = w .box; log = requested j r written ∷ w .log })
   takes : (j : ℕ) (r : TakeAnswer) (after : List ℕ) → collector.Takes (node j) r (w .box) after

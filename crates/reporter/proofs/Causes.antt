@@ -1,0 +1,54 @@
+-- Number and values of an answer tell which it is.
+-- Assumes nothing.
+use mathlib.Core.Path.{_≡_, refl, ap, _∙_}
+use Rattle.section.specs.Write.{writeCause}
+use Rattle.section.specs.declared.WriteAnswer.{WriteAnswer}
+use Rattle.section.specs.declared.WriteAnswer.the-variants as write
+use Rattle.error_entry.proofs.Values.{not-0, apart, values-tell}
+use Rattle.reporter.specs.Causes.{newTold, raiseTold, writeTold, readTold, CausesTell}
+use Rattle.reporter.specs.Rules.{newCause, raiseCause, readCause}
+use Rattle.reporter.specs.declared.NewAnswer.{NewAnswer}
+use Rattle.reporter.specs.declared.NewAnswer.the-variants.{Made, IdOutOfRange}
+use Rattle.reporter.specs.declared.RaiseAnswer.{RaiseAnswer}
+use Rattle.reporter.specs.declared.RaiseAnswer.the-variants.{Raised, EntryInvalid, QueueFull}
+use Rattle.reporter.specs.declared.ReadAnswer.{ReadAnswer}
+use Rattle.reporter.specs.declared.ReadAnswer.the-variants.{Closed, Kept, Ignored, Refused}
+
+pub new-told : (a : NewAnswer) → newTold (newCause a) ≡ a
+new-told Made = refl
+new-told IdOutOfRange = refl
+
+pub raise-told : (a : RaiseAnswer) → raiseTold (raiseCause a) ≡ a
+raise-told Raised = refl
+raise-told EntryInvalid = refl
+raise-told QueueFull = refl
+
+pub write-told : (a : WriteAnswer) → writeTold (writeCause a) ≡ a
+write-told (write.Written n) = refl
+write-told (write.Refused e) = not-0 e _ _ ∙ ap write.Refused (values-tell .errors e 0)
+
+pub read-told : (a : ReadAnswer) → readTold (readCause a) ≡ a
+read-told Closed = refl
+read-told Kept = refl
+read-told Ignored = refl
+read-told (Refused e) = not-0 e _ _ ∙ ap Refused (values-tell .errors e 0)
+
+pub causes-tell : CausesTell
+causes-tell =
+    record {
+      new = apart newCause newTold new-told;
+      raise = apart raiseCause raiseTold raise-told;
+      answer = apart writeCause writeTold write-told;
+      read = apart readCause readTold read-told;
+      made = refl;
+      idOutOfRange = refl;
+      raised = refl;
+      entryInvalid = refl;
+      queueFull = refl;
+      written = λ n. refl;
+      notWritten = λ e. refl;
+      ignored = refl;
+      kept = refl;
+      closed = refl;
+      refused = λ e. refl;
+    }
