@@ -2,6 +2,7 @@ pub mod AnswerLaws
 pub mod BatchLaws
 pub mod BlockLaws
 pub mod BookLaws
+pub mod Bounds
 pub mod CallLaws
 pub mod Causes
 pub mod IdLaws
