@@ -17,8 +17,9 @@ use Rattle.powerlink.specs.Collecting.{CollectorTakes}
 use Rattle.signaling.specs.Calls as signaling
 use Rattle.signaling.specs.Calls.{node, TakeRefused, Drained, TakenTimes, NoneLost}
 use Rattle.signaling.proofs.Demand3.{demand-3}
-use Rattle.c_signaling.specs.Calls.{Site, worldOf, CRun, CDrained, over, more, CTakenTimes, start, next, CNoneLost, CDemand3}
+use Rattle.c_signaling.specs.Calls.{seen, events, Site, worldOf, seenIn, CRun, CDrained, over, more, CTakenTimes, start, next, CNoneLost, CDemand3}
 use Rattle.c_signaling.proofs.Steps.{runs}
+use Rattle.c_signaling.proofs.Words.{words}
 
 -- ---- a Take in C is one of the box
 
@@ -70,15 +71,15 @@ drains {i} (signaling.more {s} e after es c d) =
 
 -- ---- the demand
 
-kept : (i : ℕ) (w : Site) → NoneLost i (worldOf w) → CNoneLost i w
-kept i w h =
+kept : (i : ℕ) (w : Site) → seenIn i (events (w .log)) ≡ seen i (w .log) → NoneLost i (worldOf w) → CNoneLost i w
+kept i w e h =
     record {
-      opening = λ further d. h .opening further (drained d);
-      all = λ further d. h .all further (drained d);
+      opening = λ further d. let o = h .opening further (drained d) in (o .0, rw (← e) (o .1));
+      all = λ further d. rw (← e) (h .all further (drained d));
       head = h .head;
       ends = (h .ends .0, drains (h .ends .1));
       most = λ n d. h .most n (times d);
     }
 
 pub c-demand-3 : CDemand3
-c-demand-3 = record { holds = λ i w r. kept i w (demand-3 .holds i (worldOf w) (runs r)) }
+c-demand-3 = record { holds = λ i w r. kept i w (words r) (demand-3 .holds i (worldOf w) (runs r)) }

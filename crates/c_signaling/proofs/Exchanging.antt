@@ -8,7 +8,7 @@ use mathlib.Core.Option.{Option, none, some}
 use native.Mathlib.Omega.{arith}
 use lib.ListN.{length}
 use lib.Dec.{eqb, leb}
-use borrow.Author.Tests.{eqb-true}
+use borrow.Author.Tests.{eqb-true, eqb-false}
 use Rattle.types.specs.Causes.{row}
 use Rattle.types.specs.Codes.{need, pick}
 use Rattle.types.specs.Modes.{modeOf}
@@ -42,33 +42,24 @@ use Rattle.c_signaling.specs.Calls.{Raising, Call, reporterRaise, report
 use Rattle.c_signaling.specs.Exchanges as ex
 use Rattle.c_signaling.specs.Exchanges.{CQuiet, CAnswerAgain, CRequestAgain, CNoRepeat, CQuietly, CExchange, CExchanges, CFound}
 use Rattle.c_signaling.proofs.Steps.{called, the-step}
-use Rattle.c_signaling.proofs.Told.{box-row}
+use Rattle.c_signaling.proofs.Told.{unnamed-number, unasked-number, box-row}
 
 -- ---- what answers 0 is written
 
--- a code that names no state is refused
-not-0 : {X : Type 0} (fits : Bool) (b : ℕ) → 0 ≡ writeCause (need fits (write.Refused BufferTooShort) (write.Refused (InvalidNmtState b))) .number → X
-not-0 true b e = absurd (omega arith)
-not-0 false b e = absurd (omega arith)
-
-unasked-not-0 : {X : Type 0} (b : ℕ) (t : List ℕ) (p : Option Account) → 0 ≡ requestCause (unasked b t p) .number → X
-unasked-not-0 b t none e = absurd (omega arith)
-unasked-not-0 b t (some p) e = not-0 (leb minFrame (length t)) b (e ∙ same (leb minFrame (length t)))
-  where
-    same : (fits : Bool) → let a = need fits (write.Refused BufferTooShort) (write.Refused (InvalidNmtState b)) in requestCause (asRequest a) .number ≡ writeCause a .number
-    same true = refl
-    same false = refl
+-- and what does not, is refused
+not-0 : {X : Type 0} (n : ℕ) → 0 ≡ n → eqb n 0 ≡ false → X
+not-0 n e h = absurd (eqb-false n 0 h (sym e))
 
 module _ {i : ℕ} {w v : World} where
   answer-written : (m : NmtStateAnswer) (k : ℕ) (f : NmtState → Coded) (t t′ : List ℕ) (n n′ o o′ : ℕ) → WritesCoded (stated k m f) 0 t t′ n n′ o o′
       → Translated i w (answerEvents m 0 t′ n′) v → Step i w (answered (write.Written n′) t′) v
-  answer-written (state.Unknown b) k f t t′ n n′ o o′ c s = not-0 (leb k (length t)) b (c .cause)
+  answer-written (state.Unknown b) k f t t′ n n′ o o′ c s = not-0 _ (c .cause) (unnamed-number (leb k (length t)) b)
   answer-written (state.Known m) k f t t′ n n′ o o′ c s = the-step s
 
   request-written : (j : ℕ) (f : NmtState → RequestFields) (m : NmtStateAnswer) (p : Option Account) (t t′ : List ℕ) (n n′ o o′ : ℕ)
       → Told (requestCause (requestBy j f m t p)) 0 n n′ o o′
       → Translated i w (requestEvents j m 0 t′ n′) v → Step i w (requested j (requesting.Written n′) t′) v
-  request-written j f (state.Unknown b) p t t′ n n′ o o′ c s = unasked-not-0 b t p (c .cause)
+  request-written j f (state.Unknown b) p t t′ n n′ o o′ c s = not-0 _ (c .cause) (unasked-number b t p)
   request-written j f (state.Known m) p t t′ n n′ o o′ c s = the-step s
 
 answer-0 : {i s n : ℕ} {t : List ℕ} {w v : Site} → CStep i w (reporterAnswer s 0 t n) v → Step i (worldOf w) (answered (write.Written n) t) (worldOf v)

@@ -4,3 +4,4 @@ pub mod Flags
 pub mod Progress
 pub mod Steps
 pub mod Told
+pub mod Words

@@ -35,7 +35,7 @@ use Rattle.powerlink.specs.Reporting.{RaisesBy, AnswersBy, reporterReading, ans
 use Rattle.powerlink.specs.Writing.{octets, stated, WritesCoded}
 use Rattle.signaling.specs.Calls.{node, raised, answered, headRead, registered, boxRead, requested, taken, Event, Log, World, Step, raise, answer, headReads, register, boxReads, request, takes, hosts, Run, fresh, call}
 use Rattle.c_signaling.specs.Calls as c
-use Rattle.c_signaling.specs.Calls.{Raising, Call, entryOf, raiseEvents, answerEvents, requestEvents, eventsOf, events, Site, worldOf, CStep, CRun, Translated, nothing, one, CallsAreSteps}
+use Rattle.c_signaling.specs.Calls.{Raising, Call, entryOf, raiseEvents, answerEvents, requestEvents, eventsOf, events, Site, worldOf, CStep, CRun, Translated, nothing, one}
 use Rattle.c_signaling.proofs.Told.{raise-number, register-number, write-number, read-row, box-row, request-row, take-row}
 
 module _ (i : ℕ) (w : Site) where
@@ -106,6 +106,3 @@ pub runs : {i : ℕ} {w : Site} → CRun i w → Run i (worldOf w)
 runs {i} (c.fresh before head box r m f) =
     fresh before head box (rw (is-made (isCnNodeId i) (m .cause)) at (m .makes)) (f .fresh)
 runs (c.call r s) = onward (runs r) (called s)
-
-pub calls-are-steps : CallsAreSteps
-calls-are-steps = record { calls = λ i w v x s. called s; lists = λ i w r. runs r }

@@ -8,10 +8,10 @@ use mathlib.Core.Option.{Option, none, some}
 use lib.ListN.{length}
 use lib.Dec.{eqb, leb}
 use Rattle.types.specs.Causes.{row, causeOf}
-use Rattle.types.specs.Codes.{pick}
+use Rattle.types.specs.Codes.{need, pick}
 use Rattle.types.specs.declared.hal.PowerlinkError.{PowerlinkError}
-use Rattle.types.specs.declared.hal.PowerlinkError.the-variants.{BufferTooShort}
-use Rattle.section.specs.Write.{writeAnswer, writeCause}
+use Rattle.types.specs.declared.hal.PowerlinkError.the-variants.{BufferTooShort, InvalidNmtState}
+use Rattle.section.specs.Write.{minFrame, writeAnswer, writeCause}
 use Rattle.section.specs.declared.WriteAnswer.{WriteAnswer}
 use Rattle.section.specs.declared.WriteAnswer.the-variants as write
 use Rattle.error_entry.specs.Values.{errorTold}
@@ -32,6 +32,7 @@ use Rattle.collector.specs.declared.RequestFields.{RequestFields}
 use Rattle.collector.specs.declared.TakeAnswer.{TakeAnswer}
 use Rattle.collector.specs.declared.TakeAnswer.the-variants as taking
 use Rattle.c_values.specs.Answers.{lengthAfter, octetTold, valuesTold, Told}
+use Rattle.powerlink.specs.Collecting.{unasked}
 use Rattle.c_signaling.specs.Calls.{reading}
 
 -- ---- numbers alone
@@ -73,6 +74,20 @@ request-row j f t none r n n′ o o′ y = rw (y .cause)
 request-row j f t (some p) r n n′ o o′ y =
     let bs = rules.requestFrame j f (p .ea) in
     request-by (leb (length bs) (length t)) (length bs) r n n′ o o′ y
+
+-- ---- a code that names no state does not answer 0
+
+pub unnamed-number : (fits : Bool) (b : ℕ) → eqb (writeCause (need fits (write.Refused BufferTooShort) (write.Refused (InvalidNmtState b))) .number) 0 ≡ false
+unnamed-number true b = refl
+unnamed-number false b = refl
+
+unasked-by : (fits : Bool) (b : ℕ) → eqb (rules.requestCause (rules.asRequest (need fits (write.Refused BufferTooShort) (write.Refused (InvalidNmtState b)))) .number) 0 ≡ false
+unasked-by true b = refl
+unasked-by false b = refl
+
+pub unasked-number : (b : ℕ) (t : List ℕ) (p : Option rules.Account) → eqb (rules.requestCause (unasked b t p) .number) 0 ≡ false
+unasked-number b t none = refl
+unasked-number b t (some p) = unasked-by (leb minFrame (length t)) b
 
 -- ---- readings: the octet of a refusal
 

@@ -6,6 +6,7 @@ use Prim.Native.Nat.{ℕ, suc, _≤_}
 use mathlib.Core.Bool.{Bool, false}
 use mathlib.Core.Path.{_≡_}
 use mathlib.Core.List.{List, [], _∷_, _++_}
+use lib.ListN.{take}
 use lib.Dec.{eqb}
 use Rattle.types.specs.Causes.{Cause, row}
 use Rattle.types.specs.Codes.{pick}
@@ -27,7 +28,7 @@ use Rattle.collector.specs.Causes as box
 use Rattle.powerlink.specs.Collecting.{CollectorMakes, CollectorRegisters, CollectorReads, CollectorFlags, CollectorRequests, CollectorTakes, requestFields}
 use Rattle.powerlink.specs.Given.{entryWith}
 use Rattle.powerlink.specs.Reporting.{ReporterMakes, ReporterRaises, ReporterAnswers, ReporterReads, answerFields}
-use Rattle.signaling.specs.Calls.{Origin, Event, raised, answered, headRead, registered, boxRead, requested, taken, hosted, Log, tally, accepted, ruled, unbooked, booked, World, Delivered, Tells, Step, Run}
+use Rattle.signaling.specs.Calls.{Origin, Event, raised, answered, headRead, registered, boxRead, requested, taken, hosted, Log, tally, accepted, handedOut, answersSent, requestsSent, ruled, unbooked, World, Delivered, Tells, Step, Run}
 
 -- ---- the log of what a host sees
 
@@ -54,10 +55,79 @@ pub data Call : Type 0 where
   -- no call: a frame that the box's host sends
   hostSends : List ℕ → Call
 
--- ---- which call of `signaling` it was, by the numbers: none where a code names nothing
-
 abbrev pub entryOf : Raising → ErrorEntryMode → ErrorEntry
 entryOf g m = entryWith (g .status) (g .queue) m (g .profile) (g .code) (g .stamp) (g .information)
+
+-- ---- 01's words of it, by the numbers alone: what answered 0 was not refused
+
+pub record Seen : Type 0 where
+  -- "the entries of the Raises not refused, as given and in order"
+  pub accepted : List ErrorEntry
+  -- "what the Takes for the head's ID handed out, in order"
+  pub handedOut : List ErrorEntry
+  -- "An Answer or request not refused sends a copy of the bytes it wrote, as many as the returned length"
+  pub answersSent : List (List ℕ)
+  pub requestsSent : List (List ℕ)
+
+abbrev pub unseen : Seen
+unseen = record { accepted = []; handedOut = []; answersSent = []; requestsSent = [] }
+
+-- 0: not refused
+abbrev pub ifZero : {A : Type 0} → ℕ → List A → List A → List A
+ifZero r new old = pick (eqb r 0) new old
+
+-- the entry of a Raise whose mode is one
+abbrev pub entriesOf : Raising → ErrorEntryModeAnswer → List ErrorEntry
+entriesOf g (mode.Unknown b) = []
+entriesOf g (mode.Known m) = entryOf g m ∷ []
+
+-- what a call adds, for the head with ID i
+abbrev pub seenWith : ℕ → Call → Seen → Seen
+seenWith i (reporterRaise g r) s =
+    record {
+      accepted = ifZero r (s .accepted ++ entriesOf g (modeOf (g .mode))) (s .accepted);
+      handedOut = s .handedOut;
+      answersSent = s .answersSent;
+      requestsSent = s .requestsSent;
+    }
+seenWith i (reporterAnswer state r t n) s =
+    record {
+      accepted = s .accepted;
+      handedOut = s .handedOut;
+      answersSent = ifZero r (s .answersSent ++ (take n t ∷ [])) (s .answersSent);
+      requestsSent = s .requestsSent;
+    }
+seenWith i (reporterRead from bs r k o) s = s
+seenWith i (collectorRegister j r) s = s
+seenWith i (collectorRead from bs r k o) s = s
+seenWith i (collectorRequest j state r t n) s =
+    record {
+      accepted = s .accepted;
+      handedOut = s .handedOut;
+      answersSent = s .answersSent;
+      requestsSent = ifZero r (s .requestsSent ++ (take n t ∷ [])) (s .requestsSent);
+    }
+seenWith i (collectorTake j r vs) s =
+    record {
+      accepted = s .accepted;
+      handedOut = pick (eqb j i) (ifZero r (s .handedOut ++ (entryTold vs ∷ [])) (s .handedOut)) (s .handedOut);
+      answersSent = s .answersSent;
+      requestsSent = s .requestsSent;
+    }
+seenWith i (hostSends bs) s =
+    record {
+      accepted = s .accepted;
+      handedOut = s .handedOut;
+      answersSent = s .answersSent;
+      requestsSent = s .requestsSent ++ (bs ∷ []);
+    }
+
+-- the newest call first
+abbrev pub seen : ℕ → List Call → Seen
+seen i [] = unseen
+seen i (x ∷ l) = seenWith i x (seen i l)
+
+-- ---- which call of `signaling` it was, by the numbers: none where a code names nothing
 
 -- 0 is raised, 8 an invalid entry, 9 a full queue
 abbrev pub raiseEvents : Raising → ErrorEntryModeAnswer → ℕ → Log
@@ -87,7 +157,7 @@ eventsOf (collectorRequest j s r t n) = requestEvents j (stateOf s) r t n
 eventsOf (collectorTake j r vs) = taken j (box.takeTold (row r vs)) ∷ []
 eventsOf (hostSends bs) = hosted bs ∷ []
 
--- the newest first; 01's words of it (`accepted`, `handedOut`, `answersSent`, `requestsSent`, `ruled`, `unbooked`) are those of these events
+-- the newest first; the open batch and the waiting entries are what the rules make of these (`ruled`, `unbooked`)
 abbrev pub events : List Call → Log
 events [] = []
 events (x ∷ l) = eventsOf x ++ events l
@@ -142,9 +212,15 @@ pub data Translated (i : ℕ) (w : World) : Log → World → Type 0 where
   nothing : Translated i w [] w
   one : {x : Event} {v : World} → Step i w x v → Translated i w (x ∷ []) v
 
+abbrev pub seenIn : ℕ → Log → Seen
+seenIn i l =
+    record { accepted = accepted i l; handedOut = handedOut i l; answersSent = answersSent i l; requestsSent = requestsSent i l }
+
 pub record CallsAreSteps : Type 0 where
   pub calls : (i : ℕ) (w v : Site) (x : Call) → CStep i w x v → Translated i (worldOf w) (eventsOf x) (worldOf v)
   pub lists : (i : ℕ) (w : Site) → CRun i w → Run i (worldOf w)
+  -- and 01's words of the one are those of the other
+  pub words : (i : ℕ) (w : Site) → CRun i w → seenIn i (events (w .log)) ≡ seen i (w .log)
 
 -- ---- what holds after a list of calls
 
@@ -162,9 +238,9 @@ pub data CTakenTimes (i : ℕ) : ℕ → List ℕ → Type 0 where
 -- as `NoneLost` of `signaling`
 pub record CNoneLost (i : ℕ) (w : Site) : Type 0 where
   pub opening : (further : List ErrorEntry) → CDrained i (w .box) further
-      → (rest : List ErrorEntry) × (booked i (events (w .log)) further ++ rest ≡ accepted i (events (w .log)))
+      → (rest : List ErrorEntry) × (seen i (w .log) .handedOut ++ further ++ rest ≡ seen i (w .log) .accepted)
   pub all : (further : List ErrorEntry) → CDrained i (w .box) further
-      → booked i (events (w .log)) further ++ (unbooked i (events (w .log)) ++ ruled i (events (w .log)) .waiting) ≡ accepted i (events (w .log))
+      → seen i (w .log) .handedOut ++ further ++ (unbooked i (events (w .log)) ++ ruled i (events (w .log)) .waiting) ≡ seen i (w .log) .accepted
   pub head : headOf (w .head) ≡ ruled i (events (w .log))
   pub ends : (further : List ErrorEntry) × CDrained i (w .box) further
   pub most : (n : ℕ) → CTakenTimes i n (w .box) → n ≤ 64
