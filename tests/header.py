@@ -105,7 +105,7 @@ VALUES = [
     ('c_values/specs/Values.antt', r'soaNumbers f p', 'SOA_'),
     ('c_values/specs/Values.antt', r'asndNumbers f p', 'ASND_'),
     ('c_values/specs/Values.antt', r'statusNumbers f', 'STATUS_'),
-    ('c_values/specs/Values.antt', r'entryNumbers e', 'ENTRY_'),
+    ('error_entry/specs/Values.antt', r'entryNumbers e', 'ENTRY_'),
     ('powerlink/specs/Reading.antt', r'plAfter \(pl.Read h\) before', 'PL_'),
 ]
 SHARED = ['MESSAGE_TYPE', 'DESTINATION', 'SOURCE', 'PAYLOAD_START', 'PAYLOAD_LEN']
@@ -166,10 +166,9 @@ def lengths():
 
 
 def outcomes():
-    for file, function in [('Reporting', 'readOutcome'), ('Collecting', 'bookOutcome')]:
-        for variant, value in equations(text_of('powerlink', 'specs', f'{file}.antt'), function):
-            if value.isdigit():
-                yield snake(variant), int(value)
+    for crate in ['reporter', 'collector']:
+        for variant, value in re.findall(r'^readCause (\w+) = row 0 \((\d+) ∷ \[\]\)$', text_of(crate, 'specs/Rules.antt'), re.M):
+            yield snake(variant), int(value)
 
 
 # ---- the functions of the sources
