@@ -2,7 +2,7 @@
 -- Assumes nothing.
 use Prim.Native.Nat.{ℕ}
 use mathlib.Core.Bool.{Bool, true, false}
-use mathlib.Core.Path.{_≡_, refl, sym, ap, _∙_}
+use mathlib.Core.Path.{_≡_, refl, ap, _∙_}
 use mathlib.Core.List.{List, [], _∷_, _++_}
 use native.Mathlib.Omega.{arith}
 use lib.ListN.{length, getD}
@@ -12,7 +12,6 @@ use Rattle.types.specs.Codes.{pick}
 use Rattle.types.specs.Modes.{modeCode, modeOf}
 use Rattle.types.specs.PollFlags.{priorityCode, priorityIn}
 use Rattle.types.specs.States.{stateCode, stateOf}
-use Rattle.types.specs.declared.error_mode.ErrorEntryMode.{ErrorEntryMode}
 use Rattle.types.specs.declared.error_mode.ErrorEntryModeAnswer.the-variants as mode
 use Rattle.types.specs.declared.hal.PowerlinkError.the-variants.{BufferTooShort}
 use Rattle.types.specs.declared.poll_flags.PRFlag.{PRFlag}
@@ -27,16 +26,13 @@ use Rattle.error_entry.specs.declared.ErrorEntry.{ErrorEntry}
 use Rattle.status_response.specs.BitField.{fieldOf, fieldBytes}
 use Rattle.status_response.specs.declared.bit_field.StaticErrorBitField.{StaticErrorBitField}
 use Rattle.reporter.specs.Calls as reporter
-use Rattle.reporter.specs.Causes.{raiseTold, writeTold, readTold}
 use Rattle.reporter.specs.Layout.{headOf}
-use Rattle.reporter.specs.Rules.{Head, newAnswer, newCause, raiseAnswer, raiseCause, opened, answerFrame, readCause}
+use Rattle.reporter.specs.Rules.{newCause, raiseCause, opened, answerFrame, readCause}
 use Rattle.reporter.specs.declared.AnswerFields.{AnswerFields}
 use Rattle.reporter.specs.declared.NewAnswer.{NewAnswer}
-use Rattle.reporter.specs.declared.NewAnswer.the-variants.{Made}
 use Rattle.reporter.specs.declared.RaiseAnswer.{RaiseAnswer}
 use Rattle.reporter.specs.declared.ReadAnswer.{ReadAnswer}
 use Rattle.collector.specs.Calls as collector
-use Rattle.collector.specs.Causes as box
 use Rattle.collector.specs.Layout.{accountOf}
 use Rattle.collector.specs.Rules as rules
 use Rattle.collector.specs.declared.ReadAnswer.{ReadAnswer as BoxReadAnswer}
@@ -44,13 +40,13 @@ use Rattle.collector.specs.declared.RegisterAnswer.{RegisterAnswer}
 use Rattle.collector.specs.declared.RequestAnswer.{RequestAnswer}
 use Rattle.collector.specs.declared.RequestFields.{RequestFields}
 use Rattle.collector.specs.declared.TakeAnswer.{TakeAnswer}
-use Rattle.c_values.specs.Answers.{lengthAfter, octetAfter, octetTold, valuesTold, Told}
-use Rattle.powerlink.specs.Collecting.{requestFields}
-use Rattle.powerlink.specs.Reporting.{answerFields, answerWriting, ReporterAnswers}
+use Rattle.c_values.specs.Answers.{lengthAfter, octetAfter, octetTold, valuesTold, RowTold}
+use Rattle.powerlink.specs.Reporting.{answerFields, answerWriting}
 use Rattle.powerlink.specs.Writing.{octets}
 use Rattle.signaling.specs.Calls as signaling
 use Rattle.signaling.specs.Calls.{Origin, Event, raised, answered, headRead, registered, boxRead, requested, taken, World, Step, Run}
-use Rattle.c_signaling.specs.Calls.{Raising, Call, reporterRaise, reporterAnswer, reporterRead, collectorRegister, collectorRead, collectorRequest, collectorTake, hostSends, reading, events, Site, worldOf, CStep, raises, answers, headReads, registers, boxReads, requests, takes, hosts, CRun, fresh, call, StepsAreCalls}
+use Rattle.c_signaling.specs.Calls.{Site, worldOf, CStep, raises, answers, headReads, registers, boxReads, requests, takes, hosts, CRun, fresh, call, StepsAreCalls}
+use Rattle.c_signaling.specs.Log.{Raising, Call, reporterRaise, reporterAnswer, reporterRead, collectorRegister, collectorRead, collectorRequest, collectorTake, hostSends, events}
 use Rattle.c_signaling.proofs.Told.{raise-number, register-number, write-number, read-row, box-row, request-row, take-row}
 
 -- ---- fields as C gives them
@@ -102,7 +98,7 @@ record Comes (i : ℕ) (s : Site) (v : World) : Type 0 where
 abbrev value : Cause → ℕ
 value c = pick (eqb (c .number) 0) (getD (c .returned) 0 0) 0
 
-row-told : (c d : Cause) → c ≡ d → Told d (c .number) 0 (value c) 0 (octetTold c 0)
+row-told : (c d : Cause) → c ≡ d → RowTold d (c .number) 0 (value c) 0 (octetTold c 0)
 row-told c d e =
     record { cause = ap (λ (x : Cause). x .number) e; value = ap value e; octet = ap (λ (x : Cause). octetTold x 0) e }
 
@@ -224,7 +220,7 @@ module _ (i : ℕ) (s : Site) where
       let q : stateOf (stateCode k) ≡ state.Known k = codes-read-back .states k in
       let a = c .answer in
       let p = collectorRequest j (stateCode k) (y .number) t′ (value y) in
-      let told : Told (rules.requestCause (rules.requestAnswer j f t (accountOf (s .box) j))) (y .number) 0 (value y) 0 (octetTold y 0) =
+      let told : RowTold (rules.requestCause (rules.requestAnswer j f t (accountOf (s .box) j))) (y .number) 0 (value y) 0 (octetTold y 0) =
       row-told y _ (ap rules.requestCause a) in
       record {
         made = p;

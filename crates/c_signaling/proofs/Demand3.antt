@@ -1,8 +1,8 @@
 -- No error lost, none twice: the calls of a host in C.
 -- Assumes nothing.
 use Prim.Native.Nat.{ℕ}
-use mathlib.Core.Path.{_≡_, refl, sym, ap, _∙_}
-use mathlib.Core.List.{List, [], _∷_}
+use mathlib.Core.Path.{_≡_, refl, ap, _∙_}
+use mathlib.Core.List.{List, []}
 use native.Mathlib.Omega.{arith}
 use Rattle.error_entry.specs.Values.{entryNumbers, entryTold}
 use Rattle.error_entry.specs.declared.ErrorEntry.{ErrorEntry}
@@ -17,7 +17,8 @@ use Rattle.powerlink.specs.Collecting.{CollectorTakes}
 use Rattle.signaling.specs.Calls as signaling
 use Rattle.signaling.specs.Calls.{node, TakeRefused, Drained, TakenTimes, NoneLost}
 use Rattle.signaling.proofs.Demand3.{demand-3}
-use Rattle.c_signaling.specs.Calls.{seen, events, Site, worldOf, seenIn, CRun, CDrained, over, more, CTakenTimes, start, next, CNoneLost, CDemand3}
+use Rattle.c_signaling.specs.Calls.{Site, worldOf, seenIn, CDrained, over, more, CTakenTimes, start, next, CNoneLost, CDemand3}
+use Rattle.c_signaling.specs.Log.{seen, events}
 use Rattle.c_signaling.proofs.Steps.{runs}
 use Rattle.c_signaling.proofs.Words.{words}
 

@@ -4,43 +4,40 @@ use Prim.Native.Nat.{ℕ}
 use mathlib.Core.Bool.{Bool, true, false}
 use mathlib.Core.Path.{_≡_, refl, sym, ap, _∙_}
 use mathlib.Core.List.{List, [], _∷_}
-use mathlib.Core.Option.{Option, none, some}
-use native.Mathlib.Omega.{arith}
+use mathlib.Core.Option.{Option}
 use lib.ListN.{length}
 use lib.Dec.{eqb, leb}
 use borrow.Author.Tests.{eqb-true, eqb-false}
 use Rattle.types.specs.Causes.{row}
-use Rattle.types.specs.Codes.{need, pick}
+use Rattle.types.specs.Codes.{pick}
 use Rattle.types.specs.Modes.{modeOf}
 use Rattle.types.specs.States.{stateOf}
 use Rattle.types.specs.declared.error_mode.ErrorEntryModeAnswer.{ErrorEntryModeAnswer}
 use Rattle.types.specs.declared.error_mode.ErrorEntryModeAnswer.the-variants as mode
-use Rattle.types.specs.declared.hal.PowerlinkError.the-variants.{BufferTooShort, InvalidNmtState}
 use Rattle.types.specs.declared.states.NmtState.{NmtState}
 use Rattle.types.specs.declared.states.NmtStateAnswer.{NmtStateAnswer}
 use Rattle.types.specs.declared.states.NmtStateAnswer.the-variants as state
-use Rattle.section.specs.Write.{minFrame, writeCause}
 use Rattle.section.specs.declared.WriteAnswer.the-variants as write
 use Rattle.error_entry.specs.declared.ErrorEntry.{ErrorEntry}
-use Rattle.reporter.specs.Causes.{raiseTold}
 use Rattle.reporter.specs.declared.RaiseAnswer.the-variants.{EntryInvalid, QueueFull}
 use Rattle.collector.specs.Causes as box
 use Rattle.collector.specs.Layout.{accountOf, boxOf}
-use Rattle.collector.specs.Rules.{Account, asRequest, requestCause, readAnswer, readCause}
+use Rattle.collector.specs.Rules.{Account, requestCause, readAnswer, readCause}
 use Rattle.collector.specs.declared.ReadAnswer.{ReadAnswer}
 use Rattle.collector.specs.declared.ReadAnswer.the-variants.{BookFull}
 use Rattle.collector.specs.declared.RequestAnswer.the-variants as requesting
 use Rattle.collector.specs.declared.RequestFields.{RequestFields}
-use Rattle.c_values.specs.Answers.{Told}
-use Rattle.powerlink.specs.Collecting.{unasked, requestBy, requestFields}
+use Rattle.c_values.specs.Answers.{RowTold}
+use Rattle.powerlink.specs.Collecting.{requestBy, requestFields}
 use Rattle.powerlink.specs.Writing.{Coded, stated, WritesCoded}
 use Rattle.signaling.specs.Calls.{Origin, sent, foreign, Event, raised, answered, requested, Log, World, Step}
 use Rattle.signaling.specs.Exchanges.{Quiet, AnswerAgain, RequestAgain, NoRepeat, Quietly, still, next, again, Exchange, Exchanges, done, more, Found}
 use Rattle.signaling.proofs.Facts.{either}
 use Rattle.c_signaling.specs.Calls as calls
-use Rattle.c_signaling.specs.Calls.{Raising, Call, reporterRaise, reporterAnswer, reporterRead, collectorRegister, collectorRead, collectorRequest, collectorTake, hostSends, entryOf, raiseEvents, answerEvents, requestEvents, reading, eventsOf, Site, worldOf, CStep, Translated, nothing, one}
+use Rattle.c_signaling.specs.Calls.{Site, worldOf, CStep, Translated, nothing, one}
 use Rattle.c_signaling.specs.Exchanges as ex
 use Rattle.c_signaling.specs.Exchanges.{CQuiet, CAnswerAgain, CRequestAgain, CNoRepeat, CQuietly, CExchange, CExchanges, CFound}
+use Rattle.c_signaling.specs.Log.{Raising, Call, reporterRaise, reporterAnswer, reporterRead, collectorRegister, collectorRead, collectorRequest, collectorTake, hostSends, entryOf, raiseEvents, answerEvents, requestEvents, reading, eventsOf}
 use Rattle.c_signaling.proofs.Steps.{called, the-step}
 use Rattle.c_signaling.proofs.Told.{unnamed-number, unasked-number, box-row}
 
@@ -57,7 +54,7 @@ module _ {i : ℕ} {w v : World} where
   answer-written (state.Known m) k f t t′ n n′ o o′ c s = the-step s
 
   request-written : (j : ℕ) (f : NmtState → RequestFields) (m : NmtStateAnswer) (p : Option Account) (t t′ : List ℕ) (n n′ o o′ : ℕ)
-      → Told (requestCause (requestBy j f m t p)) 0 n n′ o o′
+      → RowTold (requestCause (requestBy j f m t p)) 0 n n′ o o′
       → Translated i w (requestEvents j m 0 t′ n′) v → Step i w (requested j (requesting.Written n′) t′) v
   request-written j f (state.Unknown b) p t t′ n n′ o o′ c s = not-0 _ (c .cause) (unasked-number b t p)
   request-written j f (state.Known m) p t t′ n n′ o o′ c s = the-step s

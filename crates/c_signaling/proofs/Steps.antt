@@ -2,9 +2,8 @@
 -- Assumes nothing.
 use Prim.Native.Nat.{ℕ}
 use mathlib.Core.Bool.{Bool, true, false}
-use mathlib.Core.Path.{_≡_, refl, sym, ap, _∙_}
+use mathlib.Core.Path.{_≡_, refl}
 use mathlib.Core.List.{List, [], _∷_, _++_}
-use mathlib.Core.Option.{Option, none, some}
 use native.Mathlib.Omega.{arith}
 use lib.ListN.{length}
 use Rattle.types.specs.Causes.{row}
@@ -17,25 +16,24 @@ use Rattle.types.specs.declared.error_mode.ErrorEntryModeAnswer.the-variants as
 use Rattle.types.specs.declared.states.NmtState.{NmtState}
 use Rattle.types.specs.declared.states.NmtStateAnswer.{NmtStateAnswer}
 use Rattle.types.specs.declared.states.NmtStateAnswer.the-variants as state
-use Rattle.section.specs.Write.{writeAnswer, writeCause}
-use Rattle.reporter.specs.Calls as reporter
+use Rattle.section.specs.Write.{writeAnswer}
 use Rattle.reporter.specs.Causes.{raiseTold, writeTold}
 use Rattle.reporter.specs.Layout.{headOf}
-use Rattle.reporter.specs.Rules.{newAnswer, newCause, raiseAnswer, opened, answerFrame, answerLength}
+use Rattle.reporter.specs.Rules.{newCause, raiseAnswer, opened, answerFrame, answerLength}
 use Rattle.reporter.specs.declared.AnswerFields.{AnswerFields}
-use Rattle.reporter.specs.declared.NewAnswer.{NewAnswer}
 use Rattle.reporter.specs.declared.NewAnswer.the-variants.{Made, IdOutOfRange}
 use Rattle.collector.specs.Causes as box
 use Rattle.collector.specs.Layout.{accountOf, boxOf}
-use Rattle.collector.specs.Rules.{Account, registerAnswer, readAnswer, requestAnswer, requestCause, takeAnswer}
+use Rattle.collector.specs.Rules.{registerAnswer, readAnswer, requestAnswer, requestCause, takeAnswer}
 use Rattle.collector.specs.declared.RequestFields.{RequestFields}
-use Rattle.c_values.specs.Answers.{Told}
+use Rattle.c_values.specs.Answers.{RowTold}
 use Rattle.powerlink.specs.Collecting.{requestBy, RequestsBy, requestFields}
 use Rattle.powerlink.specs.Reporting.{RaisesBy, AnswersBy, reporterReading, answerFields}
 use Rattle.powerlink.specs.Writing.{octets, stated, WritesCoded}
-use Rattle.signaling.specs.Calls.{node, raised, answered, headRead, registered, boxRead, requested, taken, Event, Log, World, Step, raise, answer, headReads, register, boxReads, request, takes, hosts, Run, fresh, call}
+use Rattle.signaling.specs.Calls.{Event, Log, World, Step, raise, answer, headReads, register, boxReads, request, takes, hosts, Run, fresh, call}
 use Rattle.c_signaling.specs.Calls as c
-use Rattle.c_signaling.specs.Calls.{Raising, Call, entryOf, raiseEvents, answerEvents, requestEvents, eventsOf, events, Site, worldOf, CStep, CRun, Translated, nothing, one}
+use Rattle.c_signaling.specs.Calls.{Site, worldOf, CStep, CRun, Translated, nothing, one}
+use Rattle.c_signaling.specs.Log.{Raising, Call, entryOf, raiseEvents, answerEvents, requestEvents, eventsOf, events}
 use Rattle.c_signaling.proofs.Told.{raise-number, register-number, write-number, read-row, box-row, request-row, take-row}
 
 module _ (i : ℕ) (w : Site) where
@@ -58,7 +56,7 @@ module _ (i : ℕ) (w : Site) where
       rw e (one (answer (f k) (writeAnswer bs t) after t t′ d))
 
   request-call : (j : ℕ) (f : NmtState → RequestFields) (m : NmtStateAnswer) (r : ℕ) (t t′ : List ℕ) (n n′ o o′ : ℕ)
-      → Told (requestCause (requestBy j f m t (accountOf (w .box) j))) r n n′ o o′
+      → RowTold (requestCause (requestBy j f m t (accountOf (w .box) j))) r n n′ o o′
       → RequestsBy j f m (w .box) t t′
       → Translated i (worldOf w) (requestEvents j m r t′ n′) (record { head = w .head; box = w .box; log = requestEvents j m r t′ n′ ++ events (w .log) })
   request-call j f (state.Unknown b) r t t′ n n′ o o′ c d = nothing

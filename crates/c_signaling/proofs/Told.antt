@@ -12,7 +12,6 @@ use Rattle.types.specs.Codes.{need, pick}
 use Rattle.types.specs.declared.hal.PowerlinkError.{PowerlinkError}
 use Rattle.types.specs.declared.hal.PowerlinkError.the-variants.{BufferTooShort, InvalidNmtState}
 use Rattle.section.specs.Write.{minFrame, writeAnswer, writeCause}
-use Rattle.section.specs.declared.WriteAnswer.{WriteAnswer}
 use Rattle.section.specs.declared.WriteAnswer.the-variants as write
 use Rattle.error_entry.specs.Values.{errorTold}
 use Rattle.error_entry.proofs.Values.{not-0, below-8, values-tell}
@@ -31,9 +30,9 @@ use Rattle.collector.specs.declared.RegisterAnswer.the-variants.{Registered, Id
 use Rattle.collector.specs.declared.RequestFields.{RequestFields}
 use Rattle.collector.specs.declared.TakeAnswer.{TakeAnswer}
 use Rattle.collector.specs.declared.TakeAnswer.the-variants as taking
-use Rattle.c_values.specs.Answers.{lengthAfter, octetTold, valuesTold, Told}
+use Rattle.c_values.specs.Answers.{lengthAfter, octetTold, valuesTold, RowTold}
 use Rattle.powerlink.specs.Collecting.{unasked}
-use Rattle.c_signaling.specs.Calls.{reading}
+use Rattle.c_signaling.specs.Log.{reading}
 
 -- ---- numbers alone
 
@@ -63,12 +62,12 @@ write-number bs t n = written-by (leb (length bs) (length t)) (length bs) n
 -- a request's too
 request-by : (fits : Bool) (m r n n′ o o′ : ℕ)
     → let a = rules.asRequest (pick fits (write.Written m) (write.Refused BufferTooShort)) in
-    Told (rules.requestCause a) r n n′ o o′ → box.requestTold (row r (n′ ∷ [])) ≡ a
+    RowTold (rules.requestCause a) r n n′ o o′ → box.requestTold (row r (n′ ∷ [])) ≡ a
 request-by true m r n n′ o o′ t = rw (t .cause, t .value)
 request-by false m r n n′ o o′ t = rw (t .cause)
 
 pub request-row : (j : ℕ) (f : RequestFields) (t : List ℕ) (p : Option rules.Account) (r n n′ o o′ : ℕ)
-    → Told (rules.requestCause (rules.requestAnswer j f t p)) r n n′ o o′ → box.requestTold (row r (n′ ∷ [])) ≡ rules.requestAnswer j f t p
+    → RowTold (rules.requestCause (rules.requestAnswer j f t p)) r n n′ o o′ → box.requestTold (row r (n′ ∷ [])) ≡ rules.requestAnswer j f t p
 unfolding writeAnswer
 request-row j f t none r n n′ o o′ y = rw (y .cause)
 request-row j f t (some p) r n n′ o o′ y =
@@ -94,13 +93,13 @@ unasked-number b t (some p) = unasked-by (leb minFrame (length t)) b
 octet-back : (e : PowerlinkError) (k o : ℕ) → errorTold (causeOf e .number) (pick (eqb (causeOf e .number) 0) k (octetTold (causeOf e) o)) ≡ e
 octet-back e k o = ap (errorTold (causeOf e .number)) (not-0 e _ _ ∙ not-0 e _ _) ∙ values-tell .errors e o
 
-pub read-row : (a : ReadAnswer) (r k k′ o o′ : ℕ) → Told (readCause a) r k k′ o o′ → readTold (reading r k′ o′) ≡ a
+pub read-row : (a : ReadAnswer) (r k k′ o o′ : ℕ) → RowTold (readCause a) r k k′ o o′ → readTold (reading r k′ o′) ≡ a
 read-row Closed r k k′ o o′ t = rw (t .cause, t .value)
 read-row Kept r k k′ o o′ t = rw (t .cause, t .value)
 read-row Ignored r k k′ o o′ t = rw (t .cause, t .value)
 read-row (Refused e) r k k′ o o′ t = rw (t .cause, t .octet) (not-0 e _ _ ∙ ap Refused (octet-back e k′ o))
 
-pub box-row : (a : BoxReadAnswer) (r k k′ o o′ : ℕ) → Told (rules.readCause a) r k k′ o o′ → box.readTold (reading r k′ o′) ≡ a
+pub box-row : (a : BoxReadAnswer) (r k k′ o o′ : ℕ) → RowTold (rules.readCause a) r k k′ o o′ → box.readTold (reading r k′ o′) ≡ a
 box-row reads.Booked r k k′ o o′ t = rw (t .cause, t .value)
 box-row reads.Known r k k′ o o′ t = rw (t .cause, t .value)
 box-row reads.NotStatusResponse r k k′ o o′ t = rw (t .cause)

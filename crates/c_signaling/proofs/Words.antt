@@ -32,7 +32,8 @@ use Rattle.powerlink.specs.Reporting.{RaisesBy}
 use Rattle.powerlink.specs.Writing.{Coded, stated, codedAnswer}
 use Rattle.signaling.specs.Calls.{accepted, handedOut, answersSent, requestsSent, ifTaken, ifAnswered, ifRequested, Log}
 use Rattle.c_signaling.specs.Calls as c
-use Rattle.c_signaling.specs.Calls.{Raising, Call, Seen, seenWith, seen, ifZero, entriesOf, entryOf, raiseEvents, answerEvents, requestEvents, eventsOf, events, Site, CStep, CRun, seenIn, CallsAreSteps}
+use Rattle.c_signaling.specs.Calls.{Site, CStep, CRun, seenIn, CallsAreSteps}
+use Rattle.c_signaling.specs.Log.{Raising, Call, Seen, seenWith, seen, ifZero, entriesOf, entryOf, raiseEvents, answerEvents, requestEvents, eventsOf, events}
 use Rattle.c_signaling.proofs.Steps.{called, runs}
 use Rattle.c_signaling.proofs.Told.{unnamed-number, unasked-number}
 

@@ -9,7 +9,8 @@ use Rattle.reporter.specs.Rules.{eaTold}
 use Rattle.reporter.specs.declared.acknowledge.Heard.the-variants as heard
 use Rattle.signaling.specs.Calls.{sent, foreign, answersSent, requestsSent}
 use Rattle.signaling.specs.Exchanges.{pending, Room, IsRegistered}
-use Rattle.c_signaling.specs.Calls.{Call, reporterRaise, reporterAnswer, reporterRead, collectorRegister, collectorRead, collectorRequest, collectorTake, hostSends, events, Site, worldOf, CStep, CRun}
+use Rattle.c_signaling.specs.Calls.{Site, worldOf, CStep, CRun}
+use Rattle.c_signaling.specs.Log.{Call, reporterRaise, reporterAnswer, reporterRead, collectorRegister, collectorRead, collectorRequest, collectorTake, hostSends, events}
 
 -- "nothing raised meanwhile": no Raise answers 0. "No answer or request of theirs read outside an exchange": the box reads no answer of this
 -- head. All else may be called.

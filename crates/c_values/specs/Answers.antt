@@ -48,7 +48,7 @@ abbrev pub octetTold : Cause → ℕ → ℕ
 octetTold c before = pick (eqb (c .number) 0) before (getD (c .returned) 0 before)
 
 -- r is the number, k′ the value that is told where k stood, and o′ the octet that is told where o stood
-pub record Told (c : Cause) (r k k′ o o′ : ℕ) : Type 0 where
+pub record RowTold (c : Cause) (r k k′ o o′ : ℕ) : Type 0 where
   pub cause : r ≡ c .number
   pub value : k′ ≡ pick (eqb (c .number) 0) (getD (c .returned) 0 k) k
   pub octet : o′ ≡ octetTold c o

@@ -1,6 +1,6 @@
 -- The bounds of a box.
 -- Assumes nothing.
-use Prim.Native.Nat.{ℕ, _+_, _-_, _≤_, _<_}
+use Prim.Native.Nat.{ℕ, _+_, _≤_, _<_}
 use mathlib.Core.Bool.{Bool, true, false, _&&_}
 use mathlib.Core.Path.{_≡_, refl, sym, ap, _∙_}
 use mathlib.Core.List.{List, [], _∷_}
@@ -9,11 +9,9 @@ use native.Mathlib.Omega.{arith}
 use lib.ListN.{length}
 use lib.Dec.{eqb, leb, ltb}
 use borrow.Author.Tests.{eqb-true, leb-true, ltb-true}
-use Rattle.types.specs.Codes.{need, pick}
-use Rattle.types.specs.Nodes.{isCnNodeId}
-use Rattle.types.specs.declared.NodeId.{NodeId}
+use Rattle.types.specs.Codes.{need}
 use Rattle.error_entry.specs.declared.ErrorEntry.{ErrorEntry}
-use Rattle.collector.specs.Bounds.{BoxRun, fresh, registers, reads, takes, isIn, EachOnce, OfHeads, Ids, BoxBounds}
+use Rattle.collector.specs.Bounds.{BoxRun, fresh, registers, reads, takes, isIn, EachOnce, OfHeads, BoxBounds}
 use Rattle.collector.specs.Layout.{boxOf}
 use Rattle.collector.specs.Rules.{Account, Box, Same, withAccount, isRegistered, registerVacant, registerAnswer, afterRegister, Said, accountAnswer, responseAnswer, readAnswer, responseIn, statusIn, afterBooking, afterResponse, takeAnswer, afterTake}
 use Rattle.collector.specs.declared.ReadAnswer.{ReadAnswer}

@@ -22,12 +22,12 @@ register-told IdRegistered = refl
 register-told Full = refl
 
 pub read-told : (a : ReadAnswer) → readTold (readCause a) ≡ a
-read-told Booked = refl
-read-told Known = refl
+read-told Booked = cc
+read-told Known = cc
 read-told (Refused e) = not-0 e _ _ ∙ below-8 e _ _ ∙ ap Refused (values-tell .errors e 0)
-read-told NotStatusResponse = refl
-read-told NotRegistered = refl
-read-told BookFull = refl
+read-told NotStatusResponse = cc
+read-told NotRegistered = cc
+read-told BookFull = cc
 
 pub flags-told : (a : FlagsAnswer) → flagsTold (flagsCause a) ≡ a
 flags-told (flagging.Flags f) = rw (flag-told (f .ea), flag-told (f .er))

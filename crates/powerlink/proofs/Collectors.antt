@@ -7,7 +7,6 @@ use mathlib.Core.List.{List}
 use mathlib.Core.Option.{Option, none, some}
 use lib.ListN.{length, getD}
 use lib.Dec.{eqb, leb}
-use Rattle.types.specs.Causes.{Cause}
 use Rattle.types.specs.Codes.{pick}
 use Rattle.types.specs.States.{stateOf}
 use Rattle.types.specs.declared.hal.PowerlinkError.the-variants.{BufferTooShort, InvalidNmtState}
@@ -18,14 +17,14 @@ use Rattle.section.specs.declared.WriteAnswer.{WriteAnswer}
 use Rattle.section.specs.declared.WriteAnswer.the-variants as write
 use Rattle.collector.specs.Calls.{Registers, Reads, Flags, Requests, Takes}
 use Rattle.collector.specs.Layout.{accountOf}
-use Rattle.collector.specs.Rules.{Account, isRegistered, registerCause, readCause, flagsCause, requestFrame, asRequest, requestWritten, requestAnswer, requestCause, takeCause}
+use Rattle.collector.specs.Rules.{Account, isRegistered, registerCause, readCause, flagsCause, requestFrame, asRequest, requestAnswer, requestCause, takeCause}
 use Rattle.collector.specs.declared.FlagsAnswer.{FlagsAnswer}
 use Rattle.collector.specs.declared.ReadAnswer.{ReadAnswer}
 use Rattle.collector.specs.declared.RegisterAnswer.{RegisterAnswer}
 use Rattle.collector.specs.declared.RequestAnswer.{RequestAnswer}
 use Rattle.collector.specs.declared.RequestFields.{RequestFields}
 use Rattle.collector.specs.declared.TakeAnswer.{TakeAnswer}
-use Rattle.c_values.specs.Answers.{octetAfter, unnamedAnswer, valuesTold, flagTold, octetTold, Told}
+use Rattle.c_values.specs.Answers.{octetAfter, unnamedAnswer, valuesTold, flagTold, octetTold, RowTold}
 use Rattle.powerlink.specs.Collecting.{CollectorRegisters, CollectorReads, CollectorFlags, unasked, CollectorRequests, CollectorTakes}
 use Rattle.powerlink.specs.Given.{node}
 use Rattle.powerlink.proofs.Told.{unnamed-told}
@@ -35,7 +34,7 @@ module _ (s s′ : List ℕ) where
   registers-told i r a w e =
       record { cause = e ∙ ap (λ (x : RegisterAnswer). registerCause x .number) (w .answer); registers = rw (w .answer) at w }
 
-  pub reads-told : (f : List ℕ) (a : ReadAnswer) (r k k′ o o′ : ℕ) → Reads f a s s′ → Told (readCause a) r k k′ o o′ → CollectorReads f r s s′ k k′ o o′
+  pub reads-told : (f : List ℕ) (a : ReadAnswer) (r k k′ o o′ : ℕ) → Reads f a s s′ → RowTold (readCause a) r k k′ o o′ → CollectorReads f r s s′ k k′ o o′
   reads-told f a r k k′ o o′ w t = record { told = rw (w .answer) at t; reads = rw (w .answer) at w }
 
   pub takes-told : (i r : ℕ) (v v′ : List ℕ) (a : TakeAnswer) → Takes (node i) a s s′ → r ≡ takeCause a .number → v′ ≡ valuesTold (takeCause a) v
@@ -78,7 +77,7 @@ module _ (i : ℕ) (f : NmtState → RequestFields) (code : ℕ) where
     module _ (t : List ℕ) (r n o o′ : ℕ) where
       unasked-told : (p : Option Account) → true ≡ isRegistered p
           → (r ≡ writeCause (unnamedAnswer minFrame (InvalidNmtState b) (length t)) .number) × (o′ ≡ octetAfter (unnamedAnswer minFrame (InvalidNmtState b) (length t)) o)
-          → Told (requestCause (unasked b t p)) r n n o o′
+          → RowTold (requestCause (unasked b t p)) r n n o o′
       unasked-told none h u = let z : _≡_ {A = Bool} true false = h in record { cause = cc; value = cc; octet = cc }
       unasked-told (some p) h u =
           rw (same-row (unnamedAnswer minFrame (InvalidNmtState b) (length t))) at (unnamed-told (leb minFrame (length t)) (InvalidNmtState b) r n o o′ u)

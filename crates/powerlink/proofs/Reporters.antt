@@ -21,7 +21,7 @@ use Rattle.reporter.specs.declared.AnswerFields.{AnswerFields}
 use Rattle.reporter.specs.declared.NewAnswer.{NewAnswer}
 use Rattle.reporter.specs.declared.RaiseAnswer.{RaiseAnswer}
 use Rattle.reporter.specs.declared.ReadAnswer.{ReadAnswer}
-use Rattle.c_values.specs.Answers.{lengthAfter, octetAfter, unnamedAnswer, Told}
+use Rattle.c_values.specs.Answers.{lengthAfter, octetAfter, unnamedAnswer, RowTold}
 use Rattle.powerlink.specs.Reporting.{ReporterMakes, RaisesBy, answerWriting, ReporterAnswers, ReporterReads}
 use Rattle.powerlink.specs.Given.{node}
 use Rattle.powerlink.specs.Writing.{octets, unnamed}
@@ -36,7 +36,7 @@ module _ (s s′ : List ℕ) where
     raises-told k a r q w t =
         rw q (record { cause = t ∙ ap (λ (x : RaiseAnswer). raiseCause x .number) (w .answer); raises = rw (w .answer) at w })
 
-  pub reads-told : (f : List ℕ) (a : ReadAnswer) (r k k′ o o′ : ℕ) → Reads f a s s′ → Told (readCause a) r k k′ o o′ → ReporterReads f r s s′ k k′ o o′
+  pub reads-told : (f : List ℕ) (a : ReadAnswer) (r k k′ o o′ : ℕ) → Reads f a s s′ → RowTold (readCause a) r k k′ o o′ → ReporterReads f r s s′ k k′ o o′
   reads-told f a r k k′ o o′ w t = record { told = rw (w .answer) at t; reads = rw (w .answer) at w }
 
 -- a mode that is none

@@ -19,7 +19,7 @@ use Rattle.collector.specs.Rules.{Account, registerAnswer, registerCause, readA
 use Rattle.collector.specs.declared.RequestAnswer.{RequestAnswer}
 use Rattle.collector.specs.declared.RequestAnswer.the-variants as requesting
 use Rattle.collector.specs.declared.RequestFields.{RequestFields}
-use Rattle.c_values.specs.Answers.{unnamedAnswer, valuesTold, flagTold, Told}
+use Rattle.c_values.specs.Answers.{unnamedAnswer, valuesTold, flagTold, RowTold}
 use Rattle.powerlink.specs.Given.{node, mac}
 
 pub record CollectorMakes (r : ℕ) (s′ : List ℕ) : Type 0 where
@@ -31,7 +31,7 @@ pub record CollectorRegisters (i r : ℕ) (s s′ : List ℕ) : Type 0 where
   pub registers : Registers (node i) (registerAnswer i (boxOf s)) s s′
 
 pub record CollectorReads (f : List ℕ) (r : ℕ) (s s′ : List ℕ) (k k′ o o′ : ℕ) : Type 0 where
-  pub told : Told (readCause (readAnswer f (boxOf s))) r k k′ o o′
+  pub told : RowTold (readCause (readAnswer f (boxOf s))) r k k′ o o′
   pub reads : Reads f (readAnswer f (boxOf s)) s s′
 
 pub record CollectorFlags (i r : ℕ) (s : List ℕ) (a a′ e e′ : Bool) : Type 0 where
@@ -60,7 +60,7 @@ RequestsBy i f (state.Unknown b) s t t′ = t′ ≡ t
 RequestsBy i f (state.Known k) s t t′ = Requests (node i) (f k) (requestAnswer i (f k) t (accountOf s i)) s t t′
 
 pub record CollectorRequests (i : ℕ) (f : NmtState → RequestFields) (code r : ℕ) (s t t′ : List ℕ) (n n′ o o′ : ℕ) : Type 0 where
-  pub told : Told (requestCause (requestBy i f (stateOf code) t (accountOf s i))) r n n′ o o′
+  pub told : RowTold (requestCause (requestBy i f (stateOf code) t (accountOf s i))) r n n′ o o′
   pub requests : RequestsBy i f (stateOf code) s t t′
 
 pub record CollectorTakes (i r : ℕ) (s s′ v v′ : List ℕ) : Type 0 where

@@ -25,7 +25,7 @@ use Rattle.reporter.specs.Rules.{Head, newAnswer, newCause, raiseAnswer, raiseC
 use Rattle.reporter.specs.declared.AnswerFields.{AnswerFields}
 use Rattle.reporter.specs.declared.RaiseAnswer.the-variants.{EntryInvalid}
 use Rattle.reporter.specs.declared.ReadAnswer.{ReadAnswer}
-use Rattle.c_values.specs.Answers.{Told}
+use Rattle.c_values.specs.Answers.{RowTold}
 use Rattle.powerlink.specs.Given.{node, mac, entryWith}
 use Rattle.powerlink.specs.Writing.{Coded, octets, stated, WritesCoded}
 
@@ -88,5 +88,5 @@ abbrev pub reporterReading : List ℕ → List ℕ → ReadAnswer
 reporterReading frame state = acknowledgeAnswer (eaTold (headOf state .id) frame) (headOf state)
 
 pub record ReporterReads (frame : List ℕ) (r : ℕ) (s s′ : List ℕ) (k k′ o o′ : ℕ) : Type 0 where
-  pub told : Told (readCause (reporterReading frame s)) r k k′ o o′
+  pub told : RowTold (readCause (reporterReading frame s)) r k k′ o o′
   pub reads : Reads frame (reporterReading frame s) s s′

@@ -28,9 +28,9 @@ write-told (write.Written n) = refl
 write-told (write.Refused e) = not-0 e _ _ ∙ ap write.Refused (values-tell .errors e 0)
 
 pub read-told : (a : ReadAnswer) → readTold (readCause a) ≡ a
-read-told Closed = refl
-read-told Kept = refl
-read-told Ignored = refl
+read-told Closed = cc
+read-told Kept = cc
+read-told Ignored = cc
 read-told (Refused e) = not-0 e _ _ ∙ ap Refused (values-tell .errors e 0)
 
 pub causes-tell : CausesTell

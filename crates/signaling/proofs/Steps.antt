@@ -6,7 +6,7 @@ use mathlib.Core.Path.{_≡_, refl, ap, _∙_}
 use mathlib.Core.List.{List, [], _∷_}
 use mathlib.Core.Option.{Option, none, some}
 use native.Mathlib.Omega.{arith}
-use lib.ListN.{length, take, drop}
+use lib.ListN.{take, drop}
 use lib.Dec.{eqb}
 use borrow.Author.Tests.{eqb-true, eqb-false, eq-eqb}
 use Rattle.section.specs.declared.WriteAnswer.{WriteAnswer}
