@@ -20,7 +20,7 @@ use Rattle.types.specs.declared.states.NmtStateAnswer.the-variants as state
 use Rattle.section.specs.declared.WriteAnswer.the-variants as write
 use Rattle.error_entry.specs.declared.ErrorEntry.{ErrorEntry}
 use Rattle.reporter.specs.declared.RaiseAnswer.the-variants.{EntryInvalid, QueueFull}
-use Rattle.collector.specs.Causes as box
+use Rattle.collector.specs.CausesTell as box
 use Rattle.collector.specs.Layout.{accountOf, boxOf}
 use Rattle.collector.specs.Rules.{Account, requestCause, readAnswer, readCause}
 use Rattle.collector.specs.declared.ReadAnswer.{ReadAnswer}

@@ -17,12 +17,12 @@ use Rattle.types.specs.declared.states.NmtState.{NmtState}
 use Rattle.types.specs.declared.states.NmtStateAnswer.{NmtStateAnswer}
 use Rattle.types.specs.declared.states.NmtStateAnswer.the-variants as state
 use Rattle.section.specs.Write.{writeAnswer}
-use Rattle.reporter.specs.Causes.{raiseTold, writeTold}
+use Rattle.reporter.specs.CausesTell.{raiseTold, writeTold}
 use Rattle.reporter.specs.Layout.{headOf}
 use Rattle.reporter.specs.Rules.{newCause, raiseAnswer, opened, answerFrame, answerLength}
 use Rattle.reporter.specs.declared.AnswerFields.{AnswerFields}
 use Rattle.reporter.specs.declared.NewAnswer.the-variants.{Made, IdOutOfRange}
-use Rattle.collector.specs.Causes as box
+use Rattle.collector.specs.CausesTell as box
 use Rattle.collector.specs.Layout.{accountOf, boxOf}
 use Rattle.collector.specs.Rules.{registerAnswer, readAnswer, requestAnswer, requestCause, takeAnswer}
 use Rattle.collector.specs.declared.RequestFields.{RequestFields}

@@ -7,21 +7,21 @@ use mathlib.Core.List.{List, [], _∷_}
 use mathlib.Core.Option.{Option, none, some}
 use lib.ListN.{length}
 use lib.Dec.{eqb, leb}
-use Rattle.types.specs.Causes.{row, causeOf}
+use Rattle.types.specs.Causes.{row, causeOf, errorTold}
 use Rattle.types.specs.Codes.{need, pick}
 use Rattle.types.specs.declared.hal.PowerlinkError.{PowerlinkError}
 use Rattle.types.specs.declared.hal.PowerlinkError.the-variants.{BufferTooShort, InvalidNmtState}
 use Rattle.section.specs.Write.{minFrame, writeAnswer, writeCause}
 use Rattle.section.specs.declared.WriteAnswer.the-variants as write
-use Rattle.error_entry.specs.Values.{errorTold}
-use Rattle.error_entry.proofs.Values.{not-0, below-8, values-tell}
-use Rattle.reporter.specs.Causes.{raiseTold, writeTold, readTold}
+use Rattle.types.proofs.CausesTell.{not-0, below-8, error-told}
+use Rattle.error_entry.proofs.Values.{values-tell}
+use Rattle.reporter.specs.CausesTell.{raiseTold, writeTold, readTold}
 use Rattle.reporter.specs.Rules.{raiseCause, readCause}
 use Rattle.reporter.specs.declared.RaiseAnswer.{RaiseAnswer}
 use Rattle.reporter.specs.declared.RaiseAnswer.the-variants.{Raised, EntryInvalid, QueueFull}
 use Rattle.reporter.specs.declared.ReadAnswer.{ReadAnswer}
 use Rattle.reporter.specs.declared.ReadAnswer.the-variants.{Closed, Kept, Ignored, Refused}
-use Rattle.collector.specs.Causes as box
+use Rattle.collector.specs.CausesTell as box
 use Rattle.collector.specs.Rules as rules
 use Rattle.collector.specs.declared.ReadAnswer.{ReadAnswer as BoxReadAnswer}
 use Rattle.collector.specs.declared.ReadAnswer.the-variants as reads
@@ -91,7 +91,7 @@ unasked-number b t (some p) = unasked-by (leb minFrame (length t)) b
 -- ---- readings: the octet of a refusal
 
 octet-back : (e : PowerlinkError) (k o : ℕ) → errorTold (causeOf e .number) (pick (eqb (causeOf e .number) 0) k (octetTold (causeOf e) o)) ≡ e
-octet-back e k o = ap (errorTold (causeOf e .number)) (not-0 e _ _ ∙ not-0 e _ _) ∙ values-tell .errors e o
+octet-back e k o = ap (errorTold (causeOf e .number)) (not-0 e _ _ ∙ not-0 e _ _) ∙ error-told e o
 
 pub read-row : (a : ReadAnswer) (r k k′ o o′ : ℕ) → RowTold (readCause a) r k k′ o o′ → readTold (reading r k′ o′) ≡ a
 read-row Closed r k k′ o o′ t = rw (t .cause, t .value)

@@ -18,7 +18,8 @@ use Rattle.types.specs.declared.states.NmtStateAnswer.{NmtStateAnswer}
 use Rattle.types.specs.declared.states.NmtStateAnswer.the-variants as state
 use Rattle.section.specs.Write.{writeCause}
 use Rattle.section.specs.declared.WriteAnswer.the-variants as write
-use Rattle.error_entry.specs.Values.{entryTold, errorTold}
+use Rattle.types.specs.Causes.{errorTold}
+use Rattle.error_entry.specs.Values.{entryTold}
 use Rattle.error_entry.specs.declared.ErrorEntry.{ErrorEntry}
 use Rattle.reporter.specs.Rules.{whenRaised}
 use Rattle.reporter.specs.declared.RaiseAnswer.the-variants.{Raised, EntryInvalid, QueueFull}

@@ -18,8 +18,8 @@ use Rattle.types.specs.declared.states.NmtStateAnswer.{NmtStateAnswer}
 use Rattle.types.specs.declared.states.NmtStateAnswer.the-variants as state
 use Rattle.error_entry.specs.Values.{entryTold}
 use Rattle.error_entry.specs.declared.ErrorEntry.{ErrorEntry}
-use Rattle.reporter.specs.Causes.{raiseTold, writeTold, readTold}
-use Rattle.collector.specs.Causes as box
+use Rattle.reporter.specs.CausesTell.{raiseTold, writeTold, readTold}
+use Rattle.collector.specs.CausesTell as box
 use Rattle.powerlink.specs.Given.{entryWith}
 use Rattle.signaling.specs.Calls.{Origin, raised, answered, headRead, registered, boxRead, requested, taken, hosted, Log}
 

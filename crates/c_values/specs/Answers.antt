@@ -23,10 +23,6 @@ lengthAfter (Refused e) before = before
 abbrev pub errorOctet : PowerlinkError → ℕ → ℕ
 errorOctet e before = getD (causeOf e .returned) 0 before
 
--- the same of any answer's row: only a refusal returns an octet
-abbrev pub refusedOctet : Cause → ℕ → ℕ
-refusedOctet c before = pick (eqb (c .number) 0) before (getD (c .returned) 0 before)
-
 abbrev pub octetAfter : WriteAnswer → ℕ → ℕ
 octetAfter (Written n) before = before
 octetAfter (Refused e) before = errorOctet e before

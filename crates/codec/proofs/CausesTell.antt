@@ -8,7 +8,7 @@ use Rattle.types.specs.declared.hal.PowerlinkError.the-variants.{InvalidMessage
 use Rattle.types.specs.declared.message_type.MessageTypeAnswer.{MessageTypeAnswer}
 use Rattle.types.specs.declared.message_type.MessageTypeAnswer.the-variants.{Known, Unknown}
 use Rattle.types.proofs.Apart.{apart}
-use Rattle.types.proofs.CausesTell.{errorOf, error-back, refused-not-0, refusedOr, refused-back}
+use Rattle.types.proofs.CausesTell.{error-told, errorOf, refused-not-0, refusedOr, refused-back}
 use Rattle.types.proofs.ReadBack.{message-known}
 use Rattle.codec.specs.CausesTell.{CausesTell}
 use Rattle.codec.specs.Headers.{ethHeaderCause, plHeaderCause}
@@ -41,7 +41,7 @@ causes-tell =
     record {
       frame = λ f. refl;
       noFrame = λ e. refl;
-      framesApart = apart causeOf errorOf error-back;
+      framesApart = apart causeOf errorOf (λ e. error-told e 0);
       frameOrNot = λ f e. refused-not-0 e _;
       ethHeader = refl;
       noEthHeader = λ e. refl;

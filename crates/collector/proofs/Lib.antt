@@ -4,7 +4,7 @@ pub mod BlockLaws
 pub mod BookLaws
 pub mod Bounds
 pub mod CallLaws
-pub mod Causes
+pub mod CausesTell
 pub mod IdLaws
 pub mod Meaning
 pub mod PlacedLaws

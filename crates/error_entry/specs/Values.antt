@@ -1,4 +1,4 @@
--- An entry and an error as numbers, and back: what goes with 01's numbers, to callers who have no other form of them.
+-- An entry as numbers, and back: what goes with 01's numbers, to callers who have no other form of it.
 -- Assumes nothing.
 use Prim.Native.Nat.{ℕ}
 use mathlib.Core.Bool.{Bool}
@@ -6,11 +6,8 @@ use mathlib.Core.Path.{_≡_}
 use mathlib.Core.List.{List, [], _∷_}
 use lib.ListN.{getD}
 use lib.Dec.{eqb}
-use Rattle.types.specs.Causes.{causeOf}
 use Rattle.types.specs.Codes.{pick}
 use Rattle.types.specs.Modes.{modeCode, modeIn}
-use Rattle.types.specs.declared.hal.PowerlinkError.{PowerlinkError}
-use Rattle.types.specs.declared.hal.PowerlinkError.the-variants.{BufferTooShort, InvalidEthernetFrame, InvalidPlFrame, InvalidMessageType, InvalidNmtState, InvalidServiceId, InvalidRequestedServiceId}
 use Rattle.error_entry.specs.declared.ErrorEntry.{ErrorEntry}
 
 -- a flag is 1 or 0
@@ -41,16 +38,5 @@ entryTold ns =
       «additional_information» = getD ns 7 0;
     }
 
--- the error of 01's number n, 1 to 7, with the octet that is returned
-abbrev pub errorTold : ℕ → ℕ → PowerlinkError
-errorTold n b =
-    pick (eqb n 1) BufferTooShort
-    (pick (eqb n 2) InvalidEthernetFrame
-    (pick (eqb n 3) InvalidPlFrame
-    (pick (eqb n 4) (InvalidMessageType b)
-    (pick (eqb n 5) (InvalidNmtState b) (pick (eqb n 6) (InvalidServiceId b) (InvalidRequestedServiceId b))))))
-
 pub record ValuesTell : Type 0 where
   pub entries : (e : ErrorEntry) → entryTold (entryNumbers e) ≡ e
-  -- whatever stands where no octet is returned
-  pub errors : (e : PowerlinkError) (b : ℕ) → errorTold (causeOf e .number) (getD (causeOf e .returned) 0 b) ≡ e

@@ -11,4 +11,4 @@ pub mod InParts
 pub mod Start
 pub mod ReadBack
 pub mod Whole
-pub mod Causes
+pub mod CausesTell

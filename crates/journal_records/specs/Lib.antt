@@ -1,4 +1,4 @@
-pub mod Causes
+pub mod CausesTell
 pub mod InParts
 pub mod Listing
 pub mod Parts

@@ -28,7 +28,7 @@ use Rattle.status_response.specs.declared.fields.DeserializedStatus.{Deserializ
 use Rattle.status_response.specs.declared.fields.StatusAnswer.the-variants as status
 use Rattle.status_response.specs.declared.fields.StatusFields.{StatusFields}
 use Rattle.status_response.specs.declared.walk.EntryStep.the-variants as step
-use Rattle.c_values.proofs.Refusals.{refused-octet}
+use Rattle.types.proofs.CausesTell.{not-0}
 use Rattle.c_values.specs.Answers.{errorOctet}
 use Rattle.c_values.specs.Values.{frameNumbers, statusNumbers, entryNumbers}
 use Rattle.powerlink.specs.Reading.{FrameRead, SectionRead, EthRead, PlRead, StatusRead, FieldRead, EntryRead, StepRead}
@@ -68,7 +68,7 @@ module _ (f : List ℕ) (d : DeserializedEthHeader) (w : d ≡ deserializeEthHea
 
 module _ (s : List ℕ) (v : List ℕ) where
   pub pl-refused : (r o o′ : ℕ) (e : PowerlinkError) → deserializePlHeader s ≡ pl.Refused e → Told e r o o′ → PlRead s r v v o o′
-  pl-refused r o o′ e q t = record { cause = t .0 ∙ rw q; values = rw q; octet = t .1 ∙ refused-octet e o ∙ rw q }
+  pl-refused r o o′ e q t = record { cause = t .0 ∙ rw q; values = rw q; octet = t .1 ∙ sym (not-0 e _ _) ∙ rw q }
 
   pub pl-read : (o m : ℕ) (h : PlHeader) → deserializePlHeader s ≡ pl.Read h → m ≡ messageCode (h .«message_type»)
       → PlRead s 0 v (m ∷ h .destination .0 ∷ h .source .0 ∷ []) o o

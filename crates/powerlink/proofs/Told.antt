@@ -9,7 +9,7 @@ use Rattle.types.specs.declared.hal.PowerlinkError.{PowerlinkError}
 use Rattle.types.specs.declared.hal.PowerlinkError.the-variants.{BufferTooShort}
 use Rattle.section.specs.Write.{writeCause}
 use Rattle.section.specs.declared.WriteAnswer.the-variants as write
-use Rattle.error_entry.proofs.Values.{not-0}
+use Rattle.types.proofs.CausesTell.{not-0}
 use Rattle.c_values.specs.Answers.{errorOctet, octetAfter, RowTold}
 
 -- no value, and the octet that goes with the error

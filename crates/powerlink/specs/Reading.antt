@@ -28,7 +28,7 @@ use Rattle.status_response.specs.declared.fields.StatusAnswer.{StatusAnswer}
 use Rattle.status_response.specs.declared.fields.StatusAnswer.the-variants as status
 use Rattle.status_response.specs.declared.walk.EntryStep.{EntryStep}
 use Rattle.status_response.specs.declared.walk.EntryStep.the-variants as step
-use Rattle.c_values.specs.Answers.{refusedOctet}
+use Rattle.c_values.specs.Answers.{octetTold}
 use Rattle.c_values.specs.Values.{frameNumbers, statusNumbers, entryNumbers}
 
 abbrev pub frameAfter : FrameAnswer → PayloadPlace → List ℕ → List ℕ
@@ -95,7 +95,7 @@ pub record EthRead (f : List ℕ) (r : ℕ) (d d′ s s′ : List ℕ) (t t′ :
 pub record PlRead (s : List ℕ) (r : ℕ) (v v′ : List ℕ) (o o′ : ℕ) : Type 0 where
   pub cause : r ≡ plHeaderCause (deserializePlHeader s) .number
   pub values : v′ ≡ plAfter (deserializePlHeader s) v
-  pub octet : o′ ≡ refusedOctet (plHeaderCause (deserializePlHeader s)) o
+  pub octet : o′ ≡ octetTold (plHeaderCause (deserializePlHeader s)) o
 
 pub record StatusRead (s : List ℕ) (r : ℕ) (v v′ f f′ : List ℕ) (o o′ : ℕ) : Type 0 where
   pub cause : r ≡ statusCause (readFields s) .number

@@ -2,7 +2,7 @@ pub mod AnswerLaws
 pub mod Answering
 pub mod Bounds
 pub mod CallLaws
-pub mod Causes
+pub mod CausesTell
 pub mod Closing
 pub mod Entries
 pub mod Meaning

@@ -1,5 +1,5 @@
 pub mod Bounds
 pub mod Calls
-pub mod Causes
+pub mod CausesTell
 pub mod Layout
 pub mod Rules

@@ -1,12 +1,12 @@
 -- 01's table of causes, number by number; and each answer can be read back from its number and values.
 -- Assumes nothing.
 use Prim.Native.Nat.{ℕ}
-use mathlib.Core.Path.{_≡_, refl, ap}
+use mathlib.Core.Path.{_≡_, refl, ap, _∙_}
 use mathlib.Core.List.{List}
 use native.Mathlib.Omega.{arith}
-use lib.Dec.{eqb}
+use lib.Dec.{eqb, ltb}
 use lib.ListN.{getD}
-use Rattle.types.specs.Causes.{Cause, row, causeOf}
+use Rattle.types.specs.Causes.{Cause, row, causeOf, errorTold}
 use Rattle.types.specs.CausesTell.{NumbersTell, ErrorsTell, CodesTell}
 use Rattle.types.specs.CodeCauses.{messageCause, stateCause, serviceCause, requestedCause, modeCause}
 use Rattle.types.specs.Codes.{pick}
@@ -58,50 +58,50 @@ numbers-tell =
 abbrev pub value : Cause → ℕ
 value c = getD (c .returned) 0 0
 
--- the error that a number and its values are of
-abbrev pub errorOf : Cause → PowerlinkError
-errorOf c =
-    pick (eqb (c .number) 1) BufferTooShort
-    (pick (eqb (c .number) 2) InvalidEthernetFrame
-    (pick (eqb (c .number) 3) InvalidPlFrame
-    (pick (eqb (c .number) 4) (InvalidMessageType (value c))
-    (pick (eqb (c .number) 5) (InvalidNmtState (value c))
-    (pick (eqb (c .number) 6) (InvalidServiceId (value c)) (InvalidRequestedServiceId (value c)))))))
+pub error-told : (e : PowerlinkError) (b : ℕ) → errorTold (causeOf e .number) (getD (causeOf e .returned) 0 b) ≡ e
+error-told BufferTooShort b = refl
+error-told InvalidEthernetFrame b = refl
+error-told InvalidPlFrame b = refl
+error-told (InvalidMessageType o) b = refl
+error-told (InvalidNmtState o) b = refl
+error-told (InvalidServiceId o) b = refl
+error-told (InvalidRequestedServiceId o) b = refl
 
-pub error-back : (e : PowerlinkError) → errorOf (causeOf e) ≡ e
-error-back BufferTooShort = refl
-error-back InvalidEthernetFrame = refl
-error-back InvalidPlFrame = refl
-error-back (InvalidMessageType b) = refl
-error-back (InvalidNmtState b) = refl
-error-back (InvalidServiceId b) = refl
-error-back (InvalidRequestedServiceId b) = refl
+-- no error has the number 0
+pub not-0 : {A : Type 0} (e : PowerlinkError) (a b : A) → pick (eqb (causeOf e .number) 0) a b ≡ b
+not-0 BufferTooShort a b = refl
+not-0 InvalidEthernetFrame a b = refl
+not-0 InvalidPlFrame a b = refl
+not-0 (InvalidMessageType o) a b = refl
+not-0 (InvalidNmtState o) a b = refl
+not-0 (InvalidServiceId o) a b = refl
+not-0 (InvalidRequestedServiceId o) a b = refl
 
--- no error has the number of what is not refused
+-- and none a number above 7
+pub below-8 : {A : Type 0} (e : PowerlinkError) (a b : A) → pick (ltb (causeOf e .number) 8) a b ≡ a
+below-8 BufferTooShort a b = refl
+below-8 InvalidEthernetFrame a b = refl
+below-8 InvalidPlFrame a b = refl
+below-8 (InvalidMessageType o) a b = refl
+below-8 (InvalidNmtState o) a b = refl
+below-8 (InvalidServiceId o) a b = refl
+below-8 (InvalidRequestedServiceId o) a b = refl
+
+-- so that a row with 0 is no error's
 pub refused-not-0 : (e : PowerlinkError) (bs : List ℕ) → row 0 bs ≡ causeOf e → ⊥
-refused-not-0 e bs same = zero-is-none e (ap (λ (c : Cause). c .number) same)
-  where
-    zero-is-none : (e : PowerlinkError) → 0 ≡ causeOf e .number → ⊥
-    zero-is-none BufferTooShort q = omega (arith, q)
-    zero-is-none InvalidEthernetFrame q = omega (arith, q)
-    zero-is-none InvalidPlFrame q = omega (arith, q)
-    zero-is-none (InvalidMessageType b) q = omega (arith, q)
-    zero-is-none (InvalidNmtState b) q = omega (arith, q)
-    zero-is-none (InvalidServiceId b) q = omega (arith, q)
-    zero-is-none (InvalidRequestedServiceId b) q = omega (arith, q)
+refused-not-0 e bs same =
+    let z : _≡_ {A = ℕ} 1 0 = ap (λ (c : Cause). pick (eqb (c .number) 0) 1 0) same ∙ not-0 e 1 0 in omega (arith, z)
 
 -- an answer that refuses with an error, or else is `good`
 abbrev pub refusedOr : {R : Type 0} → (PowerlinkError → R) → R → Cause → R
-refusedOr refused good c = pick (eqb (c .number) 0) good (refused (errorOf c))
+refusedOr refused good c = pick (eqb (c .number) 0) good (refused (errorTold (c .number) (value c)))
 
 pub refused-back : {R : Type 0} (refused : PowerlinkError → R) (good : R) (e : PowerlinkError) → refusedOr refused good (causeOf e) ≡ refused e
-refused-back refused good BufferTooShort = refl
-refused-back refused good InvalidEthernetFrame = refl
-refused-back refused good InvalidPlFrame = refl
-refused-back refused good (InvalidMessageType b) = refl
-refused-back refused good (InvalidNmtState b) = refl
-refused-back refused good (InvalidServiceId b) = refl
-refused-back refused good (InvalidRequestedServiceId b) = refl
+refused-back refused good e = not-0 e _ _ ∙ ap refused (error-told e 0)
+
+-- the error that a row is of
+abbrev pub errorOf : Cause → PowerlinkError
+errorOf c = errorTold (c .number) (value c)
 
 pub errors-tell : ErrorsTell
 errors-tell =
@@ -113,7 +113,8 @@ errors-tell =
       invalidNmtState = λ b. refl;
       invalidServiceId = λ b. refl;
       invalidRequestedServiceId = λ b. refl;
-      apart = apart causeOf errorOf error-back;
+      apart = apart causeOf errorOf (λ e. error-told e 0);
+      told = error-told;
     }
 
 -- the answer of reading a code: with 0 what the code names, and else the octet

@@ -3,6 +3,8 @@
 use Prim.Native.Nat.{ℕ}
 use mathlib.Core.List.{List, [], _∷_}
 use lib.ListN.{getD}
+use lib.Dec.{eqb}
+use Rattle.types.specs.Codes.{pick}
 use Rattle.types.specs.CauseNumbers.{tooShort, notPowerlink, invalidFrame, unknownMessage, unknownState, unknownService, unknownRequest}
 use Rattle.types.specs.declared.hal.PowerlinkError.{PowerlinkError}
 use Rattle.types.specs.declared.hal.PowerlinkError.the-variants.{BufferTooShort, InvalidEthernetFrame, InvalidPlFrame, InvalidMessageType, InvalidNmtState, InvalidServiceId, InvalidRequestedServiceId}
@@ -30,3 +32,12 @@ causeNumber e = causeOf e .number
 -- the octet, or 0 where the table returns the number alone
 abbrev pub causeByte : PowerlinkError → ℕ
 causeByte e = getD (causeOf e .returned) 0 0
+
+-- and back: the error of a number, 1 to 7, with the octet that is returned
+abbrev pub errorTold : ℕ → ℕ → PowerlinkError
+errorTold n b =
+    pick (eqb n 1) BufferTooShort
+    (pick (eqb n 2) InvalidEthernetFrame
+    (pick (eqb n 3) InvalidPlFrame
+    (pick (eqb n 4) (InvalidMessageType b)
+    (pick (eqb n 5) (InvalidNmtState b) (pick (eqb n 6) (InvalidServiceId b) (InvalidRequestedServiceId b))))))

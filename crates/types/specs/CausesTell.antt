@@ -3,8 +3,9 @@
 use Prim.Native.Nat.{ℕ}
 use mathlib.Core.Path.{_≡_}
 use mathlib.Core.List.{[], _∷_}
+use lib.ListN.{getD}
 use Rattle.types.specs.CauseNumbers.{tooShort, notPowerlink, invalidFrame, unknownMessage, unknownState, unknownService, unknownRequest, entryInvalid, queueFull, notStatusResponse, notRegistered, bookFull, idOutOfRange, idRegistered, fourRegistered, nothingBooked, notAJournal, unknownVersion, recordInvalid}
-use Rattle.types.specs.Causes.{row, causeOf}
+use Rattle.types.specs.Causes.{row, causeOf, errorTold}
 use Rattle.types.specs.CodeCauses.{messageCause, stateCause, serviceCause, requestedCause, modeCause}
 use Rattle.types.specs.Messages.{messageCode}
 use Rattle.types.specs.Modes.{modeCode}
@@ -61,6 +62,8 @@ pub record ErrorsTell : Type 0 where
   pub invalidServiceId : (b : ℕ) → causeOf (InvalidServiceId b) ≡ row 6 (b ∷ [])
   pub invalidRequestedServiceId : (b : ℕ) → causeOf (InvalidRequestedServiceId b) ≡ row 7 (b ∷ [])
   pub apart : (d e : PowerlinkError) → causeOf d ≡ causeOf e → d ≡ e
+  -- whatever stands where no octet is returned
+  pub told : (e : PowerlinkError) (b : ℕ) → errorTold (causeOf e .number) (getD (causeOf e .returned) 0 b) ≡ e
 
 -- the codes that are read
 pub record CodesTell : Type 0 where

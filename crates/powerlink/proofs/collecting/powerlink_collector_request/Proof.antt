@@ -3,7 +3,7 @@
 use borrow.Author.Needs.{needs}
 use mathlib.Core.Path.{sym, _∙_}
 use borrow.Author.Tests.{not-true, not-false}
-use Rattle.error_entry.proofs.Values.{not-0}
+use Rattle.types.proofs.CausesTell.{not-0}
 use Rattle.powerlink.proofs.Collectors.{asks-nobody, asks-none, asks-told}
 use Rattle.powerlink.proofs.collecting.powerlink_collector_request.Statement.{statement}
 use Rattle.powerlink.proofs.collecting.powerlink_collector_request.Tie as tie
@@ -13,7 +13,7 @@ returns c =
     let g = c .before in
     let b = g .before .before in
     let f = b .before .before in
-    asks-nobody _ _ _ _ _ (sym (f .from-u8 .ensures) ∙ b .b .given .1) _ _ _ (sym (not-true _ (c .if1 .taken)) ∙ g .is-registered .ensures)
+    asks-nobody _ _ _ _ _ (sym (f .from-u8 .ensures .answer) ∙ b .b .given .1) _ _ _ (sym (not-true _ (c .if1 .taken)) ∙ g .is-registered .ensures)
 
 returns-2 : tie.Need-returns-2
 returns-2 c =
@@ -21,7 +21,7 @@ returns-2 c =
     let g = e .before in
     let b = g .before .before in
     let f = b .before .before in
-    asks-none _ _ _ _ _ (sym (f .from-u8 .ensures) ∙ b .b .given .1) _ _ _ _ _ (sym (not-false _ (e .if1 .left)) ∙ g .is-registered .ensures) (c .unnamed .ensures)
+    asks-none _ _ _ _ _ (sym (f .from-u8 .ensures .answer) ∙ b .b .given .1) _ _ _ _ _ (sym (not-false _ (e .if1 .left)) ∙ g .is-registered .ensures) (c .unnamed .ensures)
 
 returns-3 : tie.Need-returns-3
 returns-3 c =
@@ -47,7 +47,7 @@ returns-5 c =
     let m = z .before .before .before .before in
     let f = m .before .before in
     let q = e .e .given .1 in
-    asks-told _ _ _ _ (sym (f .from-u8 .ensures) ∙ m .nmt-state .given .1) _ _ _ _ _ _ _ _ (z .request .ensures) (c .number .ensures ∙ rw q) (rw q (sym (not-0 (e .e .given .0 .0) _ _)))
+    asks-told _ _ _ _ (sym (f .from-u8 .ensures .answer) ∙ m .nmt-state .given .1) _ _ _ _ _ _ _ _ (z .request .ensures) (c .number .ensures ∙ rw q) (rw q (sym (not-0 (e .e .given .0 .0) _ _)))
 
 pub powerlink-collector-request-spec : {M : Type 1} → statement M
 powerlink-collector-request-spec =

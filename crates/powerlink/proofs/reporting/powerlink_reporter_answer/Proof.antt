@@ -20,7 +20,7 @@ returns-2 c =
     let p = g .before in
     let n = p .before .before .before .before in
     let f = n .before .before in
-    answers-told _ _ _ _ _ _ _ _ _ _ _ _ (sym (f .from-u8 .ensures) ∙ n .nmt-state .given .1) (rw (p .from-bits .ensures, g .from-bytes .ensures) at (s .answer .ensures)) (c .written-or .ensures)
+    answers-told _ _ _ _ _ _ _ _ _ _ _ _ (sym (f .from-u8 .ensures .answer) ∙ n .nmt-state .given .1) (rw (p .from-u82 .ensures, g .from-bytes .ensures) at (s .answer .ensures)) (c .written-or .ensures)
 
 pub powerlink-reporter-answer-spec : {M : Type 1} → statement M
 powerlink-reporter-answer-spec =

@@ -9,19 +9,19 @@ use Rattle.powerlink.proofs.status.powerlink_serialize_entry.Tie as tie
 returns : tie.Need-returns
 returns c =
     let u = c .before in
-    entry-short _ _ _ _ _ (sym (u .before .before .from-u8 .ensures) ∙ u .enum-told .given .1) (c .if1 .taken)
+    entry-short _ _ _ _ _ (sym (u .before .before .from-u8 .ensures .answer) ∙ u .enum-told .given .1) (c .if1 .taken)
 
 returns-2 : tie.Need-returns-2
 returns-2 c =
     let u = c .before in
-    entry-none _ _ _ _ _ (sym (u .before .before .from-u8 .ensures) ∙ u .enum-told .given .1) (c .if1 .left)
+    entry-none _ _ _ _ _ (sym (u .before .before .from-u8 .ensures .answer) ∙ u .enum-told .given .1) (c .if1 .left)
 
 returns-3 : tie.Need-returns-3
 returns-3 c =
     let s = c .before .before .before .before in
     let m = s .before .before .before in
     let f = m .before .before in
-    entry-told _ _ _ _ _ _ _ _ (sym (f .from-u8 .ensures) ∙ m .mode .given .1) (writes-to _ _ _ _ _ _ _ (s .serialize .ensures) (c .written-or .ensures))
+    entry-told _ _ _ _ _ _ _ _ (sym (f .from-u8 .ensures .answer) ∙ m .mode .given .1) (writes-to _ _ _ _ _ _ _ (s .serialize .ensures) (c .written-or .ensures))
 
 pub powerlink-serialize-entry-spec : {M : Type 1} → statement M
 powerlink-serialize-entry-spec =

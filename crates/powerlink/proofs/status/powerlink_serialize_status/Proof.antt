@@ -18,7 +18,7 @@ returns-2 c =
     let p = c .before .before in
     let b = p .before .before in
     let f = b .before .before in
-    refuses-coded _ _ _ _ _ _ _ _ (rw (eq-eqb _ 0 (f .before .if1 .left), ← f .from-u8 .ensures, b .b .given .1, p .payload-len .ensures)) (c .unnamed .ensures)
+    refuses-coded _ _ _ _ _ _ _ _ (rw (eq-eqb _ 0 (f .before .if1 .left), ← f .from-u8 .ensures .answer, b .b .given .1, p .payload-len .ensures)) (c .unnamed .ensures)
 
 returns-3 : tie.Need-returns-3
 returns-3 c =
@@ -28,7 +28,7 @@ returns-3 c =
     let n = p .before .before in
     let f = n .before .before in
     let whole = eq-eqb _ 0 (f .before .if1 .left) in
-    writes-coded _ _ _ _ _ _ _ _ _ (rw (whole, ← f .from-u8 .ensures, n .nmt-state .given .1, p .from-bits .ensures, g .from-bytes .ensures)) (rw whole at (s .serialize .ensures)) (c .written-or .ensures)
+    writes-coded _ _ _ _ _ _ _ _ _ (rw (whole, ← f .from-u8 .ensures .answer, n .nmt-state .given .1, p .from-u82 .ensures, g .from-bytes .ensures)) (rw whole at (s .serialize .ensures)) (c .written-or .ensures)
 
 pub powerlink-serialize-status-spec : {M : Type 1} → statement M
 powerlink-serialize-status-spec =

@@ -6,10 +6,10 @@ use mathlib.Core.Bool.{true, false}
 use mathlib.Core.List.{[], _∷_}
 use lib.ListN.{getD}
 use lib.Dec.{eqb, ltb}
-use Rattle.types.specs.Causes.{Cause, row, causeOf}
+use Rattle.types.specs.Causes.{Cause, row, causeOf, errorTold}
 use Rattle.types.specs.Codes.{pick}
 use Rattle.types.specs.declared.hal.PowerlinkError.{PowerlinkError}
-use Rattle.error_entry.specs.Values.{flagIn, entryNumbers, entryTold, errorTold}
+use Rattle.error_entry.specs.Values.{flagIn, entryNumbers, entryTold}
 use Rattle.error_entry.specs.declared.ErrorEntry.{ErrorEntry}
 use Rattle.collector.specs.Rules.{registerCause, readCause, flagsCause, requestCause, takeCause}
 use Rattle.collector.specs.declared.FlagsAnswer.{FlagsAnswer}

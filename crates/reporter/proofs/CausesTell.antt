@@ -4,8 +4,9 @@ use mathlib.Core.Path.{_≡_, refl, ap, _∙_}
 use Rattle.section.specs.Write.{writeCause}
 use Rattle.section.specs.declared.WriteAnswer.{WriteAnswer}
 use Rattle.section.specs.declared.WriteAnswer.the-variants as write
-use Rattle.error_entry.proofs.Values.{not-0, apart, values-tell}
-use Rattle.reporter.specs.Causes.{newTold, raiseTold, writeTold, readTold, CausesTell}
+use Rattle.types.proofs.Apart.{apart}
+use Rattle.types.proofs.CausesTell.{not-0, error-told}
+use Rattle.reporter.specs.CausesTell.{newTold, raiseTold, writeTold, readTold, CausesTell}
 use Rattle.reporter.specs.Rules.{newCause, raiseCause, readCause}
 use Rattle.reporter.specs.declared.NewAnswer.{NewAnswer}
 use Rattle.reporter.specs.declared.NewAnswer.the-variants.{Made, IdOutOfRange}
@@ -25,13 +26,13 @@ raise-told QueueFull = refl
 
 pub write-told : (a : WriteAnswer) → writeTold (writeCause a) ≡ a
 write-told (write.Written n) = refl
-write-told (write.Refused e) = not-0 e _ _ ∙ ap write.Refused (values-tell .errors e 0)
+write-told (write.Refused e) = not-0 e _ _ ∙ ap write.Refused (error-told e 0)
 
 pub read-told : (a : ReadAnswer) → readTold (readCause a) ≡ a
 read-told Closed = cc
 read-told Kept = cc
 read-told Ignored = cc
-read-told (Refused e) = not-0 e _ _ ∙ ap Refused (values-tell .errors e 0)
+read-told (Refused e) = not-0 e _ _ ∙ ap Refused (error-told e 0)
 
 pub causes-tell : CausesTell
 causes-tell =

@@ -5,13 +5,12 @@ use mathlib.Core.Path.{_≡_}
 use mathlib.Core.List.{[], _∷_}
 use lib.ListN.{getD}
 use lib.Dec.{eqb}
-use Rattle.types.specs.Causes.{Cause, row, causeOf}
+use Rattle.types.specs.Causes.{Cause, row, causeOf, errorTold}
 use Rattle.types.specs.Codes.{pick}
 use Rattle.types.specs.declared.hal.PowerlinkError.{PowerlinkError}
 use Rattle.section.specs.Write.{writeCause}
 use Rattle.section.specs.declared.WriteAnswer.{WriteAnswer}
 use Rattle.section.specs.declared.WriteAnswer.the-variants as write
-use Rattle.error_entry.specs.Values.{errorTold}
 use Rattle.reporter.specs.Rules.{newCause, raiseCause, readCause}
 use Rattle.reporter.specs.declared.NewAnswer.{NewAnswer}
 use Rattle.reporter.specs.declared.NewAnswer.the-variants.{Made, IdOutOfRange}

@@ -1,8 +1,10 @@
 -- Number and values of an answer tell which it is.
 -- Assumes nothing.
 use mathlib.Core.Path.{_≡_, refl, ap, _∙_}
-use Rattle.error_entry.proofs.Values.{flag-told, not-0, below-8, apart, values-tell}
-use Rattle.collector.specs.Causes.{registerTold, readTold, flagsTold, requestTold, takeTold, CausesTell}
+use Rattle.types.proofs.Apart.{apart}
+use Rattle.types.proofs.CausesTell.{not-0, below-8, error-told}
+use Rattle.error_entry.proofs.Values.{flag-told, values-tell}
+use Rattle.collector.specs.CausesTell.{registerTold, readTold, flagsTold, requestTold, takeTold, CausesTell}
 use Rattle.collector.specs.Rules.{registerCause, readCause, flagsCause, requestCause, takeCause}
 use Rattle.collector.specs.declared.FlagsAnswer.{FlagsAnswer}
 use Rattle.collector.specs.declared.FlagsAnswer.the-variants as flagging
@@ -24,7 +26,7 @@ register-told Full = refl
 pub read-told : (a : ReadAnswer) → readTold (readCause a) ≡ a
 read-told Booked = cc
 read-told Known = cc
-read-told (Refused e) = not-0 e _ _ ∙ below-8 e _ _ ∙ ap Refused (values-tell .errors e 0)
+read-told (Refused e) = not-0 e _ _ ∙ below-8 e _ _ ∙ ap Refused (error-told e 0)
 read-told NotStatusResponse = cc
 read-told NotRegistered = cc
 read-told BookFull = cc
@@ -36,7 +38,7 @@ flags-told flagging.NotRegistered = refl
 pub request-told : (a : RequestAnswer) → requestTold (requestCause a) ≡ a
 request-told (requesting.Written n) = refl
 request-told requesting.NotRegistered = refl
-request-told (requesting.Refused e) = not-0 e _ _ ∙ below-8 e _ _ ∙ ap requesting.Refused (values-tell .errors e 0)
+request-told (requesting.Refused e) = not-0 e _ _ ∙ below-8 e _ _ ∙ ap requesting.Refused (error-told e 0)
 
 pub take-told : (a : TakeAnswer) → takeTold (takeCause a) ≡ a
 take-told (taking.Taken e) = ap taking.Taken (values-tell .entries e)

@@ -8,7 +8,7 @@ use lib.ListN.{getD}
 use Rattle.types.specs.Causes.{Cause, row}
 use Rattle.types.specs.Codes.{pick}
 use Rattle.types.proofs.Apart.{apart}
-use Rattle.journal_records.specs.Causes.{CausesTell}
+use Rattle.journal_records.specs.CausesTell.{CausesTell}
 use Rattle.journal_records.specs.Parts.{listCause}
 use Rattle.journal_records.specs.Record.{journalCause}
 use Rattle.journal_records.specs.Whole.{wholeLenCause}
