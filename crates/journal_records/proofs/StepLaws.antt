@@ -6,6 +6,7 @@ use mathlib.Core.Path.{_≡_, refl, ap, _∙_}
 use mathlib.Core.List.{List}
 use native.Mathlib.Nat.{zero-add}
 use native.Mathlib.Omega.{arith}
+use lib.Dec.{ltb}
 use lib.ListN.{length, drop}
 use borrow.Author.Tests.{le-leb, lt-leb, eq-eqb, ne-eqb}
 use Rattle.octets.specs.Numbers.{leAt}
@@ -51,7 +52,7 @@ module _ (s : List ℕ) where
     unfolding recordAt
     entry-read t a e et ea ee = record-read s 1 a e (omega arith) (ea ∙ ap readEntry et) ee
 
-    pub record-fault : validRecord (nodeOf s) (recordedEntry s) ≡ false → recordStep s last ≡ refusal 19
+    pub record-fault : validRecord (nodeOf s) (recordedEntry s) ≡ false → recordStep s ≡ refusal RecordInvalid Records
     unfolding recordStep version1 goodRecord
     record-fault e = rw (le-leb 21 (length s) long, e)
 
