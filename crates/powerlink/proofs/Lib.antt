@@ -3,5 +3,6 @@ mod Collectors
 mod Journals
 mod Readers
 mod Reporters
+mod States
 mod Told
 mod Writers

@@ -68,7 +68,7 @@ module _ (f : List ℕ) (d : DeserializedEthHeader) (w : d ≡ deserializeEthHea
 
 module _ (s : List ℕ) (v : List ℕ) where
   pub pl-refused : (r o o′ : ℕ) (e : PowerlinkError) → deserializePlHeader s ≡ pl.Refused e → Told e r o o′ → PlRead s r v v o o′
-  pl-refused r o o′ e q t = record { cause = t .0 ∙ rw q; values = rw q; octet = t .1 ∙ sym (not-0 e _ _) ∙ rw q }
+  pl-refused r o o′ e q t = record { cause = t .0 ∙ rw q; values = rw q; octet = t .1 ∙ sym (not-0 e o (errorOctet e o)) ∙ rw q }
 
   pub pl-read : (o m : ℕ) (h : PlHeader) → deserializePlHeader s ≡ pl.Read h → m ≡ messageCode (h .«message_type»)
       → PlRead s 0 v (m ∷ h .destination .0 ∷ h .source .0 ∷ []) o o
