@@ -1,3 +1,4 @@
+pub mod CausesTell
 pub mod Fields
 pub mod Numbers
 pub mod Places

@@ -12,6 +12,7 @@ use Rattle.types.specs.Modes.{modeCode, modeIn}
 use Rattle.types.specs.declared.error_mode.ErrorEntryMode.the-variants.{Terminator}
 use Rattle.types.specs.declared.hal.PowerlinkError.the-variants.{BufferTooShort}
 use Rattle.section.specs.Write.{atBit}
+use Rattle.error_entry.specs.Values.{entryNumbers}
 use Rattle.error_entry.specs.declared.EntryType.{EntryType}
 use Rattle.error_entry.specs.declared.ErrorEntry.{ErrorEntry}
 use Rattle.error_entry.specs.declared.ErrorEntryAnswer.{ErrorEntryAnswer}
@@ -64,9 +65,9 @@ terminator =
 unfoldable pub readEntry : List ℕ → ErrorEntryAnswer
 readEntry s = need (leb entryLength (length s)) (Refused BufferTooShort) (Entry (entryOf s))
 
--- 01's number for each case: 0 for what is read
+-- 01's number and values for each case: 0 with the entry's numbers, or the cause
 abbrev pub entryCause : ErrorEntryAnswer → Cause
-entryCause (Entry e) = row 0 []
+entryCause (Entry e) = row 0 (entryNumbers e)
 entryCause (Refused e) = causeOf e
 
 -- the entry that was read, or a terminator

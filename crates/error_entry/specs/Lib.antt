@@ -1,3 +1,4 @@
+pub mod CausesTell
 pub mod Entry
 pub mod ReadBack
 pub mod Values

@@ -21,7 +21,9 @@ use codec::pres::PResVerdict;
 use codec::soa::SoAVerdict;
 use codec::soc::SocVerdict;
 use frame::PowerlinkFrame;
+use octets::slices::byte_at;
 use octets::slices::tail;
+use types::basic::ETH_LEN;
 use types::hal::PowerlinkError;
 use types::message_type::MessageType;
 
@@ -36,7 +38,7 @@ pub extern "C" fn powerlink_deserialize_frame(
 {
     match kind_of(buffer) {
         KindAnswer::Refused(e) => refusal(e, octet),
-        KindAnswer::Kind(kind) => read_kind(kind, tail(buffer, 14), values, octet),
+        KindAnswer::Kind(kind) => read_kind(kind, tail(buffer, ETH_LEN), values, octet),
     }
 }
 
@@ -85,7 +87,10 @@ fn read_pres(s: &[u8], values: &mut [u64; 16], octet: &mut u8) -> u8
     match codec::pres::judge(s) {
         PResVerdict::Read(state, size) => {
             let f = codec::pres::fields(s, state, size);
-            *values = pres_values(f, payload_place(PowerlinkFrame::PRes(f), s));
+            let mut numbers = pres_values(f, payload_place(PowerlinkFrame::PRes(f), s));
+            // The state's number is its octet: the compiler then makes no table of states.
+            numbers[10] = byte_at(s, 3) as u64;
+            *values = numbers;
             0
         }
         PResVerdict::TooShort => refusal(PowerlinkError::BufferTooShort, octet),
@@ -100,7 +105,11 @@ fn read_soa(s: &[u8], values: &mut [u64; 16], octet: &mut u8) -> u8
     match codec::soa::judge(s) {
         SoAVerdict::Read(state, service) => {
             let f = codec::soa::fields(s, state, service);
-            *values = soa_values(f, payload_place(PowerlinkFrame::SoA(f), s));
+            let mut numbers = soa_values(f, payload_place(PowerlinkFrame::SoA(f), s));
+            // And so is the service's.
+            numbers[7] = byte_at(s, 6) as u64;
+            numbers[10] = byte_at(s, 3) as u64;
+            *values = numbers;
             0
         }
         SoAVerdict::TooShort => refusal(PowerlinkError::BufferTooShort, octet),

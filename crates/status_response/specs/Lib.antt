@@ -1,4 +1,5 @@
 pub mod BitField
+pub mod CausesTell
 pub mod Fields
 pub mod Given
 pub mod Parts

@@ -6,8 +6,10 @@ use mathlib.Core.Path.{_≡_, refl, ap, sym, _∙_}
 use mathlib.Core.List.{List, [], _∷_}
 use borrow.Author.Tests.{eqb-true}
 use lib.Dec.{eqb}
+use lib.ListN.{getD}
+use Rattle.types.specs.CauseNumbers.{unknownState, unknownRequest}
 use Rattle.types.specs.Causes.{Cause, row}
-use Rattle.types.specs.CodeCauses.{messageCause, stateCause, serviceCause, requestedCause, modeCause, ReadsMessage, ReadsState, ReadsService, ReadsRequested, ReadsMode}
+use Rattle.types.specs.CodeCauses.{codeRow, messageCause, stateCause, serviceCause, requestedCause, modeCause, ReadsMessage, ReadsState, ReadsService, ReadsRequested, ReadsMode}
 use Rattle.types.specs.Codes.{pick, decoded}
 use Rattle.types.specs.Messages.{messageCode, messages, messageOf}
 use Rattle.types.specs.Modes.{modeCode, modes, modeOf}
@@ -18,10 +20,12 @@ use Rattle.types.specs.declared.error_mode.ErrorEntryModeAnswer.{ErrorEn
 use Rattle.types.specs.declared.error_mode.ErrorEntryModeAnswer.the-variants as mode
 use Rattle.types.specs.declared.message_type.MessageTypeAnswer.{MessageTypeAnswer}
 use Rattle.types.specs.declared.message_type.MessageTypeAnswer.the-variants as message
+use Rattle.types.specs.declared.requested_service.RequestedServiceId.{RequestedServiceId}
 use Rattle.types.specs.declared.requested_service.RequestedServiceIdAnswer.{RequestedServiceIdAnswer}
 use Rattle.types.specs.declared.requested_service.RequestedServiceIdAnswer.the-variants as requested
 use Rattle.types.specs.declared.service.ServiceIdAnswer.{ServiceIdAnswer}
 use Rattle.types.specs.declared.service.ServiceIdAnswer.the-variants as service
+use Rattle.types.specs.declared.states.NmtState.{NmtState}
 use Rattle.types.specs.declared.states.NmtStateAnswer.{NmtStateAnswer}
 use Rattle.types.specs.declared.states.NmtStateAnswer.the-variants as state
 
@@ -82,3 +86,22 @@ module _ (b : ℕ) where
         answer = e;
         cause = ap modeCause e ∙ decoded-told modeCode mode.Known (mode.Unknown b) modeCause read b (λ x. refl) modes;
       }
+
+-- ---- the code of what an octet was read as is that octet
+
+same-value : {A : Type 0} (code : A → ℕ) (n b : ℕ) (xs : List A) → getD (codeRow code xs n b .returned) 0 0 ≡ b
+same-value code n b [] = refl
+same-value code n b (x ∷ xs) = split (eqb b (code x)) (same-value code n b xs)
+  where
+    split : (e : Bool) → getD (codeRow code xs n b .returned) 0 0 ≡ b → getD (pick e (row 0 (b ∷ [])) (codeRow code xs n b) .returned) 0 0 ≡ b
+    split true below = refl
+    split false below = below
+
+pub state-code : (b : ℕ) (x : NmtState) → stateOf b ≡ state.Known x → stateCode x ≡ b
+state-code b x e =
+    ap (λ (c : Cause). getD (c .returned) 0 0) (ap stateCause (sym e) ∙ state-told b (stateOf b) refl .cause) ∙ same-value stateCode unknownState b states
+
+pub requested-code : (b : ℕ) (x : RequestedServiceId) → requestedOf b ≡ requested.Known x → requestedCode x ≡ b
+requested-code b x e =
+    ap (λ (c : Cause). getD (c .returned) 0 0) (ap requestedCause (sym e) ∙ requested-told b (requestedOf b) refl .cause)
+    ∙ same-value requestedCode unknownRequest b requestedServices
