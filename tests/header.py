@@ -74,7 +74,7 @@ CONSTANTS = {
     'COLLECTOR_LEN': ('collector', 'COLLECTOR_LEN'),
     'ETH_LEN': ('types', 'ETH_LEN'),
     'ENTRY_LEN': ('error_entry', 'ENTRY_LEN'),
-    'RECORD_LEN': ('journal_records', 'RECORD_LEN'),
+    'RECORD_LEN': ('journal_records', 'JOURNAL_RECORD_LEN'),
     'JOURNAL_START_LEN': ('journal_records', 'JOURNAL_START_LEN'),
     'ETH_LEN': ('types', 'ETH_LEN'),
     'ETHER_TYPE': ('types', 'C_DLL_ETHERTYPE_EPL'),

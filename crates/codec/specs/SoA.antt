@@ -15,7 +15,7 @@ use Rattle.types.specs.declared.requested_service.RequestedServiceIdAnswer.the-
 use Rattle.types.specs.declared.states.NmtState.{NmtState}
 use Rattle.types.specs.declared.states.NmtStateAnswer.{NmtStateAnswer}
 use Rattle.types.specs.declared.states.NmtStateAnswer.the-variants as state
-use Rattle.control.specs.SoA.{eaBit, erBit}
+use Rattle.control.specs.SoA.{eaBit, erBit, soaFieldsLength}
 use Rattle.control.specs.declared.soa.SoAFrame.{SoAFrame}
 use Rattle.codec.specs.declared.FrameAnswer.{FrameAnswer}
 use Rattle.codec.specs.declared.FrameAnswer.the-variants.{Frame, Refused}
@@ -42,6 +42,6 @@ abbrev pub soaByState : List ℕ → NmtStateAnswer → FrameAnswer
 soaByState s (state.Unknown b) = Refused (InvalidNmtState b)
 soaByState s (state.Known st) = soaByService s st (requestedOf (getD s 6 0))
 
--- 9 octets are needed; the state is tested before the service
+-- the octets of the fields are needed; the state is tested before the service
 unfoldable pub readSoA : List ℕ → FrameAnswer
-readSoA s = need (leb 9 (length s)) (Refused BufferTooShort) (soaByState s (stateOf (getD s 3 0)))
+readSoA s = need (leb soaFieldsLength (length s)) (Refused BufferTooShort) (soaByState s (stateOf (getD s 3 0)))

@@ -7,7 +7,7 @@ use lib.Dec.{leb}
 use Rattle.octets.specs.Numbers.{bit, leAt}
 use Rattle.types.specs.Codes.{need}
 use Rattle.types.specs.declared.hal.PowerlinkError.the-variants.{BufferTooShort}
-use Rattle.control.specs.SoC.{mcBit, psBit}
+use Rattle.control.specs.SoC.{mcBit, psBit, socFieldsLength}
 use Rattle.control.specs.declared.soc.SocFrame.{SocFrame}
 use Rattle.codec.specs.declared.FrameAnswer.{FrameAnswer}
 use Rattle.codec.specs.declared.FrameAnswer.the-variants.{Frame, Refused}
@@ -24,6 +24,6 @@ socOf s =
       «relative_time» = record { 0 = leAt 8 14 s };
     }
 
--- 22 octets are needed
+-- the octets of the fields are needed
 unfoldable pub readSoC : List ℕ → FrameAnswer
-readSoC s = need (leb 22 (length s)) (Refused BufferTooShort) (Frame (Soc (socOf s)))
+readSoC s = need (leb socFieldsLength (length s)) (Refused BufferTooShort) (Frame (Soc (socOf s)))

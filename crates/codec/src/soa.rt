@@ -5,6 +5,7 @@ ghost use Rattle.codec.specs.SoA.{soaOf, readSoA};
 use crate::FrameAnswer;
 use control::soa::EA;
 use control::soa::ER;
+use control::soa::FIELDS_LEN;
 use control::soa::SoAFlags;
 use control::soa::SoAFrame;
 use frame::PowerlinkFrame;
@@ -28,7 +29,7 @@ pub enum SoAVerdict {
 pub fn judge(s: &[u8]) -> SoAVerdict
     ensures { λ r. ⌜ soaAnswer r (now (s .entry)) ≡ readSoA (now (s .entry)) ⌝ }
 {
-    if s.len() < 9 {
+    if s.len() < FIELDS_LEN {
         return SoAVerdict::TooShort;
     }
     match NmtState::from_u8(s[3]) {

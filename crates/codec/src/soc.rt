@@ -3,6 +3,7 @@ ghost use mathlib.Core.Path.{_≡_};
 ghost use Rattle.codec.specs.Verdicts.{socAnswer, socTimed};
 ghost use Rattle.codec.specs.SoC.{readSoC};
 use crate::FrameAnswer;
+use control::soc::FIELDS_LEN;
 use control::soc::MC;
 use control::soc::PS;
 use control::soc::SocFlags;
@@ -25,7 +26,7 @@ pub enum SocVerdict {
 pub fn judge(s: &[u8]) -> SocVerdict
     ensures { λ r. ⌜ socAnswer r (now (s .entry)) ≡ readSoC (now (s .entry)) ⌝ }
 {
-    if s.len() < 22 {
+    if s.len() < FIELDS_LEN {
         return SocVerdict::TooShort;
     }
     let net_time = NetTime {

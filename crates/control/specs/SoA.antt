@@ -45,7 +45,11 @@ erBit = 1
 abbrev pub soaFlagBits : SoAFlags → ℕ
 soaFlagBits f = atBit eaBit (f .ea) + atBit erBit (f .er)
 
--- the 9 octets of the fields
+-- how many octets the fields have
+abbrev pub soaFieldsLength : ℕ
+soaFieldsLength = 9
+
+-- the octets of the fields
 abbrev pub soaBytes : SoAFrame → List ℕ
 soaBytes f =
     messageCode message.SoA ∷ f .destination .0 ∷ f .source .0 ∷ stateCode (f .«nmt_state») ∷ soaFlagBits (f .flags) ∷ 0

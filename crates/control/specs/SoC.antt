@@ -40,7 +40,11 @@ psBit = 6
 abbrev pub socFlagBits : SocFlags → ℕ
 socFlagBits f = atBit mcBit (f .mc) + atBit psBit (f .ps)
 
--- the 22 octets of the fields
+-- how many octets the fields have
+abbrev pub socFieldsLength : ℕ
+socFieldsLength = 22
+
+-- the octets of the fields
 abbrev pub socBytes : SocFrame → List ℕ
 socBytes f =
     messageCode message.SoC ∷ f .destination .0 ∷ f .source .0 ∷ 0 ∷ socFlagBits (f .flags) ∷ 0

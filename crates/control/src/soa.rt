@@ -18,6 +18,9 @@ use types::message_type::MessageType;
 use types::requested_service::RequestedServiceId;
 use types::states::NmtState;
 
+// How many octets the fields have.
+pub const FIELDS_LEN: usize = 9;
+
 // The flags (EPSG DS 301, Table 22).
 pub struct SoAFlags {
     // Exception acknowledge.
@@ -78,10 +81,10 @@ impl SoAFrame {
     }
 
     // The octets of the fields.
-    pub fn to_bytes(self) -> [u8; 9]
+    pub fn to_bytes(self) -> [u8; FIELDS_LEN]
         ensures { λ r. ⌜ r ≡ soaBytes self ⌝ }
     {
-        let mut octets = [0u8; 9];
+        let mut octets = [0u8; FIELDS_LEN];
         put(&mut octets, 0, &first_octets(self));
         octets[8] = self.epl_version.0;
         octets

@@ -21,6 +21,9 @@ use types::common::NetTime;
 use types::common::RelativeTime;
 use types::message_type::MessageType;
 
+// How many octets the fields have.
+pub const FIELDS_LEN: usize = 22;
+
 // The flags (EPSG DS 301, Table 16).
 pub struct SocFlags {
     // Multiplexed cycle completed.
@@ -74,11 +77,11 @@ impl SocFrame {
     }
 
     // The octets of the fields.
-    pub fn to_bytes(self) -> [u8; 22]
+    pub fn to_bytes(self) -> [u8; FIELDS_LEN]
         ensures { λ r. ⌜ r ≡ socBytes self ⌝ }
     {
         let net_time = self.net_time;
-        let mut octets = [0u8; 22];
+        let mut octets = [0u8; FIELDS_LEN];
         put(&mut octets, 0, &node_octets(self));
         put(&mut octets, 4, &flag_octets(self));
         put(&mut octets, 6, &time_octets(net_time));

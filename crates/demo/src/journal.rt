@@ -1,7 +1,7 @@
 // The journal of what the box hands out (01, "Journal"): a record for each entry, in a file where one is named.
 use error_entry::ErrorEntry;
+use journal_records::JOURNAL_RECORD_LEN;
 use journal_records::JournalAnswer;
-use journal_records::RECORD_LEN;
 use libc::STDERR_FILENO;
 use types::NodeId;
 
@@ -44,7 +44,7 @@ fn keep(journal: i32, octets: &[u8]) -> i32 {
 
 // Makes the record of an entry that was handed out and writes it to the journal; answers where those behind it go.
 pub fn record(journal: i32, id: u8, e: ErrorEntry) -> i32 {
-    let mut octets = [0u8; RECORD_LEN];
+    let mut octets = [0u8; JOURNAL_RECORD_LEN];
     match journal_records::write(NodeId(id), e, &mut octets) {
         JournalAnswer::Written(_) => keep(journal, &octets),
         JournalAnswer::BufferTooShort => REFUSED,

@@ -11,10 +11,9 @@ use lib.Seq.{sets, set-comm, length-take-le}
 use borrow.Rule.Slice.PartMut.{midOf, putMid}
 use borrow.Author.Tests.{le-leb, lt-leb, leb-true, leb-false}
 use Rattle.octets.proofs.Sets.{sets-front}
-use Rattle.types.specs.Modes.{modeCode}
+use Rattle.types.specs.Modes.{unlessTerminator}
 use Rattle.types.specs.Nodes.{isCnNodeId}
 use Rattle.types.specs.declared.NodeId.{NodeId}
-use Rattle.types.specs.declared.error_mode.ErrorEntryMode.{ErrorEntryMode}
 use Rattle.section.specs.Write.{Writes}
 use Rattle.section.specs.declared.WriteAnswer.{WriteAnswer}
 use Rattle.error_entry.specs.Entry.{entryBytes}
@@ -30,9 +29,9 @@ module _ (node : ℕ) (e : ErrorEntry) where
   unfolding validRecord
   id-bad h = rw h
 
-  pub by-mode : (m : ErrorEntryMode) → isCnNodeId node ≡ true → e .«entry_type» .mode ≡ m → leb 1 (modeCode m) ≡ validRecord node e
+  pub by-mode : (valid : Bool) → isCnNodeId node ≡ true → valid ≡ unlessTerminator (e .«entry_type» .mode) true false → valid ≡ validRecord node e
   unfolding validRecord
-  by-mode m cn em = rw cn (ap (λ (k : ErrorEntryMode). leb 1 (modeCode k)) (sym em))
+  by-mode valid cn em = rw cn em
 
   pub valid-id : validRecord node e ≡ true → node ≤ 239
   unfolding validRecord

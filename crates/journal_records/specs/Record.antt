@@ -9,7 +9,7 @@ use lib.Dec.{leb}
 use Rattle.types.specs.CauseNumbers as cause
 use Rattle.types.specs.Causes.{Cause, row}
 use Rattle.types.specs.Codes.{pick, need}
-use Rattle.types.specs.Modes.{modeCode}
+use Rattle.types.specs.Modes.{unlessTerminator}
 use Rattle.types.specs.Nodes.{isCnNodeId}
 use Rattle.types.specs.declared.NodeId.{NodeId}
 use Rattle.error_entry.specs.Entry.{entryBytes}
@@ -22,7 +22,7 @@ recordBytes node e = node ∷ entryBytes e
 
 -- the ID is 1 to 239, and the mode is not 0
 unfoldable pub validRecord : ℕ → ErrorEntry → Bool
-validRecord node e = isCnNodeId node && leb 1 (modeCode (e .«entry_type» .mode))
+validRecord node e = isCnNodeId node && unlessTerminator (e .«entry_type» .mode) true false
 
 -- 1, then 19
 abbrev pub journalAnswer : ℕ → ErrorEntry → ℕ → JournalAnswer

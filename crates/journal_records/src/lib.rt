@@ -8,7 +8,6 @@ mod text;
 
 use error_entry::ErrorEntry;
 use types::NodeId;
-use types::error_mode::ErrorEntryMode;
 
 // The version whose records are written and listed.
 pub(crate) const VERSION: u16 = 1;
@@ -17,7 +16,7 @@ pub(crate) const VERSION: u16 = 1;
 pub const JOURNAL_START_LEN: usize = 5;
 
 // The octets of a record: the node ID, and the entry's 20.
-pub const RECORD_LEN: usize = 21;
+pub const JOURNAL_RECORD_LEN: usize = 21;
 
 pub enum JournalAnswer {
     Written(usize),
@@ -37,7 +36,7 @@ pub enum WholeLenAnswer {
 pub fn write(node: NodeId, entry: ErrorEntry, target: &mut [u8]) -> JournalAnswer
     ensures { λ r. ⌜ WritesRecord node entry r (now (target .entry)) (now (target .exit)) ⌝ }
 {
-    if target.len() < RECORD_LEN {
+    if target.len() < JOURNAL_RECORD_LEN {
         return JournalAnswer::BufferTooShort;
     }
     if !valid(node, entry) {
@@ -45,7 +44,7 @@ pub fn write(node: NodeId, entry: ErrorEntry, target: &mut [u8]) -> JournalAnswe
     }
     entry.serialize(&mut target[1..]);
     target[0] = node.0;
-    JournalAnswer::Written(RECORD_LEN)
+    JournalAnswer::Written(JOURNAL_RECORD_LEN)
 }
 
 // Whether a record holds an entry of a controlled node.
@@ -57,12 +56,10 @@ fn valid(node: NodeId, entry: ErrorEntry) -> bool
     if !node.is_cn() {
         return false;
     }
-    match mode {
-        ErrorEntryMode::Terminator => false,
-        ErrorEntryMode::ErrorActive => true,
-        ErrorEntryMode::ErrorCleared => true,
-        ErrorEntryMode::EventOccurred => true,
+    if mode.is_terminator() {
+        return false;
     }
+    true
 }
 
 // How many octets of a journal are its mark, its version and whole records. A writer that was stopped, by a power cut say, may
@@ -77,6 +74,6 @@ pub fn whole_len(version: u16, len: usize) -> WholeLenAnswer
     if version != VERSION {
         return WholeLenAnswer::UnknownVersion;
     }
-    let records = (len - JOURNAL_START_LEN) / RECORD_LEN;
-    WholeLenAnswer::Whole(JOURNAL_START_LEN + RECORD_LEN * records)
+    let records = (len - JOURNAL_START_LEN) / JOURNAL_RECORD_LEN;
+    WholeLenAnswer::Whole(JOURNAL_START_LEN + JOURNAL_RECORD_LEN * records)
 }

@@ -6,8 +6,8 @@ ghost use lib.ListN.{length};
 ghost use Rattle.journal_records.specs.Parts.{Lists, Prints, listCause, answerAfter, told, refusal, headerStep, recordStep, stepOf};
 ghost use Rattle.journal_records.specs.Parts.{later as Parts·later, awaits as Parts·awaits, ended as Parts·ended, stopped as Parts·stopped};
 ghost use Rattle.journal_records.specs.Listing.{marked};
+use crate::JOURNAL_RECORD_LEN;
 use crate::JOURNAL_START_LEN;
-use crate::RECORD_LEN;
 use crate::VERSION;
 use crate::text::put_line;
 use crate::text::put_number;
@@ -143,7 +143,7 @@ fn awaits(phase: Phase, n: usize, last: bool) -> bool
     }
     match phase {
         Phase::Header => n < JOURNAL_START_LEN,
-        Phase::Records => n < RECORD_LEN,
+        Phase::Records => n < JOURNAL_RECORD_LEN,
     }
 }
 
@@ -210,7 +210,7 @@ fn has_mark(bytes: &[u8]) -> bool
 fn record(bytes: &[u8], out: &mut [u8]) -> Part
     ensures { λ r. ⌜ Prints (recordStep (now (bytes .entry))) r (now (out .entry)) (now (out .exit)) ⌝ }
 {
-    if bytes.len() < RECORD_LEN {
+    if bytes.len() < JOURNAL_RECORD_LEN {
         return refuse(ListAnswer::RecordInvalid, Phase::Records, out);
     }
     let node = NodeId(bytes[0]);
@@ -222,7 +222,7 @@ fn record(bytes: &[u8], out: &mut [u8]) -> Part
     Part {
         answer: ListAnswer::More,
         phase: Phase::Records,
-        consumed: RECORD_LEN,
+        consumed: JOURNAL_RECORD_LEN,
         written,
     }
 }

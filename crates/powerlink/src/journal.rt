@@ -3,8 +3,8 @@ ghost use Rattle.powerlink.specs.Given.{time};
 ghost use Rattle.powerlink.specs.Journal.{JournalRecords, JournalWhole};
 use error_entry::EntryType;
 use error_entry::ErrorEntry;
+use journal_records::JOURNAL_RECORD_LEN;
 use journal_records::JournalAnswer;
-use journal_records::RECORD_LEN;
 use journal_records::WholeLenAnswer;
 use journal_records::whole_len;
 use journal_records::write;
@@ -36,7 +36,7 @@ pub extern "C" fn powerlink_journal_record(
 {
     match ErrorEntryMode::from_u8(mode) {
         ErrorEntryModeAnswer::Unknown(_) => {
-            if target.len() < RECORD_LEN {
+            if target.len() < JOURNAL_RECORD_LEN {
                 return TOO_SHORT;
             }
             RECORD_INVALID

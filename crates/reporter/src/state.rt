@@ -18,7 +18,6 @@ use crate::WAITING_AT;
 use error_entry::ErrorEntry;
 use octets::slices::byte_at;
 use records::put;
-use types::error_mode::ErrorEntryMode;
 
 pub(crate) fn en(state: &Reporter) -> bool
     ensures { λ r. ⌜ r ≡ enOf (now (state .entry)) ⌝ }
@@ -63,13 +62,10 @@ pub(crate) fn raisable(entry: ErrorEntry) -> bool
 {
     let entry_type = entry.entry_type;
     let mode = entry_type.mode;
-    let small = entry_type.profile < 0x1000;
-    match mode {
-        ErrorEntryMode::Terminator => false,
-        ErrorEntryMode::ErrorActive => small,
-        ErrorEntryMode::ErrorCleared => small,
-        ErrorEntryMode::EventOccurred => small,
+    if mode.is_terminator() {
+        return false;
     }
+    entry_type.profile < 0x1000
 }
 
 // Puts an entry behind the waiting ones.

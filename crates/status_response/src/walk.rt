@@ -5,7 +5,6 @@ use crate::fields::FRONT_LEN;
 use error_entry::ENTRY_LEN;
 use error_entry::ErrorEntry;
 use error_entry::ErrorEntryAnswer;
-use types::error_mode::ErrorEntryMode;
 
 // What a step finds: an entry with the offset after it, or the end of the list.
 pub enum EntryStep {
@@ -30,12 +29,10 @@ fn entry_step(payload: &[u8], offset: usize) -> EntryStep
         ErrorEntryAnswer::Entry(entry) => {
             let entry_type = entry.entry_type;
             let mode = entry_type.mode;
-            match mode {
-                ErrorEntryMode::Terminator => EntryStep::End,
-                ErrorEntryMode::ErrorActive => EntryStep::Entry(entry, offset + ENTRY_LEN),
-                ErrorEntryMode::ErrorCleared => EntryStep::Entry(entry, offset + ENTRY_LEN),
-                ErrorEntryMode::EventOccurred => EntryStep::Entry(entry, offset + ENTRY_LEN),
+            if mode.is_terminator() {
+                return EntryStep::End;
             }
+            EntryStep::Entry(entry, offset + ENTRY_LEN)
         }
     }
 }

@@ -1,7 +1,8 @@
 // The modes of an error entry and their codes (EPSG DS 301, Table 96).
+ghost use mathlib.Core.Bool.{true, false};
 ghost use mathlib.Core.Path.{_≡_};
 ghost use Rattle.types.specs.CodeCauses.{ReadsMode};
-ghost use Rattle.types.specs.Modes.{modeCode, modeIn};
+ghost use Rattle.types.specs.Modes.{modeCode, modeIn, unlessTerminator};
 
 pub enum ErrorEntryMode {
     Terminator,
@@ -39,6 +40,18 @@ impl ErrorEntryMode {
             1 => ErrorEntryMode::ErrorActive,
             2 => ErrorEntryMode::ErrorCleared,
             _ => ErrorEntryMode::EventOccurred,
+        }
+    }
+
+    // Whether it ends a list of entries: it is the mode of none.
+    pub fn is_terminator(self) -> bool
+        ensures { λ r. ⌜ r ≡ unlessTerminator self false true ⌝ }
+    {
+        match self {
+            ErrorEntryMode::Terminator => true,
+            ErrorEntryMode::ErrorActive => false,
+            ErrorEntryMode::ErrorCleared => false,
+            ErrorEntryMode::EventOccurred => false,
         }
     }
 

@@ -4,16 +4,19 @@ use borrow.Author.Needs.{needs}
 use Rattle.types.specs.declared.hal.PowerlinkError.the-variants.{BufferTooShort, InvalidPlFrame, InvalidNmtState}
 use Rattle.frame.specs.declared.PowerlinkFrame.the-variants.{PRes}
 use Rattle.powerlink.proofs.Readers.{section-refused, section-frame}
+use Rattle.powerlink.proofs.States.{pres-told}
 use Rattle.powerlink.proofs.reading.read_pres.Statement.{statement}
 use Rattle.powerlink.proofs.reading.read_pres.Tie as tie
 
 returns : tie.Need-returns
 returns c =
-    let p = c .before in
+    let v = c .before in
+    let p = v .before in
     let f = p .before in
     let m = f .before .before in
-    section-frame _ _ _ _ _ (PRes (f .fields .result)) (rw (f .fields .ensures) (rw (m .state .given .1) at (m .before .before .judge .ensures)))
-    (rw (p .payload-place .ensures) at (c .pres-values .ensures))
+    let judged = rw (m .state .given .1) at (m .before .before .judge .ensures) in
+    section-frame _ _ _ _ _ (PRes (f .fields .result)) (rw (f .fields .ensures) judged)
+    (rw (f .fields .ensures, c .byte-at .ensures) (pres-told _ _ _ judged _ _ (rw (p .payload-place .ensures, f .fields .ensures) at (v .pres-values .ensures))))
 
 returns-2 : tie.Need-returns-2
 returns-2 c =
@@ -34,6 +37,9 @@ pub read-pres-spec : {M : Type 1} → statement M
 read-pres-spec =
     tie.close
     (tie.spec
+    (search needs)
+    (search needs)
+    (search needs)
     (search needs)
     (search needs)
     (search needs)

@@ -4,16 +4,20 @@ use borrow.Author.Needs.{needs}
 use Rattle.types.specs.declared.hal.PowerlinkError.the-variants.{BufferTooShort, InvalidNmtState, InvalidRequestedServiceId}
 use Rattle.frame.specs.declared.PowerlinkFrame.the-variants.{SoA}
 use Rattle.powerlink.proofs.Readers.{section-refused, section-frame}
+use Rattle.powerlink.proofs.States.{soa-told}
 use Rattle.powerlink.proofs.reading.read_soa.Statement.{statement}
 use Rattle.powerlink.proofs.reading.read_soa.Tie as tie
 
 returns : tie.Need-returns
 returns c =
-    let p = c .before in
+    let o = c .before in
+    let v = o .before in
+    let p = v .before in
     let f = p .before in
     let m = f .before .before in
-    section-frame _ _ _ _ _ (SoA (f .fields .result)) (rw (f .fields .ensures) (rw (m .state .given .1) at (m .before .before .judge .ensures)))
-    (rw (p .payload-place .ensures) at (c .soa-values .ensures))
+    let judged = rw (m .state .given .1) at (m .before .before .judge .ensures) in
+    section-frame _ _ _ _ _ (SoA (f .fields .result)) (rw (f .fields .ensures) judged)
+    (rw (f .fields .ensures, c .byte-at2 .ensures, o .byte-at .ensures) (soa-told _ _ _ judged _ _ (rw (p .payload-place .ensures, f .fields .ensures) at (v .soa-values .ensures))))
 
 returns-2 : tie.Need-returns-2
 returns-2 c =
@@ -34,6 +38,12 @@ pub read-soa-spec : {M : Type 1} → statement M
 read-soa-spec =
     tie.close
     (tie.spec
+    (search needs)
+    (search needs)
+    (search needs)
+    (search needs)
+    (search needs)
+    (search needs)
     (search needs)
     (search needs)
     (search needs)
