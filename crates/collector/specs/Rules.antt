@@ -205,7 +205,7 @@ readCause Booked = row 0 (1 ∷ [])
 readCause Known = row 0 (0 ∷ [])
 readCause (Refused e) = causeOf e
 readCause NotStatusResponse = row cause.notStatusResponse []
-readCause NotRegistered = notRegistered
+readCause NotRegistered = row cause.notRegistered []
 readCause BookFull = row cause.bookFull []
 
 abbrev pub whenBooked : {A : Type 0} → ReadAnswer → A → A → A
@@ -240,7 +240,7 @@ flagsAnswer (some p) = flagging.Flags (record { ea = p .ea; er = false })
 -- EA, then ER
 abbrev pub flagsCause : FlagsAnswer → Cause
 flagsCause (flagging.Flags f) = row 0 (asNumber (f .ea) ∷ asNumber (f .er) ∷ [])
-flagsCause flagging.NotRegistered = notRegistered
+flagsCause flagging.NotRegistered = row cause.notRegistered []
 
 -- ---- request
 
@@ -267,7 +267,7 @@ requestAnswer i f target (some p) = requestWritten (requestFrame i f (p .ea)) ta
 
 abbrev pub requestCause : RequestAnswer → Cause
 requestCause (requesting.Written n) = row 0 (n ∷ [])
-requestCause requesting.NotRegistered = notRegistered
+requestCause requesting.NotRegistered = row cause.notRegistered []
 requestCause (requesting.Refused e) = causeOf e
 
 -- what the target then holds
@@ -290,7 +290,7 @@ takeAnswer (some p) = takeFirst (p .book)
 -- the entry's numbers
 abbrev pub takeCause : TakeAnswer → Cause
 takeCause (taking.Taken e) = row 0 (entryNumbers e)
-takeCause taking.NotRegistered = notRegistered
+takeCause taking.NotRegistered = row cause.notRegistered []
 takeCause taking.NothingBooked = row cause.nothingBooked []
 
 -- "and its place is used again"

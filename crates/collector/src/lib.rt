@@ -15,10 +15,11 @@ mod state;
 
 use asking::write_request;
 use book::take_first;
+use codec::PayloadPlace;
+use codec::payload;
 use control::asnd::PAYLOAD_AT;
 use control::soa::SoAFlags;
 use error_entry::ErrorEntry;
-use octets::slices::tail;
 use reading::Heard;
 use reading::hear;
 use reading::read_status;
@@ -155,7 +156,13 @@ pub fn read(state: &mut Collector, buffer: &[u8]) -> ReadAnswer
         Heard::Refused(e) => ReadAnswer::Refused(e),
         Heard::Other => ReadAnswer::NotStatusResponse,
         // The payload from octet 4 of the section on, untrimmed: an answer without entries ends in zeros.
-        Heard::Status(source) => read_status(state, source.0, tail(buffer, PAYLOAD_AT)),
+        Heard::Status(source) => {
+            let place = PayloadPlace {
+                start: PAYLOAD_AT,
+                len: buffer.len(),
+            };
+            read_status(state, source.0, payload(place, buffer))
+        }
     }
 }
 

@@ -14,7 +14,11 @@ const PART: usize = 2048;
 pub fn tail(s: &[u8], at: usize) -> &[u8]
     ensures { λ r. ⌜ Part (s .entry) at (drop at (now (s .entry))) r ⌝ }
 {
-    if at <= s.len() { &s[at..] } else { &s[..0] }
+    if at <= s.len() {
+        &s[at..]
+    } else {
+        &s[s.len()..]
+    }
 }
 
 // The first `n` octets of `s`, or all where it has fewer.

@@ -13,7 +13,7 @@ returns c =
     record {
       octets = rw (f .octets, t .octets);
       block = f .block ∙ t .block;
-      offset = λ within. omega (arith, f .offset (omega arith), t .offset within);
+      offset = omega (arith, f .offset, t .offset);
     }
 
 pub payload-spec : {M : Type 1} → statement M

@@ -3,6 +3,9 @@
 use mathlib.Core.Path.{sym, _∙_}
 use native.Mathlib.Omega.{arith}
 use borrow.Author.Needs.{needs}
+use lib.ListN.{length, drop, length-drop}
+use lib.Seq.{take-all}
+use Rattle.control.specs.ASnd.{asndPayloadAt}
 use Rattle.collector.proofs.CallLaws.{reads-refused, reads-other, reads-status}
 use Rattle.collector.proofs.read.Statement.{statement}
 use Rattle.collector.proofs.read.Tie as tie
@@ -26,7 +29,9 @@ returns-3 c =
     let h = w .before .before in
     let a = h .before .before .args in
     reads-status (a .state .now) (a .buffer .now) (c .read-status .ensures .1) (λ i. omega (arith, h .before .shared-slice-known .given i))
-    (w .source .given .0 .0) (sym (w .source .given .1) ∙ h .hear .ensures) _ (t .tail .ensures .octets) _ _ (c .read-status .ensures .0)
+    (w .source .given .0 .0) (sym (w .source .given .1) ∙ h .hear .ensures) _
+    (t .payload .ensures .octets ∙ take-all (length (a .buffer .now)) (drop asndPayloadAt (a .buffer .now)) (simp length-drop (omega arith))) _ _
+    (c .read-status .ensures .0)
 
 pub read-spec : {M : Type 1} → statement M
 read-spec =

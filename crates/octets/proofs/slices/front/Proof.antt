@@ -15,7 +15,7 @@ slice-aggregate-result c = sym (length-take-le _ (c .before .before .args .s .no
 
 returns-2 : tie.Need-returns-2
 returns-2 c =
-    record { octets = sym (take-all _ (c .before .args .s .now) (le-of-lt (c .if1 .left))); block = refl; offset = λ within. omega arith }
+    record { octets = sym (take-all _ (c .before .args .s .now) (le-of-lt (c .if1 .left))); block = refl; offset = omega arith }
 
 pub front-spec : {M : Type 1} → statement M
 front-spec = tie.close (tie.spec slice-aggregate-result (λ c. search needs) returns-2)

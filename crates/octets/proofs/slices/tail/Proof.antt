@@ -1,7 +1,7 @@
 -- `slices::tail` meets its contract. Assumes nothing.
 use borrow.Author.Needs.{needs}
-use mathlib.Core.Path.{refl, sym}
-use native.Mathlib.Nat.{add-comm, le-of-lt}
+use mathlib.Core.Path.{refl, sym, _∙_}
+use native.Mathlib.Nat.{le-of-lt}
 use Prim.Native.Nat.{_-_}
 use lib.ListN.{length, drop, length-drop, drop-of-length-le}
 use lib.Seq.{take-all}
@@ -15,17 +15,30 @@ returns c =
     record {
       octets = take-all (length (a .s .now) - a .at) (drop (a .at) (a .s .now)) (simp length-drop (omega arith));
       block = refl;
-      offset = λ within. add-comm _ _;
+      offset = omega (arith, c .before .if1 .taken);
     }
 
 returns-2 : tie.Need-returns-2
 returns-2 c =
     let a = c .before .before .args in
     record {
-      octets = sym (drop-of-length-le (a .s .now) (le-of-lt (c .before .if1 .left)));
+      octets =
+          take-all (length (a .s .now) - length (a .s .now)) (drop (length (a .s .now)) (a .s .now)) (simp length-drop (omega arith))
+          ∙ drop-of-length-le (a .s .now) {i = length (a .s .now)} (omega arith)
+          ∙ sym (drop-of-length-le (a .s .now) (le-of-lt (c .before .if1 .left)));
       block = refl;
-      offset = λ within. omega (arith, within, c .before .if1 .left);
+      offset = omega (arith, c .before .if1 .left);
     }
 
 pub tail-spec : {M : Type 1} → statement M
-tail-spec = tie.close (tie.spec (λ c. search needs) (λ c. search needs) (λ c. search needs) (λ c. search needs) returns returns-2)
+tail-spec =
+    tie.close
+    (tie.spec
+    (λ c. search needs)
+    (λ c. search needs)
+    (λ c. search needs)
+    (λ c. search needs)
+    (λ c. search needs)
+    (λ c. search needs)
+    returns
+    returns-2)
