@@ -100,7 +100,7 @@ enum {
     POWERLINK_UNKNOWN_STATE = 5,           /* octet: the NMT state */
     POWERLINK_UNKNOWN_SERVICE = 6,         /* octet: the service */
     POWERLINK_UNKNOWN_REQUEST = 7,         /* octet: the requested service */
-    POWERLINK_ENTRY_INVALID = 8,           /* an entry to raise has mode 0 or above 3, or a profile above 4,095 */
+    POWERLINK_ENTRY_INVALID = 8,           /* an entry to raise has mode 0 or above 3, or a profile above 4,095; one to write has a mode above 3 */
     POWERLINK_QUEUE_FULL = 9,              /* 16 entries are waiting */
     POWERLINK_NOT_STATUS_RESPONSE = 10,    /* the frame is another one */
     POWERLINK_NOT_REGISTERED = 11,

@@ -75,8 +75,7 @@ pub record CallsAreSteps : Type 0 where
   -- and 01's words of the one are those of the other
   pub words : (i : ℕ) (w : Site) → CRun i w → seenIn i (events (w .log)) ≡ seen i (w .log)
 
--- and the other way round: every list of `signaling` is one of C calls. So those of `signaling/specs/Example.antt` can be made in C, what they
--- show can be met is met, and what loses entries there loses them here.
+-- and the other way round: every list of calls of `signaling` is one of C calls, `LossAndRepeat` of its examples too
 pub record StepsAreCalls : Type 0 where
   pub lists : (i : ℕ) (w : World) → Run i w → (s : Site) × CRun i s × (worldOf s ≡ w)
 

@@ -114,13 +114,6 @@ impl ErrorEntry {
         ErrorEntryAnswer::Entry(entry_in(buffer))
     }
 
-    // The entry that 20 octets are.
-    pub fn from_bytes(octets: &[u8; ENTRY_LEN]) -> ErrorEntry
-        ensures { λ r. ⌜ r ≡ entryOf (now (octets .entry)) ⌝ }
-    {
-        entry_in(octets)
-    }
-
     // Writes the 20 octets, if they fit.
     pub fn serialize(self, target: &mut [u8]) -> WriteAnswer
         ensures { λ r. ⌜ Writes (entryBytes self) r (now (target .entry)) (now (target .exit)) ⌝ }
