@@ -72,15 +72,10 @@ module _ {p₀ p : Phase} {s : List ℕ} {at said : ℕ} {t : List ℕ} {last : 
       ∙ sym (append-assoc (F .text) (take (r .written) after) (dueAfter (r .answer) (r .phase) (drop (r .consumed) (drop at s) ++ rest)))
       ∙ ap (λ (u : List ℕ). so-far ++ dueAfter (r .answer) (r .phase) (u ++ rest)) (drop-drop (r .consumed) at s)
 
-  pub begins : {u : List ℕ} → u ≡ take (r .written) after → Begins u
-  begins eu =
-      record {
-        phase = p;
-        octets = t ++ [];
-        front =
-            rw (eu, lists-in-parts .text L [] (λ e. refl))
-            (take-append-seam (take (r .written) after) (dueAfter (r .answer) (r .phase) (drop (r .consumed) t ++ [])));
-      }
+  pub begins : {u : List ℕ} → u ≡ take (r .written) after → Begins p t last u
+  begins eu rest l =
+      rw (eu, lists-in-parts .text L rest l)
+      (take-append-seam (take (r .written) after) (dueAfter (r .answer) (r .phase) (drop (r .consumed) t ++ rest)))
 
   -- `say` answers n for the text that was printed
   module _ {u : List ℕ} {n : ℕ} (eu : u ≡ take (r .written) after) (h : n ≤ length u) where

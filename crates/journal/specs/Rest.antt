@@ -33,11 +33,9 @@ Follows last rest = last ≡ true → rest ≡ []
 abbrev pub Due : Phase → List ℕ → Bool → List ℕ → Phase → List ℕ → Type 0
 Due p s last text q left = (rest : List ℕ) → Follows last rest → textFrom p (s ++ rest) ≡ text ++ textFrom q (left ++ rest)
 
--- a text that may be said: the listing of some octets, from some phase on, begins with it
-pub record Begins (text : List ℕ) : Type 0 where
-  pub phase : Phase
-  pub octets : List ℕ
-  pub front : take (length text) (textFrom phase octets) ≡ text
+-- a text that may be said of s: of s and whatever follows it, what is due from phase p on begins with it
+abbrev pub Begins : Phase → List ℕ → Bool → List ℕ → Type 0
+Begins p s last text = (rest : List ℕ) → Follows last rest → take (length text) (textFrom p (s ++ rest)) ≡ text
 
 -- a part s of which the octets from `at` on are left: more have to come, and they are fewer than a record. What is due of the
 -- others is said
@@ -58,7 +56,7 @@ pub record Ends (p : Phase) (s : List ℕ) (last : Bool) (said : ℕ) : Type 0 w
 -- fewer octets are said than were to be: those of a front of the text that is due
 pub record Fails (p : Phase) (s : List ℕ) (last : Bool) (said : ℕ) : Type 0 where
   pub text : List ℕ
-  pub due : (rest : List ℕ) → Follows last rest → take (length text) (textFrom p (s ++ rest)) ≡ text
+  pub due : Begins p s last text
   pub fewer : said < length text
 
 abbrev pub Listed : Phase → List ℕ → Bool → ℕ → Rest → Type 0

@@ -32,9 +32,10 @@ struct Outcome {
 }
 
 // Writes a text, and answers how many octets of it are written: all, or none where that fails. No contract tells what C has
-// written: that it is the text, and that the answer is right, is tested.
-fn say(text: &[u8]) -> usize
-    requires { ⌜ Begins (now text) ⌝ }
+// written: that it is the text, and that the answer is right, is tested. The octets that the text is of are lent for the
+// contract alone.
+fn say(phase: Phase, bytes: &[u8], last: bool, text: &[u8]) -> usize
+    requires { ⌜ Begins phase (now bytes) last (now text) ⌝ }
     ensures { λ r. ⌜ r ≤ length (now (text .entry)) ⌝ }
 {
     if io::write_all(STDOUT_FILENO, text) {
@@ -82,10 +83,11 @@ fn list(phase: Phase, bytes: &[u8], last: bool, out: &mut [u8]) -> Outcome
     let mut at = 0;
     let mut said = 0;
     loop {
-        let part = list_part(to_come, tail(bytes, at), last, out);
+        let left = tail(bytes, at);
+        let part = list_part(to_come, left, last, out);
         let answer = part.answer;
         let next = part.phase;
-        let written = say(front(out, part.written));
+        let written = say(to_come, left, last, front(out, part.written));
         at += part.consumed;
         said += written;
         if written < part.written {
