@@ -78,7 +78,7 @@ module _ {p₀ p : Phase} {s : List ℕ} {at said : ℕ} {t : List ℕ} {last : 
       (take-append-seam (take (r .written) after) (dueAfter (r .answer) (r .phase) (drop (r .consumed) t ++ rest)))
 
   -- `say` answers n for the text that was printed
-  module _ {u : List ℕ} {n : ℕ} (eu : u ≡ take (r .written) after) (h : n ≤ length u) where
+  module _ {u : List ℕ} {n : ℕ} (h : n ≤ length u) (eu : u ≡ take (r .written) after) where
     n-most : n ≤ r .written
     n-most = omega (arith, ap length eu, printed)
 

@@ -4,7 +4,7 @@ use Prim.Native.Nat.{ℕ, zero, suc, _+_, _-_, _≤_, min}
 use mathlib.Core.Bool.{Bool, true, false}
 use mathlib.Core.Path.{_≡_, refl, sym, ap, subst, _∙_}
 use mathlib.Core.List.{List, [], _∷_, _++_, append-assoc, append-nil}
-use native.Mathlib.Nat.{zero-add, not-suc-le-zero, zero-min, min-zero, suc-min-suc}
+use native.Mathlib.Nat.{zero-add, add-assoc, not-suc-le-zero, zero-min, min-zero, suc-min-suc}
 use native.Mathlib.Omega.{arith}
 use lib.Dec.{eqb}
 use lib.IntN.{ℤ, pos, negsuc}
@@ -14,12 +14,11 @@ use lib.Seq.{paste, take-paste, take-add, take-at, drop-at, length-take-le}
 use borrow.Author.Tests.{eq-eqb, ne-eqb, eqb-true, eqb-false, ltb-true}
 use borrow.Rule.Slice.PartMut.{midOf, postOf, putMid}
 use Rattle.io.specs.Counts.{clamped}
-use Rattle.journal_records.specs.Listing.{listing}
 use Rattle.journal_records.specs.Parts.{textFrom}
 use Rattle.journal_records.specs.declared.listing.Phase.{Phase}
 use Rattle.journal_records.specs.declared.listing.Phase.the-variants.{Header}
 use Rattle.journal.specs.Rest.{Goes, Keeps, Got, Breaks, unread, unsaid, Left, AfterRead, Waits}
-use Rattle.journal.specs.Turns.{Turns, over, more, TurnsList}
+use Rattle.journal.specs.Turns.{Turns, over, more, Run, TurnsList}
 use Rattle.journal.specs.declared.Rest.{Rest}
 use Rattle.journal.specs.declared.Rest.the-variants.{More, Over, Failed}
 use Rattle.journal.proofs.Parts.{not-both}
@@ -128,31 +127,30 @@ few-kept C = let k = C .lists in omega (arith, k .all, k .goes .few)
 
 -- ---- the program's loop
 
--- some input has some text in front of what is due: the text of the octets kept, and of what comes behind them
-pub record Read (q : Phase) (kept : List ℕ) : Type 0 where
-  pub input : List ℕ
-  pub text : List ℕ
-  pub due : (rest : List ℕ) → listing (input ++ rest) ≡ text ++ textFrom q (kept ++ rest)
+-- turns were taken that said `said` octets in all: those that go on from here make a run with them
+pub record Taken (q : Phase) (kept : List ℕ) (said : ℕ) : Type 0 where
+  pub before : List ℕ
+  pub then : {input : List ℕ} {n : ℕ} → Turns q kept input n → Turns Header [] (before ++ input) (said + n)
 
-pub nothing-read : Read Header []
-nothing-read = record { input = []; text = []; due = λ rest. refl }
+pub none-taken : Taken Header [] 0
+none-taken = record { before = []; then = λ {input} {n} t. subst (Turns Header [] input) (sym (zero-add n)) t }
 
-pub reads-on : {p q : Phase} {held text : List ℕ} {said n : ℕ} → Read p held → Carries p held said q n text → Read q (take n text)
-reads-on {p} {q} {held} {text} {said} {n} R C =
+pub one-more : {p q : Phase} {held text : List ℕ} {said w n : ℕ} → Taken p held said → Carries p held w q n text → Taken q (take n text) (said + w)
+one-more {said = said} {w = w} T C =
     record {
-      input = R .input ++ C .got;
-      text = R .text ++ G .text;
-      due = λ rest.
-          ap listing (append-assoc (R .input) (C .got) rest)
-          ∙ R .due (C .got ++ rest)
-          ∙ ap (λ (l : List ℕ). R .text ++ textFrom p l) (sym (append-assoc held (C .got) rest))
-          ∙ ap (λ (l : List ℕ). R .text ++ l) (G .due rest (λ e. not-both e (G .more)))
-          ∙ ap (λ (l : List ℕ). R .text ++ (G .text ++ textFrom q (l ++ rest))) (sym (C .lists .front))
-          ∙ sym (append-assoc (R .text) (G .text) (textFrom q (take n text ++ rest)));
+      before = T .before ++ C .got;
+      then = λ {input} {n} t.
+          subst (λ (l : List ℕ). Turns Header [] l (said + w + n)) (sym (append-assoc (T .before) (C .got) input))
+          (subst (Turns Header [] (T .before ++ (C .got ++ input))) (sym (add-assoc said w n)) (T .then (more C t)));
     }
-  where
-    G : Goes p (held ++ C .got) (C .last) said q (C .lists .at)
-    G = C .lists .goes
+
+pub taken-as : {q q′ : Phase} {kept kept′ : List ℕ} {said said′ : ℕ} → Taken q kept said → q′ ≡ q → kept′ ≡ kept → said′ ≡ said → Taken q′ kept′ said′
+taken-as T eq ek es = rw (eq, ek, es) T
+
+pub run-over : {p : Phase} {held : List ℕ} {said : ℕ} (w : ℕ) (r : Rest) (text : List ℕ) → Taken p held said → Waits p held w r text → r ≡ Over → Run (said + w)
+run-over {p} {held} w r text T W e =
+    let g = subst (λ (x : Rest). Waits p held w x text) e W in
+    record { input = T .before ++ g .got; turns = T .then (over g) }
 
 -- ---- what the turns say in all
 

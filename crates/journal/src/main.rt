@@ -6,6 +6,7 @@ ghost use mathlib.Core.Path.{_≡_};
 ghost use lib.ListN.{length, take, drop};
 ghost use lib.Seq.{paste};
 ghost use Rattle.journal.specs.Rest.{restAfter, Begins, Listed, Left, AfterRead, Waits};
+ghost use Rattle.journal.specs.Turns.{InAll};
 ghost use Rattle.journal_records.specs.Parts.{crowded};
 use journal_records::listing::ListAnswer;
 use journal_records::listing::Phase;
@@ -172,29 +173,48 @@ fn turn(phase: Phase, text: &mut [u8], held: usize, out: &mut [u8]) -> Outcome
     list_read(phase, text, held, got, out)
 }
 
-// A proved loop has to end, and nothing says that the input does: so the turns are counted down from a number that no
-// run uses up.
-fn main() {
-    let mut text = io::large_buffer();
-    let mut out = io::large_buffer();
+// Turns, one after the other, and how many octets they have said in all. A proved loop has to end, and nothing says that the
+// input does: so the turns are counted down from a number that no run uses up, and the octets up to one.
+fn all_turns(text: &mut [u8], out: &mut [u8]) -> Outcome
+    requires { ⌜ (65536 ≡ length (now text)) × (65536 ≡ length (now out)) ⌝ }
+    ensures { λ r. ⌜ InAll (r .said) (r .rest) ⌝ }
+{
     let mut to_come = Phase::Header;
     let mut held = 0;
-    let mut turns = u64::MAX;
-    while turns > 0 {
-        let outcome = turn(to_come, &mut text, held, &mut out);
+    let mut said = 0;
+    let mut left = u64::MAX;
+    while left > 0 {
+        let outcome = turn(to_come, text, held, out);
         let rest = outcome.rest;
+        if outcome.said > usize::MAX - said {
+            break;
+        }
+        said += outcome.said;
         match rest {
             Rest::Over => {
-                return;
+                return Outcome {
+                    said,
+                    rest: Rest::Over,
+                };
             }
             Rest::Failed => {
-                return;
+                break;
             }
             Rest::More { phase, at } => {
                 to_come = phase;
                 held = at;
             }
         }
-        turns -= 1;
+        left -= 1;
     }
+    Outcome {
+        said,
+        rest: Rest::Failed,
+    }
+}
+
+fn main() {
+    let mut text = io::large_buffer();
+    let mut out = io::large_buffer();
+    all_turns(&mut text, &mut out);
 }

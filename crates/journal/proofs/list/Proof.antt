@@ -21,7 +21,7 @@ say-requires : tie.Need-say-requires Inv-loop μ-loop
 say-requires c κs =
     let p = c .before .before .before .before in
     let t = p .before .before in
-    begins (t .before .loop .inv .0) (t .tail .ensures .octets) (p .list-part .ensures) (c .front .ensures .octets)
+    begins (t .before .loop .inv .0) (t .tail .ensures .octets) (p .list-part .ensures) (search needs)
 
 add-at : tie.Need-add-at Inv-loop μ-loop
 add-at c =
@@ -40,7 +40,7 @@ add-said c =
     let l = t .before .loop in
     let b = t .before .before .before .before .pre in
     record {
-      fits = omega (arith, countable (l .inv .0) (t .tail .ensures .octets) (p .list-part .ensures) (f .front .ensures .octets) (y .say .ensures) (b .0) (b .1 ∙ sym (l .inv .1)));
+      fits = omega (arith, countable (l .inv .0) (t .tail .ensures .octets) (p .list-part .ensures) {u = f .front .result .now} (y .say .ensures) (search needs) (b .0) (b .1 ∙ sym (l .inv .1)));
     }
 
 same-length : tie.Need-same-length Inv-loop μ-loop
@@ -58,7 +58,7 @@ returns c =
     let p = f .before .before .before .before in
     let t = p .before .before in
     let l = t .before .loop in
-    failed (l .inv .0) (t .tail .ensures .octets) (p .list-part .ensures) (f .front .ensures .octets) (y .say .ensures) (c .if1 .taken)
+    failed (l .inv .0) (t .tail .ensures .octets) (p .list-part .ensures) {u = f .front .result .now} (y .say .ensures) (search needs) (c .if1 .taken)
 
 same-length-2 : tie.Need-same-length-2 Inv-loop μ-loop
 same-length-2 c =
@@ -78,7 +78,7 @@ returns-2 c =
     let t = p .before .before in
     let l = t .before .loop in
     listed-as _ _ _ _ _ _ _ refl (sym (c .rest-after .ensures))
-    (settled (l .inv .0) (t .tail .ensures .octets) (p .list-part .ensures) (f .front .ensures .octets) (y .say .ensures) (e .if1 .left)
+    (settled (l .inv .0) (t .tail .ensures .octets) (p .list-part .ensures) {u = f .front .result .now} (y .say .ensures) (search needs) (e .if1 .left)
     (sym (k .is-crowded .ensures) ∙ not-true _ (c .before .if2 .taken)))
 
 loop-less : tie.Need-loop-less Inv-loop μ-loop
@@ -90,7 +90,7 @@ loop-less c =
     let p = f .before .before .before .before in
     let t = p .before .before in
     let l = t .before .loop in
-    less (l .inv .0) (t .tail .ensures .octets) (p .list-part .ensures) (f .front .ensures .octets) (y .say .ensures) (e .if1 .left)
+    less (l .inv .0) (t .tail .ensures .octets) (p .list-part .ensures) {u = f .front .result .now} (y .say .ensures) (search needs) (e .if1 .left)
     (sym (k .is-crowded .ensures) ∙ not-false _ (c .if2 .left)) (t .before .before .before .before .pre .1 ∙ sym (l .inv .1))
 
 loop-again : tie.Need-loop-again Inv-loop μ-loop
@@ -102,7 +102,7 @@ loop-again c =
     let p = f .before .before .before .before in
     let t = p .before .before in
     let l = t .before .loop in (
-      on (l .inv .0) (t .tail .ensures .octets) (p .list-part .ensures) (f .front .ensures .octets) (y .say .ensures) (e .if1 .left)
+      on (l .inv .0) (t .tail .ensures .octets) (p .list-part .ensures) {u = f .front .result .now} (y .say .ensures) (search needs) (e .if1 .left)
           (sym (k .is-crowded .ensures) ∙ not-false _ (c .if2 .left)) (t .before .before .before .before .pre .1 ∙ sym (l .inv .1)),
       same-size (l .inv .0) (t .tail .ensures .octets) (p .list-part .ensures) ∙ l .inv .1,
     )
