@@ -18,12 +18,13 @@ pub data Turns : Phase → List ℕ → List ℕ → ℕ → Type 0 where
   more : {p q : Phase} {held text input : List ℕ} {said m n : ℕ} → (g : Got held (λ s last. Keeps p s last said q m text))
       → Turns q (take m text) input n → Turns p held (g .got ++ input) (said + n)
 
--- a run that is over: it began with nothing held, and said so many octets
+-- some input has turns from the header on, with nothing held, that say so many octets in all
 pub record Run (said : ℕ) : Type 0 where
   pub input : List ℕ
   pub turns : Turns Header [] input said
 
--- what the program's turns end in, and have said in all; of a run that fails nothing is promised
+-- what the program's turns end in, and what they count as said: it is over, and the count is that of a run; or they failed, of which
+-- nothing is promised
 abbrev pub InAll : ℕ → Rest → Type 0
 InAll said (More q m) = ⊥
 InAll said Over = Run said
