@@ -50,12 +50,12 @@ def other_number(said):
         return str(int(said) + 80)
     if said.startswith("causeOf"):
         return "row 99 []"
-    return re.sub(r"^row (\w+)", "row 99", said)
+    return re.sub(r"^row [\w.]+", "row 99", said)
 
 
 def other_values(said):
     """A row with one value more; a name and an error have none of their own."""
-    match = re.match(r"^row (\w+) (.+)$", said)
+    match = re.match(r"^row ([\w.]+) (.+)$", said)
     return f"row {match[1]} (77 ∷ {match[2]})" if match else None
 
 

@@ -48,11 +48,6 @@ take-told taking.NothingBooked = refl
 pub causes-tell : CausesTell
 causes-tell =
     record {
-      register = apart registerCause registerTold register-told;
-      read = apart readCause readTold read-told;
-      flags = apart flagsCause flagsTold flags-told;
-      request = apart requestCause requestTold request-told;
-      take = apart takeCause takeTold take-told;
       registered = refl;
       idOutOfRange = refl;
       idRegistered = refl;
@@ -74,4 +69,9 @@ causes-tell =
       taken = λ e. refl;
       takeNotRegistered = refl;
       nothingBooked = refl;
+      register = apart registerCause registerTold register-told;
+      read = apart readCause readTold read-told;
+      flags = apart flagsCause flagsTold flags-told;
+      request = apart requestCause requestTold request-told;
+      take = apart takeCause takeTold take-told;
     }

@@ -50,14 +50,8 @@ takeTold c =
     pick (eqb (c .number) 0) (taking.Taken (entryTold (c .returned)))
     (pick (eqb (c .number) 11) taking.NotRegistered taking.NothingBooked)
 
--- "a definition tells this paper's number and values for each of its cases": no two cases of an answer have the same
+-- "a definition tells this paper's number and values for each of its cases"
 pub record CausesTell : Type 0 where
-  pub register : (a b : RegisterAnswer) → registerCause a ≡ registerCause b → a ≡ b
-  pub read : (a b : ReadAnswer) → readCause a ≡ readCause b → a ≡ b
-  pub flags : (a b : FlagsAnswer) → flagsCause a ≡ flagsCause b → a ≡ b
-  pub request : (a b : RequestAnswer) → requestCause a ≡ requestCause b → a ≡ b
-  pub take : (a b : TakeAnswer) → takeCause a ≡ takeCause b → a ≡ b
-  -- and each is 01's
   pub registered : registerCause Registered ≡ row 0 []
   pub idOutOfRange : registerCause IdOutOfRange ≡ row 13 []
   pub idRegistered : registerCause IdRegistered ≡ row 14 []
@@ -79,3 +73,9 @@ pub record CausesTell : Type 0 where
   pub taken : (e : ErrorEntry) → takeCause (taking.Taken e) ≡ row 0 (entryNumbers e)
   pub takeNotRegistered : takeCause taking.NotRegistered ≡ row 11 []
   pub nothingBooked : takeCause taking.NothingBooked ≡ row 16 []
+  -- no two cases of an answer have the same
+  pub register : (a b : RegisterAnswer) → registerCause a ≡ registerCause b → a ≡ b
+  pub read : (a b : ReadAnswer) → readCause a ≡ readCause b → a ≡ b
+  pub flags : (a b : FlagsAnswer) → flagsCause a ≡ flagsCause b → a ≡ b
+  pub request : (a b : RequestAnswer) → requestCause a ≡ requestCause b → a ≡ b
+  pub take : (a b : TakeAnswer) → takeCause a ≡ takeCause b → a ≡ b

@@ -52,64 +52,23 @@ list-back listing.NotAJournal = refl
 list-back listing.UnknownVersion = refl
 list-back listing.RecordInvalid = refl
 
--- ---- the numbers
-
-journal-written : (n : ℕ) → journalCause (written.Written n) ≡ row 0 (n ∷ [])
-journal-written n = refl
-
-journal-short : journalCause written.BufferTooShort ≡ row 1 []
-journal-short = refl
-
-journal-invalid : journalCause written.RecordInvalid ≡ row 19 []
-journal-invalid = refl
-
-whole-len-whole : (n : ℕ) → wholeLenCause (whole.Whole n) ≡ row 0 (n ∷ [])
-whole-len-whole n = refl
-
-whole-len-short : wholeLenCause whole.TooShort ≡ row 17 []
-whole-len-short = refl
-
-whole-len-version : wholeLenCause whole.UnknownVersion ≡ row 18 []
-whole-len-version = refl
-
-list-more : listCause listing.More ≡ row 0 (0 ∷ [])
-list-more = refl
-
-list-full : listCause listing.Full ≡ row 0 (1 ∷ [])
-list-full = refl
-
-list-end : listCause listing.End ≡ row 0 (2 ∷ [])
-list-end = refl
-
-list-short : listCause listing.BufferTooShort ≡ row 1 []
-list-short = refl
-
-list-no-journal : listCause listing.NotAJournal ≡ row 17 []
-list-no-journal = refl
-
-list-version : listCause listing.UnknownVersion ≡ row 18 []
-list-version = refl
-
-list-invalid : listCause listing.RecordInvalid ≡ row 19 []
-list-invalid = refl
-
 pub causes-tell : CausesTell
 causes-tell =
     record {
+      journalWritten = λ n. refl;
+      journalShort = refl;
+      journalInvalid = refl;
+      wholeLenWhole = λ n. refl;
+      wholeLenShort = refl;
+      wholeLenVersion = refl;
+      listMore = refl;
+      listFull = refl;
+      listEnd = refl;
+      listShort = refl;
+      listNoJournal = refl;
+      listVersion = refl;
+      listInvalid = refl;
       journal = apart journalCause journalOf journal-back;
-      journalWritten = journal-written;
-      journalShort = journal-short;
-      journalInvalid = journal-invalid;
       wholeLen = apart wholeLenCause wholeLenOf whole-len-back;
-      wholeLenWhole = whole-len-whole;
-      wholeLenShort = whole-len-short;
-      wholeLenVersion = whole-len-version;
       list = apart listCause listOf list-back;
-      listMore = list-more;
-      listFull = list-full;
-      listEnd = list-end;
-      listShort = list-short;
-      listNoJournal = list-no-journal;
-      listVersion = list-version;
-      listInvalid = list-invalid;
     }

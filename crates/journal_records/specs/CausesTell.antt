@@ -16,17 +16,14 @@ use Rattle.journal_records.specs.declared.listing.ListAnswer.the-variant
 
 pub record CausesTell : Type 0 where
   -- writing a record: 0 with its octets, 1, 19
-  pub journal : (a b : JournalAnswer) → journalCause a ≡ journalCause b → a ≡ b
   pub journalWritten : (n : ℕ) → journalCause (written.Written n) ≡ row 0 (n ∷ [])
   pub journalShort : journalCause written.BufferTooShort ≡ row 1 []
   pub journalInvalid : journalCause written.RecordInvalid ≡ row 19 []
   -- how much of a journal is whole: 0 with the length, 17, 18
-  pub wholeLen : (a b : WholeLenAnswer) → wholeLenCause a ≡ wholeLenCause b → a ≡ b
   pub wholeLenWhole : (n : ℕ) → wholeLenCause (whole.Whole n) ≡ row 0 (n ∷ [])
   pub wholeLenShort : wholeLenCause whole.TooShort ≡ row 17 []
   pub wholeLenVersion : wholeLenCause whole.UnknownVersion ≡ row 18 []
   -- listing: 0 where octets have to come, where the room is used up and at the end, 1, 17, 18, 19
-  pub list : (a b : ListAnswer) → listCause a ≡ listCause b → a ≡ b
   pub listMore : listCause listing.More ≡ row 0 (0 ∷ [])
   pub listFull : listCause listing.Full ≡ row 0 (1 ∷ [])
   pub listEnd : listCause listing.End ≡ row 0 (2 ∷ [])
@@ -34,3 +31,7 @@ pub record CausesTell : Type 0 where
   pub listNoJournal : listCause listing.NotAJournal ≡ row 17 []
   pub listVersion : listCause listing.UnknownVersion ≡ row 18 []
   pub listInvalid : listCause listing.RecordInvalid ≡ row 19 []
+  -- no two cases of an answer have the same
+  pub journal : (a b : JournalAnswer) → journalCause a ≡ journalCause b → a ≡ b
+  pub wholeLen : (a b : WholeLenAnswer) → wholeLenCause a ≡ wholeLenCause b → a ≡ b
+  pub list : (a b : ListAnswer) → listCause a ≡ listCause b → a ≡ b

@@ -37,10 +37,6 @@ read-told (Refused e) = not-0 e _ _ ∙ ap Refused (error-told e 0)
 pub causes-tell : CausesTell
 causes-tell =
     record {
-      new = apart newCause newTold new-told;
-      raise = apart raiseCause raiseTold raise-told;
-      answer = apart writeCause writeTold write-told;
-      read = apart readCause readTold read-told;
       made = refl;
       idOutOfRange = refl;
       raised = refl;
@@ -52,4 +48,8 @@ causes-tell =
       kept = refl;
       closed = refl;
       refused = λ e. refl;
+      new = apart newCause newTold new-told;
+      raise = apart raiseCause raiseTold raise-told;
+      answer = apart writeCause writeTold write-told;
+      read = apart readCause readTold read-told;
     }

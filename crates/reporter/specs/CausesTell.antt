@@ -38,13 +38,8 @@ abbrev pub readTold : Cause → ReadAnswer
 readTold c =
     pick (eqb (c .number) 0) (outcomeTold (getD (c .returned) 0 0)) (Refused (errorTold (c .number) (getD (c .returned) 0 0)))
 
--- "a definition tells this paper's number and values for each of its cases": no two cases of an answer have the same
+-- "a definition tells this paper's number and values for each of its cases"
 pub record CausesTell : Type 0 where
-  pub new : (a b : NewAnswer) → newCause a ≡ newCause b → a ≡ b
-  pub raise : (a b : RaiseAnswer) → raiseCause a ≡ raiseCause b → a ≡ b
-  pub answer : (a b : WriteAnswer) → writeCause a ≡ writeCause b → a ≡ b
-  pub read : (a b : ReadAnswer) → readCause a ≡ readCause b → a ≡ b
-  -- and each is 01's
   pub made : newCause Made ≡ row 0 []
   pub idOutOfRange : newCause IdOutOfRange ≡ row 13 []
   pub raised : raiseCause Raised ≡ row 0 []
@@ -56,3 +51,8 @@ pub record CausesTell : Type 0 where
   pub kept : readCause Kept ≡ row 0 (1 ∷ [])
   pub closed : readCause Closed ≡ row 0 (2 ∷ [])
   pub refused : (e : PowerlinkError) → readCause (Refused e) ≡ causeOf e
+  -- no two cases of an answer have the same
+  pub new : (a b : NewAnswer) → newCause a ≡ newCause b → a ≡ b
+  pub raise : (a b : RaiseAnswer) → raiseCause a ≡ raiseCause b → a ≡ b
+  pub answer : (a b : WriteAnswer) → writeCause a ≡ writeCause b → a ≡ b
+  pub read : (a b : ReadAnswer) → readCause a ≡ readCause b → a ≡ b
