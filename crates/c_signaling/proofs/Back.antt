@@ -10,12 +10,11 @@ use lib.Dec.{eqb, leb}
 use Rattle.types.specs.Causes.{Cause, row}
 use Rattle.types.specs.Codes.{pick}
 use Rattle.types.specs.Modes.{modeCode, modeOf}
-use Rattle.types.specs.PollFlags.{priorityCode, priorityIn}
+use Rattle.types.specs.PollFlags.{priorityCode}
 use Rattle.types.specs.States.{stateCode, stateOf}
 use Rattle.types.specs.declared.error_mode.ErrorEntryModeAnswer.the-variants as mode
 use Rattle.types.specs.declared.hal.PowerlinkError.the-variants.{BufferTooShort}
-use Rattle.types.specs.declared.poll_flags.PRFlag.{PRFlag}
-use Rattle.types.specs.declared.poll_flags.PRFlag.the-variants.{PrioNmtRequest, High3, High2, High1, PrioGenericRequest, Low3, Low2, Low1}
+use Rattle.types.proofs.ReadBack.{priority-known}
 use Rattle.types.specs.declared.states.NmtState.{NmtState}
 use Rattle.types.specs.declared.states.NmtStateAnswer.the-variants as state
 use Rattle.types.proofs.ReadBack.{codes-read-back}
@@ -51,17 +50,6 @@ use Rattle.c_signaling.proofs.Told.{raise-number, register-number, writ
 
 -- ---- fields as C gives them
 
-priority-back : (p : PRFlag) → priorityIn (priorityCode p) ≡ p
-unfolding priorityIn
-priority-back PrioNmtRequest = refl
-priority-back High3 = refl
-priority-back High2 = refl
-priority-back High1 = refl
-priority-back PrioGenericRequest = refl
-priority-back Low3 = refl
-priority-back Low2 = refl
-priority-back Low1 = refl
-
 seven : (l : List ℕ) → length l ≡ 7
     → getD l 0 0 ∷ getD l 1 0 ∷ getD l 2 0 ∷ getD l 3 0 ∷ getD l 4 0 ∷ getD l 5 0 ∷ getD l 6 0 ∷ [] ≡ l
 seven [] e = absurd (omega arith)
@@ -84,7 +72,7 @@ fieldsOf f =
     (fieldBytes (f .«static_error_bit_field»))
 
 fields-back : (f : AnswerFields) → reporter.AnswerSizes f → fieldsOf f (f .«nmt_state») ≡ f
-fields-back f z = rw (priority-back (f .pr), field-back (f .«static_error_bit_field») (z .errors))
+fields-back f z = rw (priority-known (f .pr), field-back (f .«static_error_bit_field») (z .errors))
 
 -- ---- the calls
 
