@@ -1,18 +1,13 @@
 // A StatusResponse that was read, written again: its batch of four entries, and five of them, which it has not.
-use crate::print::column;
-use crate::print::end;
-use crate::print::octets;
+use crate::print::FILL;
+use crate::print::written;
 use error_entry::ErrorEntry;
 use octets::slices::tail;
-use section::WriteAnswer;
 use status_response::entries::serialize_batch;
 use status_response::fields::StatusAnswer;
 use status_response::fields::deserialize;
 
 const SPACE: usize = 160;
-
-// Every octet of a target before the call.
-const FILL: u8 = 0xFC;
 
 // The first `len` octets of `space`, or all where it has fewer.
 fn target_in(space: &mut [u8], len: usize) -> &mut [u8] {
@@ -23,14 +18,6 @@ fn target_in(space: &mut [u8], len: usize) -> &mut [u8] {
     }
 }
 
-fn number(answer: WriteAnswer) -> u64 {
-    match answer {
-        WriteAnswer::Refused(e) => e.number() as u64,
-        WriteAnswer::Written(n) => n as u64,
-    }
-}
-
-// A line: 01's number or the length, and what the target holds after the call.
 fn write(payload: &[u8], n: usize, len: usize) {
     let read = deserialize(payload);
     let field = read.static_error_bit_field;
@@ -46,9 +33,8 @@ fn write(payload: &[u8], n: usize, len: usize) {
     ];
     let mut space = [FILL; SPACE];
     let target = target_in(&mut space, len);
-    column(number(serialize_batch(fields, field, batch, n, target)));
-    octets(target);
-    end();
+    let answer = serialize_batch(fields, field, batch, n, target);
+    written(answer, target);
 }
 
 pub fn all() {

@@ -1,8 +1,11 @@
-// What no C function does and no other program runs: a frame asked for as each kind, its header and its payload as read.
+// What no C function does and no other program runs: a frame asked for as each kind, its header and its payload as read, and its
+// section written again.
+use crate::print::FILL;
 use crate::print::column;
 use crate::print::end;
 use crate::print::flag;
 use crate::print::octets;
+use crate::print::written;
 use codec::FrameAnswer;
 use codec::deserialize_frame;
 use codec::payload;
@@ -12,8 +15,12 @@ use frame::IntoPRes;
 use frame::IntoSoA;
 use frame::IntoSoc;
 use frame::PowerlinkFrame;
+use section::MIN_SECTION;
 use types::basic::EthernetHeader;
 use types::hal::PowerlinkError;
+
+// A section of the smallest size, and some octets behind it.
+const SPACE: usize = MIN_SECTION + 2;
 
 fn is_soc(f: PowerlinkFrame) -> bool {
     let IntoSoc::Soc(_) = f.into_soc() else {
@@ -58,9 +65,17 @@ fn kinds(f: PowerlinkFrame) {
     flag(is_asnd(f));
 }
 
+// The section that was read, written again.
+fn again(f: PowerlinkFrame, payload: &[u8]) {
+    let mut target = [FILL; SPACE];
+    let answer = f.serialize(payload, &mut target);
+    written(answer, &target);
+}
+
 fn refused(e: PowerlinkError) {
     column(e.number() as u64);
     column(e.byte() as u64);
+    end();
 }
 
 fn header(h: EthernetHeader) {
@@ -72,18 +87,23 @@ fn header(h: EthernetHeader) {
 }
 
 // A line for what was read: the header, whether its EtherType is POWERLINK's and its destination a group's or all stations';
-// of a frame, whether it is a SoC, PReq, PRes, SoA, ASnd, or else 01's number and the octet with it; the payload.
+// of a frame, whether it is a SoC, PReq, PRes, SoA, ASnd, or else 01's number and the octet with it; the payload. Then a line for a
+// frame's section.
 fn frame(bytes: &[u8]) {
     let read = deserialize_frame(bytes);
     let answer = read.answer;
     let place = read.payload_place;
+    let data = payload(place, bytes);
     header(read.ethernet_header());
     match answer {
-        FrameAnswer::Frame(f) => kinds(f),
+        FrameAnswer::Frame(f) => {
+            kinds(f);
+            octets(data);
+            end();
+            again(f, data);
+        }
         FrameAnswer::Refused(e) => refused(e),
     }
-    octets(payload(place, bytes));
-    end();
 }
 
 // The five kinds, then a message type that is none, and another EtherType.

@@ -2,9 +2,13 @@
 use libc::STDOUT_FILENO;
 use octets::slices::front;
 use octets::slices::tail;
+use section::WriteAnswer;
 
 // The width of a name.
 const WIDTH: usize = 24;
+
+// Every octet of a target before the call.
+pub const FILL: u8 = 0xFC;
 
 pub fn say(text: &[u8]) {
     io::write_all(STDOUT_FILENO, text);
@@ -43,4 +47,18 @@ pub fn column(n: u64) {
 
 pub fn flag(on: bool) {
     column(if on { 1 } else { 0 });
+}
+
+fn length_or_number(answer: WriteAnswer) -> u64 {
+    match answer {
+        WriteAnswer::Refused(e) => e.number() as u64,
+        WriteAnswer::Written(n) => n as u64,
+    }
+}
+
+// A line: 01's number or the length, and what the target holds after the call.
+pub fn written(answer: WriteAnswer, target: &[u8]) {
+    column(length_or_number(answer));
+    octets(target);
+    end();
 }

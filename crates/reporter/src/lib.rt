@@ -19,13 +19,16 @@ use acknowledge::hear;
 use batch::answer_frame;
 use batch::carried;
 use batch::open_batch;
+use control::asnd::PAYLOAD_AT;
 use error_entry::ErrorEntry;
 use records::ENTRY_LEN;
+use section::MIN_FRAME;
 use section::WriteAnswer;
 use state::push;
 use state::raisable;
 use state::waiting;
 use status_response::bit_field::StaticErrorBitField;
+use status_response::fields::FRONT_LEN;
 use types::NodeId;
 use types::basic::MacAddress;
 use types::hal::PowerlinkError;
@@ -60,6 +63,9 @@ const QUEUE_LEN: u8 = 16;
 
 // Places for both.
 const PLACES: u8 = BATCH_LEN + QUEUE_LEN;
+
+// An answer's octets in front of its entries, and the terminator behind them.
+const BARE_ANSWER_LEN: usize = PAYLOAD_AT + FRONT_LEN + ENTRY_LEN;
 
 // 01's head. That none of its entries is lost or repeated is said of a state that goes on from its own last octets, with a
 // box that began when it did. So it is saved after each call that has changed it and before any later frame leaves, after
@@ -155,7 +161,7 @@ pub fn answer_len(state: &Reporter) -> usize
     ensures { λ r. ⌜ r ≡ answerLength (length (opened (headOf (now (state .entry))) .batch)) ⌝ }
 {
     let n = carried(state) as usize;
-    if n == 0 { 60 } else { 52 + 20 * n }
+    if n == 0 { MIN_FRAME } else { BARE_ANSWER_LEN + ENTRY_LEN * n }
 }
 
 // Reads a frame: a PReq to this node or an SoA with it as target, from the managing node, gives EA.
