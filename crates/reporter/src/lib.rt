@@ -161,7 +161,11 @@ pub fn answer_len(state: &Reporter) -> usize
     ensures { λ r. ⌜ r ≡ answerLength (length (opened (headOf (now (state .entry))) .batch)) ⌝ }
 {
     let n = carried(state) as usize;
-    if n == 0 { MIN_FRAME } else { BARE_ANSWER_LEN + ENTRY_LEN * n }
+    if n == 0 {
+        MIN_FRAME
+    } else {
+        BARE_ANSWER_LEN + ENTRY_LEN * n
+    }
 }
 
 // Reads a frame: a PReq to this node or an SoA with it as target, from the managing node, gives EA.
