@@ -137,7 +137,10 @@ pub extern "C" fn powerlink_new_pres(
             );
             let eth_header = new.eth_header;
             let frame = new.frame;
-            let answer = write_behind(&eth_header.to_bytes(), &frame.to_bytes(), payload, target);
+            // The state's octet is the one that was given: the compiler then makes no table of states.
+            let mut fields = frame.to_bytes();
+            fields[3] = state;
+            let answer = write_behind(&eth_header.to_bytes(), &fields, payload, target);
             written_or(answer, written)
         }
     }
@@ -228,7 +231,10 @@ pub extern "C" fn powerlink_new_asnd(
             );
             let eth_header = new.eth_header;
             let frame = new.frame;
-            let answer = write_behind(&eth_header.to_bytes(), &frame.to_bytes(), payload, target);
+            // The service's octet is the one that was given, as a PRes's state.
+            let mut fields = frame.to_bytes();
+            fields[3] = service;
+            let answer = write_behind(&eth_header.to_bytes(), &fields, payload, target);
             written_or(answer, written)
         }
     }

@@ -7,7 +7,7 @@ use mathlib.Core.List.{List, [], _∷_}
 use borrow.Author.Tests.{eqb-true}
 use lib.Dec.{eqb}
 use lib.ListN.{getD}
-use Rattle.types.specs.CauseNumbers.{unknownState, unknownRequest}
+use Rattle.types.specs.CauseNumbers.{unknownState, unknownService, unknownRequest}
 use Rattle.types.specs.Causes.{Cause, row}
 use Rattle.types.specs.CodeCauses.{codeRow, messageCause, stateCause, serviceCause, requestedCause, modeCause, ReadsMessage, ReadsState, ReadsService, ReadsRequested, ReadsMode}
 use Rattle.types.specs.Codes.{pick, decoded}
@@ -23,6 +23,7 @@ use Rattle.types.specs.declared.message_type.MessageTypeAnswer.the-varia
 use Rattle.types.specs.declared.requested_service.RequestedServiceId.{RequestedServiceId}
 use Rattle.types.specs.declared.requested_service.RequestedServiceIdAnswer.{RequestedServiceIdAnswer}
 use Rattle.types.specs.declared.requested_service.RequestedServiceIdAnswer.the-variants as requested
+use Rattle.types.specs.declared.service.ServiceId.{ServiceId}
 use Rattle.types.specs.declared.service.ServiceIdAnswer.{ServiceIdAnswer}
 use Rattle.types.specs.declared.service.ServiceIdAnswer.the-variants as service
 use Rattle.types.specs.declared.states.NmtState.{NmtState}
@@ -100,6 +101,11 @@ same-value code n b (x ∷ xs) = split (eqb b (code x)) (same-value code n b xs)
 pub state-code : (b : ℕ) (x : NmtState) → stateOf b ≡ state.Known x → stateCode x ≡ b
 state-code b x e =
     ap (λ (c : Cause). getD (c .returned) 0 0) (ap stateCause (sym e) ∙ state-told b (stateOf b) refl .cause) ∙ same-value stateCode unknownState b states
+
+pub service-code : (b : ℕ) (x : ServiceId) → serviceOf b ≡ service.Known x → serviceCode x ≡ b
+service-code b x e =
+    ap (λ (c : Cause). getD (c .returned) 0 0) (ap serviceCause (sym e) ∙ service-told b (serviceOf b) refl .cause)
+    ∙ same-value serviceCode unknownService b services
 
 pub requested-code : (b : ℕ) (x : RequestedServiceId) → requestedOf b ≡ requested.Known x → requestedCode x ≡ b
 requested-code b x e =
