@@ -8,6 +8,9 @@ import sys
 
 from sources import functions
 
+# The type of a parameter that is lent to be changed, with its lifetime or without.
+MUTABLE = re.compile(r"&(?:'\w+ )?mut\b")
+
 
 def names(parameter):
     """A parameter's name as a contract writes it."""
@@ -28,7 +31,7 @@ def faults(function):
     if function.result and not any(map(speaks_of_result, function.ensures)):
         yield 'has an ensures that does not speak of its result'
     for name, kind in function.parameters:
-        if kind.startswith('&mut') and not re.search(rf'{names(name)} \.exit\b', ' '.join(function.ensures)):
+        if MUTABLE.match(kind) and not re.search(rf'{names(name)} \.exit\b', ' '.join(function.ensures)):
             yield f'has an ensures that does not speak of what `{name}` holds at the end'
 
 

@@ -3,10 +3,11 @@
 
 A table is a definition of specs/ that gives an answer its row (`raiseCause Raised = row 0 []`), or the number of a name
 (`queueFull = 9`). The record `CausesTell` of a crate, and `NumbersTell` of `types`, say each row again in 01's figures: these are the pins. Every
-row of a crate is changed at once, in a copy, first its number and then its values, and the prover must refuse the pin of each row; a
-pin speaks of one row alone, so that it refuses that change by itself too. With no CRATE all that have tables are tried.
+row of a crate is changed at once, in a copy: its number, then the number of its values, then its first value, its second and so on. Each
+time the prover must refuse the pin of each row; a pin speaks of one row alone, so that it refuses that change by itself too. With no
+CRATE all that have tables are tried.
 
-It runs beside the gate (`make numbers`), since it proves each of these crates twice.
+It runs beside the gate (`make numbers`), since it proves each of these crates some four times.
 """
 import pathlib
 import re
@@ -53,10 +54,27 @@ def other_number(said):
     return re.sub(r"^row [\w.]+", "row 99", said)
 
 
-def other_values(said):
+def more_values(said):
     """A row with one value more; a name and an error have none of their own."""
     match = re.match(r"^row ([\w.]+) (.+)$", said)
     return f"row {match[1]} (77 ∷ {match[2]})" if match else None
+
+
+def other_value(place):
+    """What changes the value at a place of a row, where it has one."""
+
+    def to_other(said):
+        match = re.match(r"^row ([\w.]+) \((.+) ∷ \[\]\)$", said)
+        values = match[2].split(" ∷ ") if match else []
+        if place >= len(values):
+            return None
+        values[place] = "77"
+        return f"row {match[1]} ({' ∷ '.join(values)} ∷ [])"
+
+    return to_other
+
+
+CHANGES = [("number", other_number), ("values, one more", more_values)] + [(f"value {k + 1}", other_value(k)) for k in range(8)]
 
 
 def change(crate, to_other):
@@ -104,18 +122,22 @@ def refused_pins(name, room):
 def try_crate(name, room):
     """How many rows were changed, and which changes no pin refused."""
     tried, missed = 0, []
-    for kind, to_other in (("number", other_number), ("values", other_values)):
-        crate = room / "crates" / name
-        shutil.rmtree(crate)
-        shutil.copytree(ROOT / "crates" / name, crate)
-        known = pins(crate)
-        changed = change(crate, to_other)
-        refused = refused_pins(name, room)
+    for kind, to_other in CHANGES:
+        known = pins(room / "crates" / name)
+        changed = change(room / "crates" / name, to_other)
+        refused = refused_pins(name, room) if changed else set()
+        put_back(name, room)
         tried += len(changed)
         for row in changed:
             if not any(pin in refused for pin in known.get(row, [])):
                 missed.append(f"{name}: {kind} of {' '.join(row).strip()}")
     return tried, missed
+
+
+def put_back(name, room):
+    """The crate as it is: those above it are tried over what is proved."""
+    shutil.rmtree(room / "crates" / name)
+    shutil.copytree(ROOT / "crates" / name, room / "crates" / name)
 
 
 def main():

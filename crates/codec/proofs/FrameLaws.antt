@@ -2,7 +2,7 @@
 -- Assumes nothing.
 use Prim.Native.Nat.{ℕ, _%_, _≤_, _<_}
 use mathlib.Core.Bool.{Bool, true, false}
-use mathlib.Core.Path.{_≡_, refl}
+use mathlib.Core.Path.{_≡_, refl, ap, _∙_}
 use mathlib.Core.List.{List}
 use lib.Dec.{leb, ltb, eqb}
 use lib.ListN.{length, getD, drop}
@@ -17,8 +17,9 @@ use Rattle.types.specs.declared.message_type.MessageType.{MessageType}
 use Rattle.types.specs.declared.message_type.MessageTypeAnswer.{MessageTypeAnswer}
 use Rattle.types.specs.declared.message_type.MessageTypeAnswer.the-variants.{Known, Unknown}
 use Rattle.types.proofs.ReadBack.{message-known}
-use Rattle.codec.specs.Frame.{byMessage, readSection, readFrame}
+use Rattle.codec.specs.Frame.{byMessage, readSection, readFrame, frameCause, ReadsFrame}
 use Rattle.codec.specs.Verdicts.{kindBy, kindIn, kindOf, kindAnswer}
+use Rattle.codec.specs.declared.FrameAnswer.{FrameAnswer}
 use Rattle.codec.specs.declared.FrameAnswer.the-variants.{Refused}
 use Rattle.codec.specs.declared.KindAnswer.{KindAnswer}
 use Rattle.codec.specs.declared.KindAnswer.the-variants as kind
@@ -70,5 +71,9 @@ kind-reads f r e =
     go true true false m = refl
     go true true true (Unknown b) = refl
     go true true true (Known k) = refl
+
+-- an answer that is what reading gives has the row of what it is
+pub frame-told : (f : List ℕ) (r : FrameAnswer) → r ≡ readFrame f → ReadsFrame f r
+frame-told f r e = record { answer = e; good = λ x q. ap frameCause (e ∙ q); refused = λ x q. ap frameCause (e ∙ q) }
 
 pub ruleset frame-laws = (needs, frame-short, frame-other, frame-empty, frame-read)

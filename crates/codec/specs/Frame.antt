@@ -84,6 +84,12 @@ frameCause (Frame f) = row 0 []
 frameCause (Refused e) = causeOf e
 
 -- r is what reading the octets f answers, with 01's number: 0 for a frame, and else that of the error, with what is returned
+pub record ReadsFrame (f : List ℕ) (r : FrameAnswer) : Type 0 where
+  pub answer : r ≡ readFrame f
+  pub good : (x : PowerlinkFrame) → readFrame f ≡ Frame x → frameCause r ≡ row 0 []
+  pub refused : (e : PowerlinkError) → readFrame f ≡ Refused e → frameCause r ≡ causeOf e
+
+-- the same, with the Ethernet header and the payload's place
 pub record Reads (f : List ℕ) (r : DeserializedFrame) : Type 0 where
   pub read : r ≡ deserializeFrame f
   pub good : (x : PowerlinkFrame) → readFrame f ≡ Frame x → frameCause (r .answer) ≡ row 0 []

@@ -2,7 +2,7 @@
 // `kind_of` and then the `judge` of the kind, and `read_frame` and any other reading go by their verdicts.
 ghost use mathlib.Core.Path.{_≡_};
 ghost use Rattle.octets.specs.Part.{Part};
-ghost use Rattle.codec.specs.Frame.{readFrame, byKind, placeInFrame, placeOf, payloadOf, Reads};
+ghost use Rattle.codec.specs.Frame.{byKind, placeInFrame, placeOf, payloadOf, Reads, ReadsFrame};
 ghost use Rattle.codec.specs.Verdicts.{kindIn, kindOf};
 
 pub mod asnd;
@@ -93,7 +93,7 @@ pub fn payload(place: PayloadPlace, buffer: &[u8]) -> &[u8]
 
 // The frame, or why it is refused: for a caller that wants neither header nor payload.
 pub fn read_frame(buffer: &[u8]) -> FrameAnswer
-    ensures { λ r. ⌜ r ≡ readFrame (now (buffer .entry)) ⌝ }
+    ensures { λ r. ⌜ ReadsFrame (now (buffer .entry)) r ⌝ }
 {
     match kind_of(buffer) {
         KindAnswer::Refused(e) => FrameAnswer::Refused(e),

@@ -87,10 +87,6 @@ pub record Same (a b : Box) : Type 0 where
 abbrev pub withAccount : ℕ → Account → Box → Box
 withAccount i p b = record { accounts = λ j. pick (eqb j i) (some p) (b .accounts j); vacant = b .vacant }
 
--- cause 11, "ID not registered", of every call that takes an ID
-abbrev pub notRegistered : Cause
-notRegistered = row cause.notRegistered []
-
 -- ---- registering
 
 abbrev pub isRegistered : Option Account → Bool

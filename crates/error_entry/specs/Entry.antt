@@ -2,10 +2,12 @@
 -- Assumes nothing.
 use Prim.Native.Nat.{ℕ, _+_, _*_, _/_, _%_}
 use mathlib.Core.Bool.{false}
+use mathlib.Core.Path.{_≡_}
 use mathlib.Core.List.{List, [], _++_}
 use lib.ListN.{length}
 use lib.Dec.{leb}
 use Rattle.octets.specs.Numbers.{bit, leAt, leBytes}
+use Rattle.types.specs.CauseNumbers.{tooShort}
 use Rattle.types.specs.Causes.{Cause, row, causeOf}
 use Rattle.types.specs.Codes.{need}
 use Rattle.types.specs.Modes.{modeCode, modeIn}
@@ -22,19 +24,26 @@ use Rattle.error_entry.specs.declared.ErrorEntryAnswer.the-variants.{Ent
 abbrev pub entryLength : ℕ
 entryLength = 20
 
--- bit 15 status entry, bit 14 send to queue, bits 13 to 12 mode, bits 11 to 0 profile
+-- the bits of the type: status entry, send to queue
+abbrev pub statusEntryBit : ℕ
+statusEntryBit = 15
+
+abbrev pub sendToQueueBit : ℕ
+sendToQueueBit = 14
+
+-- bits 13 to 12 are the mode, bits 11 to 0 the profile
 unfoldable pub entryTypeOf : ℕ → EntryType
 entryTypeOf n =
     record {
-      «is_status_entry» = bit 15 n;
-      «send_to_queue» = bit 14 n;
+      «is_status_entry» = bit statusEntryBit n;
+      «send_to_queue» = bit sendToQueueBit n;
       mode = modeIn (n / 4096 % 16);
       profile = n % 4096;
     }
 
 -- the profile is masked to 12 bits
 unfoldable pub typeNumber : EntryType → ℕ
-typeNumber t = atBit 15 (t .«is_status_entry») + atBit 14 (t .«send_to_queue») + 4096 * modeCode (t .mode) + t .profile % 4096
+typeNumber t = atBit statusEntryBit (t .«is_status_entry») + atBit sendToQueueBit (t .«send_to_queue») + 4096 * modeCode (t .mode) + t .profile % 4096
 
 -- octets 0 to 1 type, 2 to 3 code, 4 to 7 seconds, 8 to 11 nanoseconds, 12 to 19 information
 unfoldable pub entryOf : List ℕ → ErrorEntry
@@ -69,6 +78,11 @@ readEntry s = need (leb entryLength (length s)) (Refused BufferTooShort) (Entry 
 abbrev pub entryCause : ErrorEntryAnswer → Cause
 entryCause (Entry e) = row 0 (entryNumbers e)
 entryCause (Refused e) = causeOf e
+
+-- r is what reading an entry from the octets s answers, with 01's number and values
+pub record ReadsEntry (s : List ℕ) (r : ErrorEntryAnswer) : Type 0 where
+  pub answer : r ≡ readEntry s
+  pub cause : entryCause r ≡ need (leb entryLength (length s)) (row tooShort []) (row 0 (entryNumbers (entryOf s)))
 
 -- the entry that was read, or a terminator
 abbrev pub orTerminator : ErrorEntryAnswer → ErrorEntry

@@ -7,7 +7,7 @@ ghost use Rattle.octets.specs.Numbers.{leAt};
 ghost use Rattle.types.specs.Codes.{pick};
 ghost use Rattle.types.specs.Modes.{modeCode};
 ghost use Rattle.section.specs.Write.{Writes};
-ghost use Rattle.error_entry.specs.Entry.{entryLength, entryTypeOf, typeNumber, entryOf, entryBytes, orTerminator, readEntry};
+ghost use Rattle.error_entry.specs.Entry.{entryLength, entryTypeOf, typeNumber, entryOf, entryBytes, orTerminator, ReadsEntry};
 use octets::little_endian::put_u16_le;
 use octets::little_endian::put_u32_le;
 use octets::little_endian::put_u64_le;
@@ -18,6 +18,11 @@ use types::hal::PowerlinkError;
 
 // The octets of an entry.
 pub const ENTRY_LEN: usize = 20;
+
+// The flags of an entry's type.
+const STATUS_ENTRY: u16 = 0x8000;
+
+const SEND_TO_QUEUE: u16 = 0x4000;
 
 // The type of an entry (EPSG DS 301, Table 96).
 pub struct EntryType {
@@ -72,8 +77,8 @@ impl EntryType {
         ensures { λ r. ⌜ r ≡ entryTypeOf value ⌝ }
     {
         EntryType {
-            is_status_entry: value / 0x8000 % 2 == 1,
-            send_to_queue: value / 0x4000 % 2 == 1,
+            is_status_entry: value / STATUS_ENTRY % 2 == 1,
+            send_to_queue: value / SEND_TO_QUEUE % 2 == 1,
             mode: ErrorEntryMode::from_bits((value / 0x1000 % 0x10) as u8),
             profile: value % 0x1000,
         }
@@ -84,7 +89,7 @@ impl EntryType {
         ensures { λ r. ⌜ r ≡ typeNumber self ⌝ }
     {
         let mode = self.mode;
-        let high = bit(self.is_status_entry, 0x8000) + bit(self.send_to_queue, 0x4000);
+        let high = bit(self.is_status_entry, STATUS_ENTRY) + bit(self.send_to_queue, SEND_TO_QUEUE);
         high + 0x1000 * mode_bits(mode) + self.profile % 0x1000
     }
 }
@@ -106,7 +111,7 @@ fn mode_bits(mode: ErrorEntryMode) -> u16
 impl ErrorEntry {
     // The entry that the first 20 octets are.
     pub fn deserialize(buffer: &[u8]) -> ErrorEntryAnswer
-        ensures { λ r. ⌜ r ≡ readEntry (now (buffer .entry)) ⌝ }
+        ensures { λ r. ⌜ ReadsEntry (now (buffer .entry)) r ⌝ }
     {
         if buffer.len() < ENTRY_LEN {
             return ErrorEntryAnswer::Refused(PowerlinkError::BufferTooShort);

@@ -28,7 +28,7 @@ sets-rest at t vs h = places.sets-rest at 0 t vs h ∙ ap (λ (k : ℕ). sets t 
 module _ (s : List ℕ) (at : ℕ) (e : ErrorEntry) where
   pub put-none : length s < at → PutsRecord at e (Refused BufferTooShort) s s
   unfolding withRecord
-  put-none h = let f = lt-leb (at + entryLength) (length s) (omega arith) in record { answer = rw f; holds = rw f }
+  put-none h = let f = lt-leb (at + entryLength) (length s) (omega arith) in record { answer = rw f; cause = rw f; holds = rw f }
 
   pub put-rest : (r : WriteAnswer) (u : List ℕ) → at ≤ length s → Writes (entryBytes e) r (midOf at (length s - at) s) u
       → PutsRecord at e r s (putMid at (length s - at) s u)
@@ -43,8 +43,16 @@ module _ (s : List ℕ) (at : ℕ) (e : ErrorEntry) where
           let l : length (entryBytes e) ≤ length (midOf at (length s - at) s) = omega (arith, bytes-length e, rest, leb-true (at + entryLength) (length s) k) in
           let put : putMid at (length s - at) s u ≡ sets s at (entryBytes e) =
           ap (putMid at (length s - at) s) (places.writes-sets (entryBytes e) (midOf at (length s - at) s) r u w l) ∙ sets-rest at s (entryBytes e) h in
-          record { answer = w .answer ∙ rw (le-leb _ _ l, k, bytes-length e); holds = put ∙ rw k }
+          record {
+            answer = w .answer ∙ rw (le-leb _ _ l, k, bytes-length e);
+            cause = w .cause ∙ rw (le-leb _ _ l, k, bytes-length e);
+            holds = put ∙ rw k;
+          }
       split false k =
           let l : length (midOf at (length s - at) s) < length (entryBytes e) = omega (arith, bytes-length e, rest, leb-false (at + entryLength) (length s) k) in
           let stays : u ≡ midOf at (length s - at) s = w .holds ∙ rw (lt-leb _ _ l) in
-          record { answer = w .answer ∙ rw (lt-leb _ _ l, k); holds = ap (putMid at (length s - at) s) stays ∙ put-same at (length s - at) s ∙ rw k }
+          record {
+            answer = w .answer ∙ rw (lt-leb _ _ l, k);
+            cause = w .cause ∙ rw (lt-leb _ _ l, k);
+            holds = ap (putMid at (length s - at) s) stays ∙ put-same at (length s - at) s ∙ rw k;
+          }

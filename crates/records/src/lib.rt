@@ -1,7 +1,7 @@
 // Error entries in lent octets, each at the front of a record: the store of both ends of the error exchange.
 ghost use mathlib.Core.Path.{_≡_};
 ghost use lib.ListN.{drop};
-ghost use Rattle.error_entry.specs.Entry.{readEntry};
+ghost use Rattle.error_entry.specs.Entry.{ReadsEntry};
 ghost use Rattle.records.specs.Records.{PutsRecord};
 pub use error_entry::ENTRY_LEN;
 use error_entry::ErrorEntry;
@@ -12,7 +12,7 @@ use types::hal::PowerlinkError;
 
 // The entry whose record begins at an octet, if it is there whole.
 pub fn get(s: &[u8], at: usize) -> ErrorEntryAnswer
-    ensures { λ r. ⌜ r ≡ readEntry (drop at (now (s .entry))) ⌝ }
+    ensures { λ r. ⌜ ReadsEntry (drop at (now (s .entry))) r ⌝ }
 {
     ErrorEntry::deserialize(tail(s, at))
 }

@@ -2,8 +2,10 @@
 -- Assumes nothing.
 use Prim.Native.Nat.{ℕ}
 use mathlib.Core.List.{List, [], _∷_}
+use mathlib.Core.Path.{_≡_}
 use lib.ListN.{length, getD}
 use lib.Dec.{leb}
+use Rattle.types.specs.CauseNumbers.{tooShort}
 use Rattle.types.specs.Causes.{Cause, row, causeOf}
 use Rattle.types.specs.Codes.{need}
 use Rattle.types.specs.declared.hal.PowerlinkError.the-variants.{BufferTooShort}
@@ -34,3 +36,8 @@ readField s = record { field = fieldOf s; answer = need (leb 8 (length s)) (Refu
 abbrev pub fieldCause : ErrorFieldAnswer → Cause
 fieldCause Read = row 0 []
 fieldCause (Refused e) = causeOf e
+
+-- r is what reading the error field from the octets s gives, with 01's number
+pub record ReadsField (s : List ℕ) (r : DeserializedErrorField) : Type 0 where
+  pub read : r ≡ readField s
+  pub cause : fieldCause (r .answer) ≡ need (leb 8 (length s)) (row tooShort []) (row 0 [])

@@ -2,9 +2,11 @@
 -- Assumes nothing.
 use Prim.Native.Nat.{ℕ, _+_}
 use mathlib.Core.List.{List, [], _∷_, _++_}
+use mathlib.Core.Path.{_≡_}
 use lib.ListN.{length, getD, drop}
 use lib.Dec.{leb}
 use Rattle.octets.specs.Numbers.{bit}
+use Rattle.types.specs.CauseNumbers.{tooShort, unknownState}
 use Rattle.types.specs.Causes.{Cause, row, causeOf}
 use Rattle.types.specs.Codes.{need}
 use Rattle.types.specs.PollFlags.{pollOctet, priorityAt, requestsAt}
@@ -56,9 +58,27 @@ abbrev pub statusCause : StatusAnswer → Cause
 statusCause (Status f) = row 0 []
 statusCause (Refused e) = causeOf e
 
+-- that row, by the state that was read
+abbrev pub rowByState : NmtStateAnswer → Cause
+rowByState (Unknown b) = row unknownState (b ∷ [])
+rowByState (Known state) = row 0 []
+
+abbrev pub fieldsRow : List ℕ → Cause
+fieldsRow s = need (leb frontLength (length s)) (row tooShort []) (rowByState (stateOf (getD s 2 0)))
+
+-- r is what reading the fields from the octets s answers, with 01's number and values
+pub record ReadsFields (s : List ℕ) (r : StatusAnswer) : Type 0 where
+  pub answer : r ≡ readFields s
+  pub cause : statusCause r ≡ fieldsRow s
+
 -- octets 6 to 13 are the error field
 abbrev pub readStatus : List ℕ → DeserializedStatus
 readStatus s = record { «static_error_bit_field» = fieldOf (drop 6 s); answer = readFields s }
+
+-- as `ReadsFields`, with the error field
+pub record ReadsStatusResponse (s : List ℕ) (r : DeserializedStatus) : Type 0 where
+  pub read : r ≡ readStatus s
+  pub cause : statusCause (r .answer) ≡ fieldsRow s
 
 -- octets 3 to 5 are reserved
 unfoldable pub headBytes : StatusFields → StaticErrorBitField → List ℕ

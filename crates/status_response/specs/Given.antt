@@ -5,8 +5,10 @@ use mathlib.Core.Bool.{Bool, true, false}
 use mathlib.Core.Path.{_≡_}
 use mathlib.Core.List.{List, [], _∷_}
 use lib.ListN.{length, drop}
+use Rattle.types.specs.CauseNumbers.{tooShort}
+use Rattle.types.specs.Causes.{row}
 use Rattle.types.specs.declared.hal.PowerlinkError.the-variants.{BufferTooShort}
-use Rattle.section.specs.Write.{Writes}
+use Rattle.section.specs.Write.{writeCause, Writes}
 use Rattle.section.specs.declared.WriteAnswer.{WriteAnswer}
 use Rattle.section.specs.declared.WriteAnswer.the-variants.{Refused}
 use Rattle.error_entry.specs.Entry.{entryLength, entryOf}
@@ -25,4 +27,4 @@ entriesGiven s = entriesOf (length s / entryLength) s
 -- target as it was
 abbrev pub WritesWhole : Bool → List ℕ → WriteAnswer → List ℕ → List ℕ → Type 0
 WritesWhole true bs r target after = Writes bs r target after
-WritesWhole false bs r target after = (r ≡ Refused BufferTooShort) × (after ≡ target)
+WritesWhole false bs r target after = (r ≡ Refused BufferTooShort) × (writeCause r ≡ row tooShort []) × (after ≡ target)

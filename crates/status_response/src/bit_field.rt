@@ -3,7 +3,7 @@ ghost use mathlib.Core.Path.{_≡_};
 ghost use Prim.Native.Nat.{_≤_};
 ghost use lib.ListN.{length};
 ghost use Rattle.section.specs.Write.{Writes};
-ghost use Rattle.status_response.specs.BitField.{fieldOf, fieldBytes, readField};
+ghost use Rattle.status_response.specs.BitField.{fieldOf, fieldBytes, ReadsField};
 use octets::slices::put;
 use section::WriteAnswer;
 use section::write;
@@ -60,7 +60,7 @@ impl StaticErrorBitField {
 
     // Reads the first 8 octets.
     pub fn deserialize(buffer: &[u8]) -> DeserializedErrorField
-        ensures { λ r. ⌜ r ≡ readField (now (buffer .entry)) ⌝ }
+        ensures { λ r. ⌜ ReadsField (now (buffer .entry)) r ⌝ }
     {
         let field = field_at(buffer);
         if buffer.len() < 8 {

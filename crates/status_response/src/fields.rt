@@ -2,7 +2,7 @@
 ghost use mathlib.Core.Path.{_≡_};
 ghost use Prim.Native.Nat.{_≤_};
 ghost use lib.ListN.{length};
-ghost use Rattle.status_response.specs.Fields.{frontLength, fieldsOf, headBytes, readFields, readStatus};
+ghost use Rattle.status_response.specs.Fields.{frontLength, fieldsOf, headBytes, ReadsFields, ReadsStatusResponse};
 use crate::bit_field::StaticErrorBitField;
 use crate::bit_field::field_at;
 use octets::slices::tail;
@@ -48,7 +48,7 @@ pub struct DeserializedStatus {
 
 // Reads what stands in front of the entries.
 pub fn deserialize(payload: &[u8]) -> DeserializedStatus
-    ensures { λ r. ⌜ r ≡ readStatus (now (payload .entry)) ⌝ }
+    ensures { λ r. ⌜ ReadsStatusResponse (now (payload .entry)) r ⌝ }
 {
     DeserializedStatus {
         static_error_bit_field: field_at(tail(payload, 6)),
@@ -58,7 +58,7 @@ pub fn deserialize(payload: &[u8]) -> DeserializedStatus
 
 // The answer alone: for a caller that does not want the error field.
 pub fn read_fields(payload: &[u8]) -> StatusAnswer
-    ensures { λ r. ⌜ r ≡ readFields (now (payload .entry)) ⌝ }
+    ensures { λ r. ⌜ ReadsFields (now (payload .entry)) r ⌝ }
 {
     if payload.len() < FRONT_LEN {
         return StatusAnswer::Refused(PowerlinkError::BufferTooShort);

@@ -13,7 +13,7 @@ returns : tie.Need-returns
 unfolding deserializeFrame
 returns c =
     let p = c .before in
-    let r = p .before .before .read-frame .ensures in
+    let r = p .before .before .read-frame .ensures .answer in
     record {
       read = rw (c .whole-header .ensures, p .place-of .ensures, p .before .tail .ensures .octets, r);
       good = λ x e. ap frameCause (r ∙ e);

@@ -18,7 +18,7 @@ returns c =
     let first = n .before .before in
     let t = first .before .before in
     let a = t .args in (
-      record-read (a .state .now) (p .record-place .result) _ _ (omega (arith, l .get-arg2 .given .0, t .pre .0)) (g .get .ensures) (c .or-terminator .ensures)
+      record-read (a .state .now) (p .record-place .result) _ _ (omega (arith, l .get-arg2 .given .0, t .pre .0)) (g .get .ensures .answer) (c .or-terminator .ensures)
           ∙ rw (p .record-place .ensures, first .start .ensures .0),
       rw (n .count .ensures .0, first .start .ensures .0),
     )

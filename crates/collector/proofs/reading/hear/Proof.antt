@@ -30,13 +30,13 @@ no-status source =
     (λ v. refl, (λ v. refl, (λ v. refl, (λ v. refl, (λ v. refl, (λ v. refl, (λ v. refl, (λ v. refl, (λ v. refl, (λ v. refl, (λ v. refl, tt)))))))))))
 
 returns : tie.Need-returns
-returns c = by-answer _ _ _ (c .before .before .before .read-frame .ensures) (c .before .e .given .1)
+returns c = by-answer _ _ _ (c .before .before .before .read-frame .ensures .answer) (c .before .e .given .1)
 
 returns-2 : tie.Need-returns-2
 returns-2 c =
     let w = c .before .before in
     at-each frame.enum (λ (f : PowerlinkFrame). Other) responseInFrame (0 ∷ 1 ∷ 2 ∷ 3 ∷ []) (w .f .given .0 .0) (search needs) (c .match2 .keys2)
-    ∙ by-answer _ _ _ (w .before .before .read-frame .ensures) (w .f .given .1)
+    ∙ by-answer _ _ _ (w .before .before .read-frame .ensures .answer) (w .f .given .1)
 
 returns-3 : tie.Need-returns-3
 returns-3 c =
@@ -44,7 +44,7 @@ returns-3 c =
     let w = f .before .before .before in
     ap (λ (s : ServiceId). responseOfService s (f .frame .given .0 .0 .source)) (sym (c .enum-told .given .1))
     ∙ ap responseInFrame (sym (f .frame .given .1))
-    ∙ by-answer _ _ _ (w .before .before .read-frame .ensures) (w .f .given .1)
+    ∙ by-answer _ _ _ (w .before .before .read-frame .ensures .answer) (w .f .given .1)
 
 returns-4 : tie.Need-returns-4
 returns-4 c =
@@ -54,7 +54,7 @@ returns-4 c =
     at-each service.enum (λ (s : ServiceId). Other) (λ (s : ServiceId). responseOfService s (g .source)) others (g .«service_id») (no-status (g .source))
     (c .match3 .keys2)
     ∙ ap responseInFrame (sym (f .frame .given .1))
-    ∙ by-answer _ _ _ (w .before .before .read-frame .ensures) (w .f .given .1)
+    ∙ by-answer _ _ _ (w .before .before .read-frame .ensures .answer) (w .f .given .1)
 
 pub hear-spec : {M : Type 1} → statement M
 hear-spec =

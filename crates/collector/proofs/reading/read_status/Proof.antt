@@ -20,7 +20,7 @@ returns-2 c =
     let k = d .before .before in
     let a = k .before .before .before .args in (
       status-refused (a .state .now) (a .source) (a .payload .now) (omega (arith, k .slot .ensures .0)) _
-          (sym (w .e .given .1) ∙ d .read-fields .ensures),
+          (sym (w .e .given .1) ∙ d .read-fields .ensures .answer),
       k .slot .ensures .2,
     )
 
@@ -31,7 +31,7 @@ returns-3 c =
     let k = d .before .before in
     let a = k .before .before .before .args in (
       status-books (a .state .now) (a .source) (a .payload .now) (omega (arith, k .slot .ensures .0)) (w .f .given .0 .0)
-          (sym (w .f .given .1) ∙ d .read-fields .ensures) (k .slot .result) (k .slot .ensures .0)
+          (sym (w .f .given .1) ∙ d .read-fields .ensures .answer) (k .slot .result) (k .slot .ensures .0)
           _ _ (c .book .ensures),
       k .slot .ensures .2,
     )

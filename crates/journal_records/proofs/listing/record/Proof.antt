@@ -25,7 +25,7 @@ returns-2 c =
     let a = t .before .before .before .before .before .args in
     prints-as
     (record-fault _ (t .before .before .if1 .left)
-    (ap (validRecord _) (sym (entry-read (a .bytes .now) (t .before .before .if1 .left) _ _ _ (t .tail .ensures .octets) (e .before .deserialize .ensures) (e .or-terminator .ensures))) ∙ sym (v .valid .ensures) ∙ not-true _ (i .if2 .taken)))
+    (ap (validRecord _) (sym (entry-read (a .bytes .now) (t .before .before .if1 .left) _ _ _ (t .tail .ensures .octets) (e .before .deserialize .ensures .answer) (e .or-terminator .ensures))) ∙ sym (v .valid .ensures) ∙ not-true _ (i .if2 .taken)))
     (r .refuse2 .ensures)
 
 returns-3 : tie.Need-returns-3
@@ -36,7 +36,7 @@ returns-3 c =
     let e = v .before in
     let t = e .before .before in
     let a = t .before .before .before .before .before .args in
-    let read = entry-read (a .bytes .now) (t .before .before .if1 .left) _ _ _ (t .tail .ensures .octets) (e .before .deserialize .ensures) (e .or-terminator .ensures) in
+    let read = entry-read (a .bytes .now) (t .before .before .if1 .left) _ _ _ (t .tail .ensures .octets) (e .before .deserialize .ensures .answer) (e .or-terminator .ensures) in
     prints-as
     (record-good _ (t .before .before .if1 .left)
     (ap (validRecord _) (sym read) ∙ sym (v .valid .ensures) ∙ not-false _ (i .if2 .left)))

@@ -10,13 +10,13 @@ returns : tie.Need-returns
 returns c =
     let e = c .before .before in
     let d = e .before .before in
-    entry-refused _ _ _ _ (sym (d .deserialize .ensures) ∙ e .e .given .1) (c .number .ensures)
+    entry-refused _ _ _ _ (sym (d .deserialize .ensures .answer) ∙ e .e .given .1) (c .number .ensures)
 
 returns-2 : tie.Need-returns-2
 returns-2 c =
     let e = c .before .before in
     let d = e .before .before in
-    entry-read _ _ _ _ (sym (d .deserialize .ensures) ∙ e .e2 .given .1) (c .entry-values .ensures)
+    entry-read _ _ _ _ (sym (d .deserialize .ensures .answer) ∙ e .e2 .given .1) (c .entry-values .ensures)
 
 pub powerlink-deserialize-entry-spec : {M : Type 1} → statement M
 powerlink-deserialize-entry-spec =

@@ -9,13 +9,13 @@ returns : tie.Need-returns
 returns c =
     let e = c .before .before in
     let d = e .before .before .before in
-    field-refused _ _ (d .deserialize .ensures) _ _ _ (e .answer .given .1) (c .number .ensures)
+    field-refused _ _ (d .deserialize .ensures .read) _ _ _ (e .answer .given .1) (c .number .ensures)
 
 returns-2 : tie.Need-returns-2
 returns-2 c =
     let e = c .before in
     let d = e .before .before .before in
-    field-read _ _ (d .deserialize .ensures) _ _ (e .enum-told .given .1) (c .to-bytes .ensures)
+    field-read _ _ (d .deserialize .ensures .read) _ _ (e .enum-told .given .1) (c .to-bytes .ensures)
 
 pub powerlink-deserialize-error-field-spec : {M : Type 1} → statement M
 powerlink-deserialize-error-field-spec =

@@ -11,21 +11,21 @@ use Rattle.powerlink.proofs.status.powerlink_deserialize_status.Tie as 
 shared-slice-read-numbers : tie.Need-shared-slice-read-numbers
 shared-slice-read-numbers c =
     let m = c .before .before .before .before .before in
-    omega (arith, front-there _ _ (sym (m .f .given .1) ∙ m .before .before .read-fields .ensures) .0)
+    omega (arith, front-there _ _ (sym (m .f .given .1) ∙ m .before .before .read-fields .ensures .answer) .0)
 
 returns : tie.Need-returns
 returns c =
     let m = c .before .before .before in
     let d = m .before .before in
-    status-refused _ _ _ _ _ _ _ (sym (m .e .given .1) ∙ d .read-fields .ensures) (c .refusal .ensures)
+    status-refused _ _ _ _ _ _ _ (sym (m .e .given .1) ∙ d .read-fields .ensures .answer) (c .refusal .ensures)
 
 returns-2 : tie.Need-returns-2
 returns-2 c =
     let v = c .before .before in
     let b = v .before .before in
     let m = b .before .before in
-    let read = sym (m .f .given .1) ∙ m .before .before .read-fields .ensures in
-    status-read _ _ _ _ _ _ _ _ read (b .deserialize .ensures) (state-told _ _ read _ (v .status-values .ensures)) (c .to-bytes .ensures)
+    let read = sym (m .f .given .1) ∙ m .before .before .read-fields .ensures .answer in
+    status-read _ _ _ _ _ _ _ _ read (b .deserialize .ensures .read) (state-told _ _ read _ (v .status-values .ensures)) (c .to-bytes .ensures)
 
 pub powerlink-deserialize-status-spec : {M : Type 1} → statement M
 powerlink-deserialize-status-spec =

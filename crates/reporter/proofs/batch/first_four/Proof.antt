@@ -32,10 +32,10 @@ returns c =
     let size = l .get-arg .given .0 in
     let at : ℕ = a .start .result in
     four-got s at _ _ _ _
-    (entry-got s at _ _ _ size (g₀ .before .record-place .ensures) (g₀ .get .ensures) (o₀ .or-terminator .ensures))
-    (entry-got s (at + 1) _ _ _ size (g₁ .before .record-place2 .ensures) (g₁ .get2 .ensures) (o₁ .or-terminator2 .ensures))
-    (entry-got s (at + 2) _ _ _ size (g₂ .before .record-place3 .ensures) (g₂ .get3 .ensures) (o₂ .or-terminator3 .ensures))
-    (entry-got s (at + 3) _ _ _ size (g₃ .before .record-place4 .ensures) (g₃ .get4 .ensures) (c .or-terminator4 .ensures))
+    (entry-got s at _ _ _ size (g₀ .before .record-place .ensures) (g₀ .get .ensures .answer) (o₀ .or-terminator .ensures))
+    (entry-got s (at + 1) _ _ _ size (g₁ .before .record-place2 .ensures) (g₁ .get2 .ensures .answer) (o₁ .or-terminator2 .ensures))
+    (entry-got s (at + 2) _ _ _ size (g₂ .before .record-place3 .ensures) (g₂ .get3 .ensures .answer) (o₂ .or-terminator3 .ensures))
+    (entry-got s (at + 3) _ _ _ size (g₃ .before .record-place4 .ensures) (g₃ .get4 .ensures .answer) (c .or-terminator4 .ensures))
     ∙ ap (λ (k : ℕ). ring (entryIn s) places k batchLength) (a .start .ensures .0)
 
 pub first-four-spec : {M : Type 1} → statement M

@@ -7,7 +7,7 @@ use Rattle.status_response.proofs.entries.serialize_batch.Statement.{st
 use Rattle.status_response.proofs.entries.serialize_batch.Tie as tie
 
 returns : tie.Need-returns
-returns c = rw (lt-leb _ 4 (c .if1 .taken)) (refl, refl)
+returns c = rw (lt-leb _ 4 (c .if1 .taken)) (refl, refl, refl)
 
 returns-2 : tie.Need-returns-2
 returns-2 c =

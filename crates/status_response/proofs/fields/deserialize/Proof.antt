@@ -5,7 +5,9 @@ use Rattle.status_response.proofs.fields.deserialize.Statement.{stateme
 use Rattle.status_response.proofs.fields.deserialize.Tie as tie
 
 returns : tie.Need-returns
-returns c = rw (c .read-fields .ensures, c .before .field-at .ensures, c .before .before .tail .ensures .octets)
+returns c =
+    let f = c .read-fields .ensures in
+    record { read = rw (f .answer, c .before .field-at .ensures, c .before .before .tail .ensures .octets); cause = f .cause }
 
 pub deserialize-spec : {M : Type 1} → statement M
 deserialize-spec = tie.close (tie.spec (search needs) (search needs) (search needs) returns)

@@ -9,21 +9,25 @@ use Rattle.status_response.proofs.fields.read_fields.Tie as tie
 
 returns : tie.Need-returns
 unfolding readFields
-returns c = rw (lt-leb 14 _ (c .if1 .taken))
+returns c = let short = lt-leb 14 _ (c .if1 .taken) in record { answer = rw short; cause = rw short }
 
 returns-2 : tie.Need-returns-2
 unfolding readFields
 returns-2 c =
     let b = c .before in
     let u = b .before .before in
-    rw (le-leb 14 _ (u .before .before .if1 .left), sym (u .from-u8 .ensures .answer) ∙ b .b .given .1)
+    let long = le-leb 14 _ (u .before .before .if1 .left) in
+    let none = sym (u .from-u8 .ensures .answer) ∙ b .b .given .1 in
+    record { answer = rw (long, none); cause = rw (long, none) }
 
 returns-3 : tie.Need-returns-3
 unfolding readFields
 returns-3 c =
     let k = c .before .before in
     let u = k .before .before in
-    rw (c .fields .ensures, le-leb 14 _ (u .before .before .if1 .left), sym (u .from-u8 .ensures .answer) ∙ k .state .given .1)
+    let long = le-leb 14 _ (u .before .before .if1 .left) in
+    let known = sym (u .from-u8 .ensures .answer) ∙ k .state .given .1 in
+    record { answer = rw (c .fields .ensures, long, known); cause = rw (long, known) }
 
 pub read-fields-spec : {M : Type 1} → statement M
 read-fields-spec =

@@ -12,16 +12,16 @@ returns c =
     let o₁ = o₂ .before .before .before in
     rw (
       c .or-terminator4 .ensures,
-      c .before .deserialize4 .ensures,
+      c .before .deserialize4 .ensures .answer,
       c .before .before .tail3 .ensures .octets,
       o₃ .or-terminator3 .ensures,
-      o₃ .before .deserialize3 .ensures,
+      o₃ .before .deserialize3 .ensures .answer,
       o₃ .before .before .tail2 .ensures .octets,
       o₂ .or-terminator2 .ensures,
-      o₂ .before .deserialize2 .ensures,
+      o₂ .before .deserialize2 .ensures .answer,
       o₂ .before .before .tail .ensures .octets,
       o₁ .or-terminator .ensures,
-      o₁ .before .deserialize .ensures,
+      o₁ .before .deserialize .ensures .answer,
     )
     (simp drop-drop)
 

@@ -12,7 +12,7 @@ use Rattle.status_response.proofs.given.serialize.Statement.{statement}
 use Rattle.status_response.proofs.given.serialize.Tie as tie
 
 returns : tie.Need-returns
-returns c = rw (ne-eqb _ 0 (c .if1 .taken)) (refl, refl)
+returns c = rw (ne-eqb _ 0 (c .if1 .taken)) (refl, refl, refl)
 
 put-groups-requires : tie.Need-put-groups-requires
 put-groups-requires c κs =

@@ -22,14 +22,14 @@ returns-2 c =
     let d = e .before .before in
     let a = d .before .before .before .before .args in
     let entry = e .entry .given .0 .0 in
-    step-read (a .payload .now) (a .offset) _ (rest-is (a .payload .now) (a .offset)) _ _ _ (sym (d .deserialize .ensures) ∙ e .entry .given .1) refl
+    step-read (a .payload .now) (a .offset) _ (rest-is (a .payload .now) (a .offset)) _ _ _ (sym (d .deserialize .ensures .answer) ∙ e .entry .given .1) refl
     (is-terminator (Entry entry (a .offset + entryLength)) End (entry .«entry_type» .mode) (sym (c .if2 .taken) ∙ t .is-terminator .ensures))
 
 returns-3 : tie.Need-returns-3
 returns-3 c =
     let d = c .before .before in
     let a = d .before .before .before .before .args in
-    step-refused (a .payload .now) (a .offset) _ (rest-is (a .payload .now) (a .offset)) _ (sym (d .deserialize .ensures) ∙ c .enum-told .given .1)
+    step-refused (a .payload .now) (a .offset) _ (rest-is (a .payload .now) (a .offset)) _ (sym (d .deserialize .ensures .answer) ∙ c .enum-told .given .1)
 
 returns-4 : tie.Need-returns-4
 returns-4 c =
@@ -38,7 +38,7 @@ returns-4 c =
     let d = e .before .before in
     let a = d .before .before .before .before .args in
     let entry = e .entry .given .0 .0 in
-    step-read (a .payload .now) (a .offset) _ (rest-is (a .payload .now) (a .offset)) _ _ _ (sym (d .deserialize .ensures) ∙ e .entry .given .1) refl
+    step-read (a .payload .now) (a .offset) _ (rest-is (a .payload .now) (a .offset)) _ _ _ (sym (d .deserialize .ensures .answer) ∙ e .entry .given .1) refl
     (is-entry (Entry entry (a .offset + entryLength)) End (entry .«entry_type» .mode) (sym (c .if2 .left) ∙ t .is-terminator .ensures))
 
 pub entry-step-spec : {M : Type 1} → statement M
