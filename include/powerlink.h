@@ -58,7 +58,8 @@ extern "C" {
 #define POWERLINK_FIELD_LEN 8
 #define POWERLINK_ENTRY_LEN 20
 
-/* The longest answer of a reporter, and a collector's request. */
+/* The longest answer of a reporter, and a collector's request. Both are lengths to write in: an answer of another
+ * supplier's node may be longer, so that frames are received in a whole Ethernet frame's place. */
 #define POWERLINK_ANSWER_MAX 132
 #define POWERLINK_REQUEST_LEN 60
 
@@ -488,6 +489,12 @@ uint8_t powerlink_new_asnd(
  * A wrong EA closes a batch that is not booked, a wrong EN makes one known that never was, an old state has both, and
  * a frame that was overtaken is a wrong one; every call then still answers with 0. So:
  *
+ * EN, EA, ER and EC are the exception flags of DS 301: new (entries were reported), acknowledge, reset and clear. A
+ * batch is what one EN reports: it is open until the EA that equals its EN closes it, and known where EN equals EA.
+ *
+ * Whole frames. What is read is the whole frame, as long as it was received. Of a StatusResponse that was cut behind
+ * its first entries these are booked, and the others are lost: nothing in it tells how long it was.
+ *
  * Order. Frames of one sender arrive in the order of sending. Queues with priorities, in a switch or in the host, do
  * not change it.
  *
@@ -506,10 +513,10 @@ uint8_t powerlink_new_asnd(
  * Threads. All calls are reentrant, and separate states may be used from separate threads at the same time. One state
  * needs a lock: only calls that take it as const may run on it together. The lock is held until the frame that was
  * asked for is in its place in the order of sending, from a reading to its saving, and from Take to the saving of
- * state and journal. A cyclic task that may not wait for it sends all frames to the
- * nodes itself, and takes EA and ER from a copy of what powerlink_collector_flags gave as each one leaves (a request is
- * then powerlink_new_soa with POWERLINK_STATUS_REQUEST); the task that reads answers renews the copy after every
- * reading, once the state is saved and before the next answer is read.
+ * state and journal. A cyclic task that may not wait for it sends all frames to the nodes itself, and takes EA and ER
+ * from a copy of what powerlink_collector_flags gave as each one leaves (a request is then powerlink_new_soa with
+ * POWERLINK_STATUS_REQUEST); the task that reads answers renews the copy after every reading, once the state is saved
+ * and before the next answer is read.
  *
  * Beginning anew. Both ends begin together, with nothing left on the line or in a buffer of what either sent before: an
  * old answer or request would be taken for a new one. One that begins alone loses faults, or lists them twice:
@@ -541,8 +548,8 @@ uint8_t powerlink_new_asnd(
  * filled with zeros, the journal is cut. (To compare the last record without a length is not enough: of two equal
  * entries one would be lost.)
  *
- * tests/c/host_loop.c is a host that does all this; host_frames.c and restarts.c beside it show what each mistake
- * costs. */
+ * tests/c/host_loop.c is a host of one task that does this, without the checksum and with no other reader of its
+ * journal; host_frames.c and restarts.c beside it show what each mistake costs. */
 
 /* ---- A controlled node that reports errors */
 
@@ -596,7 +603,8 @@ uint8_t powerlink_collector_register(uint8_t state[POWERLINK_ARRAY(POWERLINK_COL
  * says that it was booked before. The frame's destination is not tested; a new EN without entries is booked too.
  * `outcome`: POWERLINK_KNOWN or _BOOKED; where booked, the state is saved before the next frame leaves.
  * Tests: those of powerlink_deserialize_frame, 10, 11, 1 and 5 of the StatusResponse, then 12, where the batch is not
- * known: the node sends it again, and powerlink_collector_take makes room.
+ * known: the node sends it again, and powerlink_collector_take makes room. A batch of more than 64 never finds it; a
+ * reporter's has at most four.
  * Refused: nothing is written, but `octet` with 4 to 7. */
 uint8_t powerlink_collector_read(
     uint8_t state[POWERLINK_ARRAY(POWERLINK_COLLECTOR_LEN)],
@@ -639,7 +647,8 @@ uint8_t powerlink_journal_record(
 /* Tells how many of the `len` octets of a journal are its start and whole records. `version` is the number in its octets
  * 3 and 4, low octet first, and not POWERLINK_VERSION. What a power cut left of a record may stand behind them: cut the
  * file to `whole` octets before anything is appended. Records behind a torn one are read from a wrong place, and list
- * faults that nobody raised.
+ * faults that nobody raised. The mark, octets 0 to 2, is the caller's to compare with POWERLINK_JOURNAL_START: a file
+ * that is refused, or has another mark, may be somebody else's.
  * Tests: 17, 18. Refused: nothing is written. */
 uint8_t powerlink_journal_whole_len(uint16_t version, size_t len, size_t *POWERLINK_RESTRICT whole);
 

@@ -8,7 +8,7 @@
 use powerlink::*;
 use std::collections::VecDeque;
 use std::fs::{self, File, OpenOptions};
-use std::io::Write;
+use std::io::{Read, Write};
 use std::path::PathBuf;
 
 const HEAD: NodeId = NodeId(7);
@@ -118,7 +118,11 @@ impl BoxHost {
     /// state that is not saved. They are cut off, since they will be taken again.
     fn start(world: &mut World) -> Outcome<Self> {
         let path = world.folder.join("journal");
-        let journal = OpenOptions::new().append(true).create(true).open(path)?;
+        let journal = OpenOptions::new()
+            .read(true)
+            .append(true)
+            .create(true)
+            .open(path)?;
         let Some((octets, journal_len)) = world.load("box") else {
             return BoxHost::anew(world, journal);
         };
@@ -133,8 +137,16 @@ impl BoxHost {
     }
 
     /// A new box goes on with the journal that is there, without a record that a power cut has
-    /// torn.
+    /// torn. A file that does not begin as a journal of this version does is somebody else's, and is
+    /// left as it is. The start is flushed before the state that says how long the journal is.
     fn anew(world: &mut World, mut journal: File) -> Outcome<Self> {
+        let mut found = Vec::new();
+        (&journal)
+            .take(journal::START.len() as u64)
+            .read_to_end(&mut found)?;
+        if !journal::START.starts_with(&found) {
+            return Err("there is a journal that is none of this version".into());
+        }
         let mut journal_len = journal.metadata()?.len();
         match journal::whole_len(1, journal_len as usize) {
             Ok(whole) => journal_len = whole as u64,
@@ -145,6 +157,7 @@ impl BoxHost {
             }
         }
         journal.set_len(journal_len)?;
+        journal.sync_all()?;
         let mut the_box = Collector::new();
         the_box.register(HEAD)?;
         world.save("box", the_box.as_bytes(), journal_len)?;
@@ -361,7 +374,8 @@ fn main() -> Outcome<()> {
     let journal = fs::read(folder.join("journal"))?;
     fs::remove_dir_all(folder)?;
     let mut listed = Vec::new();
-    for record in journal[journal::START.len()..].chunks(journal::RECORD_LEN) {
+    let records = journal.strip_prefix(&journal::START).ok_or("no start")?;
+    for record in records.chunks(journal::RECORD_LEN) {
         listed.push(ErrorEntry::deserialize(&record[1..])?.error_code as u64);
     }
     assert_eq!(listed, (0..raised).collect::<Vec<_>>());

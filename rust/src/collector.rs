@@ -69,8 +69,8 @@ impl Collector {
     /// unless it is there already. Refused are what [`deserialize_frame`](crate::deserialize_frame)
     /// refuses (1 to 7), a frame that is no StatusResponse (10), one from a node that is not
     /// registered (11), a payload under 14 octets (1) or with an unknown state (5), and a new batch
-    /// with more entries than the book has free places (12), which the head sends again. Where it
-    /// was booked, the state is saved before the next frame leaves.
+    /// with more entries than the book has free places (12), which the head sends again; one of more
+    /// than 64 never finds them. Where it was booked, the state is saved before the next frame leaves.
     pub fn read(&mut self, buffer: &[u8]) -> Result<CollectorRead, Error> {
         Ok(match ffi::collector_read(&mut self.0, buffer)? {
             0 => CollectorRead::Known,

@@ -89,6 +89,10 @@
 //! EN of [`Reporter::en`]. EN flips when an answer opens a batch, and not when an entry is raised:
 //! it does not tell that entries wait, so that the box sends every head a request again and again.
 //!
+//! **Whole frames.** A frame is read as long as it was received: of a StatusResponse that is cut
+//! behind its first entries these are booked, and the others are lost. A head of another supplier
+//! may send more than the four entries of ours.
+//!
 //! **Threads.** Both states are `Send` and `Sync`, and no call has a state of its own: separate
 //! states go on at the same time, and for one state `&mut` is the lock, or asks for one. Where it
 //! is shared, the lock is held until the frame is in its place in the order of sending, from a

@@ -109,16 +109,23 @@ static struct {
 static int journal = -1;
 static bool changed;
 
-/* A new box goes on with the journal that is there, without a record that a power cut has torn. */
+static const uint8_t journal_start[POWERLINK_JOURNAL_START_LEN] = POWERLINK_JOURNAL_START;
+
+/* A new box goes on with the journal that is there, without a record that a power cut has torn. A file that does not begin
+ * as a journal of this version does is somebody else's, and is left as it is. The start is flushed before the state that
+ * says how long the journal is. */
 static void new_box(void)
 {
-    static const uint8_t start[POWERLINK_JOURNAL_START_LEN] = POWERLINK_JOURNAL_START;
+    uint8_t found[POWERLINK_JOURNAL_START_LEN];
+    ssize_t there = pread(journal, found, sizeof found, 0);
     size_t whole;
+    want("a journal of this version", there >= 0 && memcmp(found, journal_start, (size_t)there) == 0, true);
     if (powerlink_journal_whole_len(JOURNAL_VERSION, lseek(journal, 0, SEEK_END), &whole) != POWERLINK_DONE) {
         want("cutting", ftruncate(journal, 0) == 0, true);
-        put(journal, start, sizeof start);
-        whole = sizeof start;
+        put(journal, journal_start, sizeof journal_start);
+        whole = sizeof journal_start;
     }
+    want("flushing", fsync(journal) == 0, true);
     box.journal_len = whole;
     want("a new box", powerlink_collector_new(box.state), POWERLINK_DONE);
     want("registering", powerlink_collector_register(box.state, HEAD), POWERLINK_DONE);
@@ -131,7 +138,7 @@ static void box_starts(void)
 {
     if (journal >= 0)
         close(journal);
-    journal = open("journal", O_WRONLY | O_CREAT | O_APPEND, 0666);
+    journal = open("journal", O_RDWR | O_CREAT | O_APPEND, 0666);
     if (!load("box", &box, sizeof box))
         new_box();
     want("cutting", ftruncate(journal, (off_t)box.journal_len) == 0, true);
@@ -311,6 +318,7 @@ static void journal_has(uint64_t count)
     uint64_t v[POWERLINK_ENTRY_VALUES], code;
     FILE *file = fopen("journal", "rb");
     want("a journal", file != NULL && fread(start, 1, sizeof start, file) == sizeof start, true);
+    want("its start", memcmp(start, journal_start, sizeof start), 0);
     for (code = 1; code <= count; code++) {
         want("a record", fread(record, 1, sizeof record, file), sizeof record);
         want("its entry", powerlink_deserialize_entry(record + 1, POWERLINK_ENTRY_LEN, v), POWERLINK_DONE);

@@ -5,6 +5,7 @@ use Prim.Native.Nat.{ℕ, suc, _≤_}
 use mathlib.Core.Bool.{Bool, false}
 use mathlib.Core.Path.{_≡_}
 use mathlib.Core.List.{List, [], _∷_, _++_}
+use Rattle.types.specs.Nodes.{managingNode}
 use Rattle.error_entry.specs.Values.{entryTold}
 use Rattle.error_entry.specs.declared.ErrorEntry.{ErrorEntry}
 use Rattle.reporter.specs.Layout.{headOf}
@@ -36,7 +37,7 @@ pub data CStep (i : ℕ) (w : Site) : Call → Site → Type 0 where
       → ReporterAnswers (answerFields from to ec pr rs field) state r (w .head) after t t′ n n′ o o′
       → CStep i w (reporterAnswer state r t′ n′) (record { head = after; box = w .box; log = reporterAnswer state r t′ n′ ∷ w .log })
   headReads : (from : Origin) (bs : List ℕ) (r k k′ o o′ : ℕ) (after : List ℕ)
-      → Delivered 240 from bs (tally i (events (w .log)) .requests)
+      → Delivered managingNode from bs (tally i (events (w .log)) .requests)
       → ReporterReads bs r (w .head) after k k′ o o′
       → CStep i w (reporterRead from bs r k′ o′) (record { head = after; box = w .box; log = reporterRead from bs r k′ o′ ∷ w .log })
   registers : (j r : ℕ) (after : List ℕ) → CollectorRegisters j r (w .box) after

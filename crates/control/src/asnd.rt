@@ -18,6 +18,9 @@ pub const FIELDS_LEN: usize = 4;
 
 pub const PAYLOAD_AT: usize = ETH_LEN + FIELDS_LEN;
 
+// Where the service stands.
+pub const SERVICE_AT: usize = 3;
+
 // The fields in front of the payload, which stands beside them.
 pub struct ASndFrame {
     pub destination: NodeId,

@@ -21,6 +21,11 @@ use types::states::NmtState;
 // How many octets the fields have.
 pub const FIELDS_LEN: usize = 9;
 
+// Where the state and the requested service stand.
+pub const STATE_AT: usize = 3;
+
+pub const SERVICE_AT: usize = 6;
+
 // The flags (EPSG DS 301, Table 22).
 pub struct SoAFlags {
     // Exception acknowledge.

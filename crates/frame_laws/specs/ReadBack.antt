@@ -6,6 +6,7 @@ use mathlib.Core.List.{List, []}
 use lib.ListN.{length}
 use Rattle.octets.specs.Trim.{trimmedLength}
 use Rattle.types.specs.Header.{ethertypeEPL}
+use Rattle.types.specs.Nodes.{broadcastNode}
 use Rattle.types.specs.declared.basic.EthernetHeader.{EthernetHeader}
 use Rattle.control.specs.declared.soc.SocFrame.{SocFrame}
 use Rattle.frame.specs.Write.{frameBytes}
@@ -38,7 +39,7 @@ abbrev pub Faithful : PowerlinkFrame → List ℕ → Type 0
 Faithful (Soc f) payload = SocInRange f × (payload ≡ [])
 Faithful (PReq f) payload = (f .«payload_size» ≡ length payload) × (length payload < 2 ^ 16)
 Faithful (PRes f) payload =
-    (f .destination .0 ≡ 255) × ((f .flags .rs .0 ≤ 7) × ((f .«payload_size» ≡ length payload) × (length payload < 2 ^ 16)))
+    (f .destination .0 ≡ broadcastNode) × ((f .flags .rs .0 ≤ 7) × ((f .«payload_size» ≡ length payload) × (length payload < 2 ^ 16)))
 Faithful (SoA f) payload = payload ≡ []
 Faithful (ASnd f) payload = length payload ≤ 42 → trimmedLength payload ≡ length payload
 

@@ -9,6 +9,8 @@ use lib.ListN.{length, getD, take, drop, replicate}
 use Rattle.octets.specs.Numbers.{bit}
 use Rattle.types.specs.Header.{ethLength}
 use Rattle.section.specs.Write.{minSection, padded}
+use Rattle.control.specs.SoA.{soaFieldsLength}
+use Rattle.control.specs.SoC.{socFieldsLength}
 use Rattle.poll.specs.Poll.{pollFieldsLength}
 use Rattle.frame.specs.Write.{frameSection, frameBytes}
 use Rattle.frame.specs.declared.PowerlinkFrame.{PowerlinkFrame}
@@ -53,7 +55,7 @@ pub record PlainSoC (s : List ℕ) : Type 0 where
   pub octet3 : getD s 3 0 ≡ 0
   pub flags : Clear socUnnamed (getD s 4 0)
   pub octet5 : getD s 5 0 ≡ 0
-  pub behind : PaddedFrom 22 s
+  pub behind : PaddedFrom socFieldsLength s
 
 -- 4.6.1.1.3: octet 4 has ms at bit 5, ea at bit 2 and rd at bit 0; octets 3, 5 and 7 are not named
 abbrev pub preqUnnamed : List ℕ
@@ -89,7 +91,7 @@ pub record PlainSoA (s : List ℕ) : Type 0 where
   pub message : Clear typeUnnamed (getD s 0 0)
   pub flags : Clear soaUnnamed (getD s 4 0)
   pub octet5 : getD s 5 0 ≡ 0
-  pub behind : PaddedFrom 9 s
+  pub behind : PaddedFrom soaFieldsLength s
 
 -- 4.6.1.1.6: all else is named, and the section has the smallest size at least. Zeros that reading takes from the end of the payload
 -- of a smallest section are its padding, so nothing is asked of them

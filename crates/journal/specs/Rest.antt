@@ -1,5 +1,5 @@
--- What is left of a part of the journal, and what of the listing is said and due then. `said` counts the octets of text that the
--- program's `say` answered as written; what C has read or written no contract tells.
+-- What is left of a part of the journal, and what of the listing is said and due then. `said` is the program's own count of octets of
+-- text; that it goes by what `say` answered is tested, and what C has read or written no contract tells.
 -- Assumes nothing.
 use Prim.Native.Nat.{ℕ, _+_, _≤_, _<_}
 use mathlib.Core.Bool.{Bool, true, false}

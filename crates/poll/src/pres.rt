@@ -35,6 +35,9 @@ pub struct PResFlags {
     pub rs: RSFlag,
 }
 
+// Where the state stands.
+pub const STATE_AT: usize = 3;
+
 // The bit of EN in octet 4, beside those of MS and RD.
 pub const EN: u8 = 0x10;
 

@@ -14,6 +14,7 @@ use poll::preq::PReqFlags;
 use poll::preq::PReqFrame;
 use poll::pres::PResFlags;
 use poll::pres::PResFrame;
+use poll::pres::STATE_AT;
 use section::MIN_FRAME;
 use section::write_behind;
 use types::EPLVersion;
@@ -139,7 +140,7 @@ pub extern "C" fn powerlink_new_pres(
             let frame = new.frame;
             // The state's octet is the one that was given: the compiler then makes no table of states.
             let mut fields = frame.to_bytes();
-            fields[3] = state;
+            fields[STATE_AT] = state;
             let answer = write_behind(&eth_header.to_bytes(), &fields, payload, target);
             written_or(answer, written)
         }
@@ -233,7 +234,7 @@ pub extern "C" fn powerlink_new_asnd(
             let frame = new.frame;
             // The service's octet is the one that was given, as a PRes's state.
             let mut fields = frame.to_bytes();
-            fields[3] = service;
+            fields[asnd::SERVICE_AT] = service;
             let answer = write_behind(&eth_header.to_bytes(), &fields, payload, target);
             written_or(answer, written)
         }

@@ -14,6 +14,7 @@ use error_entry::ErrorEntry;
 use error_entry::ErrorEntryAnswer;
 use status_response::bit_field::ErrorFieldAnswer;
 use status_response::bit_field::StaticErrorBitField;
+use status_response::fields::STATE_AT;
 use status_response::fields::StatusAnswer;
 use status_response::fields::StatusFields;
 use status_response::fields::deserialize;
@@ -50,7 +51,7 @@ pub extern "C" fn powerlink_deserialize_status(
             let bits = status.static_error_bit_field;
             let mut numbers = status_values(f);
             // The state's number is its octet: the compiler then makes no table of states.
-            numbers[4] = payload[2] as u64;
+            numbers[4] = payload[STATE_AT] as u64;
             *values = numbers;
             *field = bits.to_bytes();
             0

@@ -12,6 +12,7 @@ use mathlib.Core.Option.{Option, none, some}
 use lib.ListN.{length, take, getElem?}
 use lib.Dec.{leb, eqb}
 use Rattle.types.specs.Codes.{pick}
+use Rattle.types.specs.Nodes.{managingNode}
 use Rattle.types.specs.declared.NodeId.{NodeId}
 use Rattle.section.specs.declared.WriteAnswer.{WriteAnswer}
 use Rattle.section.specs.declared.WriteAnswer.the-variants as write
@@ -262,7 +263,7 @@ pub data Step (i : ℕ) (w : World) : Event → World → Type 0 where
   answer : (f : AnswerFields) (r : WriteAnswer) (after target written : List ℕ)
       → reporter.Answers f r (w .head) after target written
       → Step i w (answered r written) (record { head = after; box = w .box; log = answered r written ∷ w .log })
-  headReads : (o : Origin) (bs : List ℕ) (r : ReadAnswer) (after : List ℕ) → Delivered 240 o bs (tally i (w .log) .requests)
+  headReads : (o : Origin) (bs : List ℕ) (r : ReadAnswer) (after : List ℕ) → Delivered managingNode o bs (tally i (w .log) .requests)
       → reporter.Reads bs r (w .head) after
       → Step i w (headRead o bs r) (record { head = after; box = w .box; log = headRead o bs r ∷ w .log })
   register : (j : ℕ) (r : RegisterAnswer) (after : List ℕ) → collector.Registers (node j) r (w .box) after

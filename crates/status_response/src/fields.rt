@@ -19,6 +19,9 @@ use types::states::NmtStateAnswer;
 // The octets in front of the entries.
 pub const FRONT_LEN: usize = 14;
 
+// Where the state stands.
+pub const STATE_AT: usize = 2;
+
 // The bits of EN and EC in octet 0: 5 and 4 (docs/DIFFERENCES.md: others read 4 and 3).
 pub const EN: u8 = 0x20;
 

@@ -1,5 +1,6 @@
 // The walk over the entries of a payload: it holds the payload's bytes and the offset of the next entry.
 ghost use mathlib.Core.Path.{_≡_};
+ghost use Rattle.status_response.specs.Fields.{frontLength};
 ghost use Rattle.status_response.specs.Steps.{stepAt};
 use crate::fields::FRONT_LEN;
 use error_entry::ENTRY_LEN;
@@ -39,7 +40,7 @@ fn entry_step(payload: &[u8], offset: usize) -> EntryStep
 
 // A walk from the first entry of a payload on.
 pub fn new<'a>(payload: &'a [u8]) -> EntryWalk<'a>
-    ensures { λ r. ⌜ (r .payload ≡ payload .entry) × (r .offset ≡ 14) ⌝ }
+    ensures { λ r. ⌜ (r .payload ≡ payload .entry) × (r .offset ≡ frontLength) ⌝ }
 {
     EntryWalk {
         payload,
