@@ -16,35 +16,36 @@ use Rattle.journal_records.specs.declared.listing.Phase.{Phase}
 use Rattle.journal_records.specs.declared.listing.Phase.the-variants.{Header, Records}
 use Rattle.journal_records.proofs.InParts.{lists-in-parts}
 use Rattle.journal.specs.declared.Rest.{Rest}
-use Rattle.journal.specs.Rest.{Due, Follows, Begins, Goes, Ends, Fails, Listed, restAfter}
+use Rattle.journal.specs.declared.streams.Streams.{Streams}
+use Rattle.journal.specs.Rest.{Due, Follows, Begins, Ends, Listed, restAfter}
+use Rattle.journal.specs.Streams.{saidMore, countMost, Counted, Unless}
+use Rattle.journal.proofs.Counts.{not-both, said-none, said-on}
 
 needed-most : (p : Phase) → needed p ≤ 21
 unfolding version1
 needed-most Header = omega arith
 needed-most Records = omega arith
 
-pub not-both : {A : Type 0} {b : Bool} → b ≡ true → b ≡ false → A
-not-both t f = let z : _≡_ {A = ℕ} 0 1 = cc in let y : ⊥ = omega arith in absurd y
-
 pub rest-by : (a b : ListAnswer) (q : Phase) (at : ℕ) → a ≡ b → restAfter b q at ≡ restAfter a q at
 rest-by a b q at e = rw e
 
-pub listed-as : (p : Phase) (s s′ : List ℕ) (last : Bool) (said : ℕ) (r r′ : Rest) → s ≡ s′ → r ≡ r′ → Listed p s last said r → Listed p s′ last said r′
-listed-as p s s′ last said r r′ e f h = rw (← e, ← f) h
+pub listed-as : (p : Phase) (s s′ : List ℕ) (last : Bool) (before after : Streams) (r r′ : Rest) → s ≡ s′ → r ≡ r′ → Listed p s last before after r
+    → Listed p s′ last before after r′
+listed-as p s s′ last before after r r′ e f h = rw (← e, ← f) h
 
--- what the loop of `list` holds: the text of `said` octets was written so far, which is few enough to be counted
-pub record SoFar (p : Phase) (s : List ℕ) (last : Bool) (q : Phase) (at said : ℕ) : Type 0 where
+-- what the loop of `list` holds: the front of what is due is said, which is few enough to be counted
+pub record SoFar (p : Phase) (s : List ℕ) (last : Bool) (before : Streams) (q : Phase) (at : ℕ) (now : Streams) : Type 0 where
   pub within : at ≤ length s
   pub text : List ℕ
   pub due : Due p s last text q (drop at s)
-  pub all : said ≡ length text
-  pub most : said ≤ 65536 * at
+  pub all : now ≡ saidMore before (length text)
+  pub most : length text ≤ 65536 * at
 
-pub at-first : (p : Phase) (s : List ℕ) (last : Bool) → SoFar p s last p 0 0
-at-first p s last = record { within = omega arith; text = []; due = λ rest l. refl; all = refl; most = omega arith }
+pub at-first : (p : Phase) (s : List ℕ) (last : Bool) (before : Streams) → SoFar p s last before p 0 before
+at-first p s last before = record { within = omega arith; text = []; due = λ rest l. refl; all = said-none before; most = omega arith }
 
 -- a call of `list_part`, with room for a line
-module _ {p₀ p : Phase} {s : List ℕ} {at said : ℕ} {t : List ℕ} {last : Bool} {r : Part} {out after : List ℕ} (F : SoFar p₀ s last p at said) (et : t ≡ drop at s)
+module _ {p₀ p : Phase} {s : List ℕ} {at : ℕ} {before now : Streams} {t : List ℕ} {last : Bool} {r : Part} {out after : List ℕ} (F : SoFar p₀ s last before p at now) (et : t ≡ drop at s)
     (L : Lists p t last r out after) where
   rest-length : length t ≡ length s - at
   rest-length = ap length et ∙ length-drop at s
@@ -62,9 +63,6 @@ module _ {p₀ p : Phase} {s : List ℕ} {at said : ℕ} {t : List ℕ} {last : 
   abbrev so-far : List ℕ
   so-far = F .text ++ take (r .written) after
 
-  so-long : length so-far ≡ said + r .written
-  so-long = let a = F .all in rw length-append (omega (arith, printed))
-
   still-due : (rest : List ℕ) → Follows last rest → textFrom p₀ (s ++ rest) ≡ so-far ++ dueAfter (r .answer) (r .phase) (drop (at + r .consumed) s ++ rest)
   still-due rest l =
       F .due rest l
@@ -77,76 +75,73 @@ module _ {p₀ p : Phase} {s : List ℕ} {at said : ℕ} {t : List ℕ} {last : 
       rw (eu, lists-in-parts .text L rest l)
       (take-append-seam (take (r .written) after) (dueAfter (r .answer) (r .phase) (drop (r .consumed) t ++ rest)))
 
-  -- `say` answers n for the text that was printed
-  module _ {u : List ℕ} {n : ℕ} (h : n ≤ length u) (eu : u ≡ take (r .written) after) where
-    n-most : n ≤ r .written
-    n-most = omega (arith, ap length eu, printed)
+  pub countable : {u : List ℕ} → u ≡ take (r .written) after → before .said ≤ countMost → length s ≤ 65536 → 65536 ≡ length out → Counted (now .said + length u)
+  countable eu b k room =
+      let m = F .most in
+      let w = F .within in
+      let n : now .said ≡ before .said + length (F .text) = ap (λ (x : Streams). x .said) (F .all) in
+      omega (arith, ap length eu, printed, lists-in-parts .within L .1)
 
-    pub countable : length s ≤ 65536 → 65536 ≡ length out → said + n < 2 * 65536 * 65536
-    countable k room = let m = F .most in let w = F .within in omega (arith, n-most, lists-in-parts .within L .1)
+  -- the text that was printed is said
+  module _ {u : List ℕ} {told : Streams} (h : Unless told (saidMore now (length u))) (eu : u ≡ take (r .written) after) (good : told .failed ≡ false) where
+    all-said : told ≡ saidMore before (length so-far)
+    all-said =
+        h good
+        ∙ ap (λ (x : Streams). saidMore x (length u)) (F .all)
+        ∙ ap (λ (l : List ℕ). saidMore (saidMore before (length (F .text))) (length l)) eu
+        ∙ said-on before (F .text) (take (r .written) after)
 
-    pub failed : n < r .written → Fails p₀ s last (said + n)
-    failed k =
-        record {
-          text = so-far;
-          due = λ rest l. ap (take (length so-far)) (still-due rest l) ∙ take-append-seam so-far (dueAfter (r .answer) (r .phase) (drop (at + r .consumed) s ++ rest));
-          fewer = omega (arith, so-long);
-        }
-
-    module _ (whole : r .written ≤ n) where
-      said-all : said + n ≡ length so-far
-      said-all = omega (arith, n-most, so-long)
-
-      -- what follows where there is room
-      pub settled : crowded (r .answer) ≡ false → Listed p₀ s last (said + n) (restAfter (r .answer) (r .phase) (at + r .consumed))
-      settled = by-answer (r .answer) refl
-        where
-          over : {a : ListAnswer} → ((rest : List ℕ) → dueAfter a (r .phase) (drop (at + r .consumed) s ++ rest) ≡ []) → r .answer ≡ a → Ends p₀ s last (said + n)
-          over d e =
-              record {
-                text = so-far;
-                due = λ rest l. still-due rest l ∙ ap (λ (a : ListAnswer). so-far ++ dueAfter a (r .phase) (drop (at + r .consumed) s ++ rest)) e ∙ ap (λ (x : List ℕ). so-far ++ x) (d rest) ∙ append-nil so-far;
-                all = said-all;
-              }
-
-          by-answer : (a : ListAnswer) → r .answer ≡ a → crowded a ≡ false → Listed p₀ s last (said + n) (restAfter a (r .phase) (at + r .consumed))
-          by-answer answer.More e c =
-              let m = lists-in-parts .more L e in
-              record {
-                more = m .0;
-                within = further;
-                few = omega (arith, rest-length, needed-most (r .phase), m .1);
-                text = so-far;
-                due = λ rest l. still-due rest l ∙ ap (λ (a : ListAnswer). so-far ++ dueAfter a (r .phase) (drop (at + r .consumed) s ++ rest)) e;
-                all = said-all;
-              }
-          by-answer answer.Full e c = not-both refl c
-          by-answer answer.End e c = over (λ rest. refl) e
-          by-answer answer.BufferTooShort e c = not-both refl c
-          by-answer answer.NotAJournal e c = over (λ rest. refl) e
-          by-answer answer.UnknownVersion e c = over (λ rest. refl) e
-          by-answer answer.RecordInvalid e c = over (λ rest. refl) e
-
-      -- where the room is used up, something was consumed
-      module _ (c : crowded (r .answer) ≡ true) (room : 65536 ≡ length out) where
-        some : (a : ListAnswer) → r .answer ≡ a → crowded a ≡ true → (0 < r .consumed) × ((x : List ℕ) → dueAfter a (r .phase) x ≡ textFrom (r .phase) x)
-        some answer.More e d = not-both d refl
-        some answer.Full e d = (lists-in-parts .full L e .0, λ x. refl)
-        some answer.End e d = not-both d refl
-        some answer.BufferTooShort e d = let z : ⊥ = omega (arith, lists-in-parts .short L e .0) in absurd z
-        some answer.NotAJournal e d = not-both d refl
-        some answer.UnknownVersion e d = not-both d refl
-        some answer.RecordInvalid e d = not-both d refl
-
-        pub less : length s - (at + r .consumed) < length s - at
-        less = let k = some (r .answer) refl c .0 in omega (arith, further)
-
-        pub on : SoFar p₀ s last (r .phase) (at + r .consumed) (said + n)
-        on =
+    -- what follows where there is room
+    pub settled : crowded (r .answer) ≡ false → Listed p₀ s last before told (restAfter (r .answer) (r .phase) (at + r .consumed))
+    settled = by-answer (r .answer) refl
+      where
+        over : {a : ListAnswer} → ((rest : List ℕ) → dueAfter a (r .phase) (drop (at + r .consumed) s ++ rest) ≡ []) → r .answer ≡ a → Ends p₀ s last before told
+        over d e =
             record {
-              within = further;
               text = so-far;
-              due = λ rest l. still-due rest l ∙ ap (λ (x : List ℕ). so-far ++ x) (some (r .answer) refl c .1 (drop (at + r .consumed) s ++ rest));
-              all = said-all;
-              most = let m = F .most in let k = some (r .answer) refl c .0 in omega (arith, n-most, lists-in-parts .within L .1);
+              due = λ rest l. still-due rest l ∙ ap (λ (a : ListAnswer). so-far ++ dueAfter a (r .phase) (drop (at + r .consumed) s ++ rest)) e ∙ ap (λ (x : List ℕ). so-far ++ x) (d rest) ∙ append-nil so-far;
+              all = all-said;
             }
+
+        by-answer : (a : ListAnswer) → r .answer ≡ a → crowded a ≡ false → Listed p₀ s last before told (restAfter a (r .phase) (at + r .consumed))
+        by-answer answer.More e c =
+            let m = lists-in-parts .more L e in
+            record {
+              more = m .0;
+              within = further;
+              few = omega (arith, rest-length, needed-most (r .phase), m .1);
+              text = so-far;
+              due = λ rest l. still-due rest l ∙ ap (λ (a : ListAnswer). so-far ++ dueAfter a (r .phase) (drop (at + r .consumed) s ++ rest)) e;
+              all = all-said;
+            }
+        by-answer answer.Full e c = not-both refl c
+        by-answer answer.End e c = over (λ rest. refl) e
+        by-answer answer.BufferTooShort e c = not-both refl c
+        by-answer answer.NotAJournal e c = over (λ rest. refl) e
+        by-answer answer.UnknownVersion e c = over (λ rest. refl) e
+        by-answer answer.RecordInvalid e c = over (λ rest. refl) e
+
+  -- where the room is used up, something was consumed
+  module _ (c : crowded (r .answer) ≡ true) (room : 65536 ≡ length out) where
+    some : (a : ListAnswer) → r .answer ≡ a → crowded a ≡ true → (0 < r .consumed) × ((x : List ℕ) → dueAfter a (r .phase) x ≡ textFrom (r .phase) x)
+    some answer.More e d = not-both d refl
+    some answer.Full e d = (lists-in-parts .full L e .0, λ x. refl)
+    some answer.End e d = not-both d refl
+    some answer.BufferTooShort e d = let z : ⊥ = omega (arith, lists-in-parts .short L e .0) in absurd z
+    some answer.NotAJournal e d = not-both d refl
+    some answer.UnknownVersion e d = not-both d refl
+    some answer.RecordInvalid e d = not-both d refl
+
+    pub less : length s - (at + r .consumed) < length s - at
+    less = let k = some (r .answer) refl c .0 in omega (arith, further)
+
+    pub on : {u : List ℕ} {told : Streams} → Unless told (saidMore now (length u)) → u ≡ take (r .written) after → told .failed ≡ false
+        → SoFar p₀ s last before (r .phase) (at + r .consumed) told
+    on h eu good =
+        record {
+          within = further;
+          text = so-far;
+          due = λ rest l. still-due rest l ∙ ap (λ (x : List ℕ). so-far ++ x) (some (r .answer) refl c .1 (drop (at + r .consumed) s ++ rest));
+          all = all-said h eu good;
+          most = let m = F .most in let k = some (r .answer) refl c .0 in omega (arith, length-append (F .text) (take (r .written) after), printed, lists-in-parts .within L .1);
+        }

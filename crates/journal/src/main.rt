@@ -1,21 +1,24 @@
 // Lists the journal that comes on standard input (01, "Journal"). What is listed, and when it is over, the calls of
-// `list_part` decide; here is reading, carrying over what they leave, and writing. A message on standard error says if
-// reading or writing fails.
-ghost use Prim.Native.Nat.{_+_, _-_, _≤_};
+// `list_part` decide; here is carrying over what they leave. Reading and writing is in `streams`. A message on standard error
+// says if one of them fails.
+mod streams;
+
+ghost use Prim.Native.Nat.{_-_, _≤_};
+ghost use mathlib.Core.Bool.{true};
 ghost use mathlib.Core.Path.{_≡_};
 ghost use lib.ListN.{length, take, drop};
 ghost use lib.Seq.{paste};
-ghost use Rattle.journal.specs.Rest.{restAfter, Begins, Listed, Left, AfterRead, Waits};
+ghost use Rattle.journal.specs.Rest.{restAfter, Listed, Left, Waits, Buffer};
+ghost use Rattle.journal.specs.Streams.{countMost, hasRoom};
 ghost use Rattle.journal.specs.Turns.{InAll};
 ghost use Rattle.journal_records.specs.Parts.{crowded};
 use journal_records::listing::ListAnswer;
 use journal_records::listing::Phase;
 use journal_records::listing::list_part;
 use libc::STDERR_FILENO;
-use libc::STDIN_FILENO;
-use libc::STDOUT_FILENO;
 use octets::slices::front;
 use octets::slices::tail;
+use streams::Streams;
 
 // What follows a part of the journal: octets that go on from `at`, or nothing.
 enum Rest {
@@ -26,24 +29,10 @@ enum Rest {
     Failed,
 }
 
-// What became of a part: how many octets of its text `say` has written, and what follows.
+// What became of a part: the streams behind it, and what follows.
 struct Outcome {
-    said: usize,
+    streams: Streams,
     rest: Rest,
-}
-
-// Writes a text, and answers how many octets of it are written: all, or none where that fails. No contract tells what C has
-// written: that it is the text, and that the answer is right, is tested. The octets that the text is of are lent for the
-// contract alone.
-fn say(phase: Phase, bytes: &[u8], last: bool, text: &[u8]) -> usize
-    requires { ⌜ Begins phase (now bytes) last (now text) ⌝ }
-    ensures { λ r. ⌜ r ≤ length (now (text .entry)) ⌝ }
-{
-    if io::write_all(STDOUT_FILENO, text) {
-        return text.len();
-    }
-    io::write_all(STDERR_FILENO, b"journal: cannot write\n");
-    0
 }
 
 fn is_crowded(answer: ListAnswer) -> bool
@@ -76,30 +65,29 @@ fn rest_after(answer: ListAnswer, phase: Phase, at: usize) -> Rest
 }
 
 // Lists a part, and writes `out` as often as it fills.
-fn list(phase: Phase, bytes: &[u8], last: bool, out: &mut [u8]) -> Outcome
-    requires { ⌜ (length (now bytes) ≤ 65536) × (65536 ≡ length (now out)) ⌝ }
-    ensures { λ r. ⌜ Listed phase (now (bytes .entry)) last (r .said) (r .rest) ⌝ }
+fn list(streams: Streams, phase: Phase, bytes: &[u8], last: bool, out: &mut [u8]) -> Outcome
+    requires { ⌜ (streams .said ≤ countMost) × ((length (now bytes) ≤ 65536) × Buffer (now out)) ⌝ }
+    ensures { λ r. ⌜ Listed phase (now (bytes .entry)) last streams (r .streams) (r .rest) ⌝ }
 {
+    let mut streams = streams;
     let mut to_come = phase;
     let mut at = 0;
-    let mut said = 0;
     loop {
         let left = tail(bytes, at);
         let part = list_part(to_come, left, last, out);
         let answer = part.answer;
         let next = part.phase;
-        let written = say(to_come, left, last, front(out, part.written));
         at += part.consumed;
-        said += written;
-        if written < part.written {
+        streams = streams.say(to_come, left, last, front(out, part.written));
+        if streams.has_failed() {
             return Outcome {
-                said,
+                streams,
                 rest: Rest::Failed,
             };
         }
         if !is_crowded(answer) {
             return Outcome {
-                said,
+                streams,
                 rest: rest_after(answer, next, at),
             };
         }
@@ -121,95 +109,105 @@ fn keep(text: &mut [u8], from: usize, to: usize) -> usize
 }
 
 // Lists the first `n` octets, and moves what is left of them to the front.
-fn list_held(phase: Phase, text: &mut [u8], n: usize, last: bool, out: &mut [u8]) -> Outcome
-    requires { ⌜ (n ≤ length (now text)) × ((65536 ≡ length (now text)) × (65536 ≡ length (now out))) ⌝ }
-    ensures { λ r. ⌜ Left phase (take n (now (text .entry))) last (r .said) (r .rest) (now (text .exit)) ⌝ }
+fn list_held(
+    streams: Streams,
+    phase: Phase,
+    text: &mut [u8],
+    n: usize,
+    last: bool,
+    out: &mut [u8],
+) -> Outcome
+    requires { ⌜ (streams .said ≤ countMost) × ((n ≤ length (now text)) × (Buffer (now text) × Buffer (now out))) ⌝ }
+    ensures { λ r. ⌜ Left phase (take n (now (text .entry))) last streams (r .streams) (r .rest) (now (text .exit)) ⌝ }
 {
-    let outcome = list(phase, front(text, n), last, out);
-    let said = outcome.said;
+    let outcome = list(streams, phase, front(text, n), last, out);
+    let streams = outcome.streams;
     let rest = outcome.rest;
     match rest {
         Rest::Over => Outcome {
-            said,
+            streams,
             rest: Rest::Over,
         },
         Rest::Failed => Outcome {
-            said,
+            streams,
             rest: Rest::Failed,
         },
         Rest::More { phase, at } => {
             let kept = keep(text, at, n);
             Outcome {
-                said,
+                streams,
                 rest: Rest::More { phase, at: kept },
             }
         }
     }
 }
 
-// Lists the octets that are held with those behind them, as many as a read answered. Where it answered none the input is at its
-// end.
-fn list_read(phase: Phase, text: &mut [u8], held: usize, got: isize, out: &mut [u8]) -> Outcome
-    requires { ⌜ (held ≤ 20) × ((65536 ≡ length (now text)) × (65536 ≡ length (now out))) ⌝ }
-    ensures { λ r. ⌜ AfterRead got phase (take held (now (text .entry))) (drop held (now (text .entry))) (r .said) (r .rest) (now (text .exit)) ⌝ }
+// Reads behind the octets that are held, and lists. Where nothing is read the input is at its end.
+fn turn(streams: Streams, phase: Phase, text: &mut [u8], held: usize, out: &mut [u8]) -> Outcome
+    requires { ⌜ (hasRoom streams ≡ true) × ((held ≤ 20) × (Buffer (now text) × Buffer (now out))) ⌝ }
+    ensures { λ r. ⌜ Waits phase (take held (now (text .entry))) streams (r .streams) (r .rest) (now (text .exit)) ⌝ }
 {
-    if got < 0 {
-        io::write_all(STDERR_FILENO, b"journal: cannot read\n");
+    let reading = streams.read(&mut text[held..]);
+    let after = reading.streams;
+    if after.has_failed() {
         return Outcome {
-            said: 0,
+            streams: after,
             rest: Rest::Failed,
         };
     }
-    let n = held + io::count(got, tail(text, held));
-    list_held(phase, text, n, n == held, out)
+    let n = held + reading.len;
+    list_held(after, phase, text, n, n == held, out)
 }
 
-// Reads behind the octets that are held, and lists.
-fn turn(phase: Phase, text: &mut [u8], held: usize, out: &mut [u8]) -> Outcome
-    requires { ⌜ (held ≤ 20) × ((65536 ≡ length (now text)) × (65536 ≡ length (now out))) ⌝ }
-    ensures { λ r. ⌜ Waits phase (take held (now (text .entry))) (r .said) (r .rest) (now (text .exit)) ⌝ }
-{
-    let got = libc::read(STDIN_FILENO, &mut text[held..]);
-    list_read(phase, text, held, got, out)
+// How the turns end.
+enum End {
+    Over,
+    Failed,
+    // More is read or said than is counted.
+    TooLong,
 }
 
-// Turns, one after the other, and how many octets they have said in all. A proved loop has to end, and nothing says that the
-// input does: so the turns are counted down from a number that no run uses up, and the octets up to one.
-fn all_turns(text: &mut [u8], out: &mut [u8]) -> Outcome
-    requires { ⌜ (65536 ≡ length (now text)) × (65536 ≡ length (now out)) ⌝ }
-    ensures { λ r. ⌜ InAll (r .said) (r .rest) ⌝ }
+struct Ended {
+    streams: Streams,
+    end: End,
+}
+
+// Turns, one after the other. A proved loop has to end, and nothing says that the input does: so it does where the counts would
+// be used up, which no run brings about.
+fn all_turns(text: &mut [u8], out: &mut [u8]) -> Ended
+    requires { ⌜ Buffer (now text) × Buffer (now out) ⌝ }
+    ensures { λ r. ⌜ InAll (r .streams) (r .end) ⌝ }
 {
+    let mut streams = Streams::new();
     let mut to_come = Phase::Header;
     let mut held = 0;
-    let mut said = 0;
-    let mut left = u64::MAX;
-    while left > 0 {
-        let outcome = turn(to_come, text, held, out);
+    while streams.has_room() {
+        let outcome = turn(streams, to_come, text, held, out);
         let rest = outcome.rest;
-        if outcome.said > usize::MAX - said {
-            break;
-        }
-        said += outcome.said;
+        streams = outcome.streams;
         match rest {
             Rest::Over => {
-                return Outcome {
-                    said,
-                    rest: Rest::Over,
+                return Ended {
+                    streams,
+                    end: End::Over,
                 };
             }
             Rest::Failed => {
-                break;
+                return Ended {
+                    streams,
+                    end: End::Failed,
+                };
             }
             Rest::More { phase, at } => {
                 to_come = phase;
                 held = at;
             }
         }
-        left -= 1;
     }
-    Outcome {
-        said,
-        rest: Rest::Failed,
+    io::write_all(STDERR_FILENO, b"journal: the input is too long\n");
+    Ended {
+        streams,
+        end: End::TooLong,
     }
 }
 

@@ -1,35 +1,57 @@
--- `all_turns` meets its contract. Its loop's invariant: the turns so far began with nothing held, and have said `said` octets; those that
--- go on from what is held make a run with them; less than a record is held. The turns that are left fall.
+-- `all_turns` meets its contract. Its loop's invariant: the turns so far began with nothing held; those that go on from what is held
+-- make a run with them; less than a record is held. Each turn reads something: what is left to be counted falls.
 -- Assumes nothing.
-use Prim.Native.Nat.{_≤_}
-use mathlib.Core.Path.{_≡_}
+use Prim.Native.Nat.{_+_, _-_, _≤_}
+use mathlib.Core.Path.{_≡_, sym, _∙_}
 use native.Mathlib.Omega.{arith}
 use lib.ListN.{length, take}
 use borrow.Author.Needs.{needs}
-use Rattle.journal.proofs.Turns.{Taken, none-taken, one-more, taken-as, run-over, carried, few-kept}
+use Rattle.journal.specs.Streams.{countMost}
+use Rattle.journal.proofs.Counts.{room-got}
+use Rattle.journal.proofs.Turns.{Taken, none-taken, one-more, run-over, waited, few-kept, read-on}
 use Rattle.journal.proofs.all_turns.Statement.{statement}
 use Rattle.journal.proofs.all_turns.Tie as tie
 
 abbrev Inv-loop : tie.InvT-loop
-Inv-loop text₀ out₀ to-come₀ held₀ said₀ left₀ text out to-come held said left = Taken to-come (take held text) said × ((said ≤ 18446744073709551615) × ((held ≤ 20) × ((65536 ≡ length text) × (65536 ≡ length out))))
+Inv-loop text₀ out₀ streams₀ to-come₀ held₀ message text out streams to-come held =
+    Taken to-come (take held text) streams × ((held ≤ 20) × ((65536 ≡ length text) × (65536 ≡ length out)))
 
 abbrev μ-loop : tie.MeasureT-loop
-μ-loop text₀ out₀ to-come₀ held₀ said₀ left₀ text out to-come held said left = left
+μ-loop text₀ out₀ streams₀ to-come₀ held₀ message text out streams to-come held = countMost + 1 - streams .got
 
-loop-holds : tie.Need-loop-holds Inv-loop μ-loop
-loop-holds c = (none-taken, (search needs, (search needs, (search needs, search needs))))
+turn-requires : tie.Need-turn-requires Inv-loop μ-loop
+turn-requires c κs =
+    let i = c .before .before in
+    let l = i .before .before .loop in
+    (sym (i .before .has-room .ensures) ∙ i .if1 .taken, (l .inv .1 .0, (l .inv .1 .1 .0, l .inv .1 .1 .1)))
 
 returns : tie.Need-returns Inv-loop μ-loop
 returns c =
-    let t = c .before .before .before .before .before .before .before .before .before in
-    run-over (t .turn .result .said) (t .turn .result .rest) _ (t .before .before .before .before .loop .inv .0) (t .turn .ensures) (c .enum-told .given .1)
+    let t = c .before .before .before .before .before .before .before in
+    run-over (t .before .before .before .before .before .loop .inv .0) (waited _ _ _ _ _ _ _ (t .turn .ensures) (c .enum-told .given .1))
+
+returns-2 : tie.Need-returns-2 Inv-loop μ-loop
+returns-2 c =
+    let t = c .before .before .before .before .before .before .before in
+    waited _ _ _ _ _ _ _ (t .turn .ensures) (c .enum-told2 .given .1)
+
+loop-less : tie.Need-loop-less Inv-loop μ-loop
+loop-less c =
+    let p = c .before in
+    let t = p .before .before .before .before .before .before .before in
+    let i = t .before .before .before in
+    let w = waited _ _ _ _ _ _ _ (t .turn .ensures) (p .rest .given .1) in
+    omega (arith, read-on w, room-got (i .before .before .loop .streams) (sym (i .before .has-room .ensures) ∙ i .if1 .taken))
 
 loop-again : tie.Need-loop-again Inv-loop μ-loop
 loop-again c =
     let p = c .before in
-    let t = p .before .before .before .before .before .before .before .before .before in
-    let w = carried _ _ _ _ _ _ _ (t .turn .ensures) (p .rest .given .1) in
-    (taken-as (one-more (t .before .before .before .before .loop .inv .0) w) (search needs) (search needs) (search needs), (search needs, (omega (arith, few-kept w), (search needs, search needs))))
+    let t = p .before .before .before .before .before .before .before in
+    let w = waited _ _ _ _ _ _ _ (t .turn .ensures) (p .rest .given .1) in
+    (one-more (t .before .before .before .before .before .loop .inv .0) w, (few-kept w, (search needs, search needs)))
+
+returns-3 : tie.Need-returns-3 Inv-loop μ-loop
+returns-3 c = let e = c .before .before in sym (e .before .has-room .ensures) ∙ e .if1 .left
 
 pub all-turns-spec : {M : Type 1} → statement M
 all-turns-spec =
@@ -37,10 +59,10 @@ all-turns-spec =
     (tie.spec
     Inv-loop
     μ-loop
-    loop-holds
     (λ c κs. search needs)
-    (λ c. search needs)
-    (λ c. search needs)
+    (λ c. (none-taken (c .new .ensures), (search needs, (search needs, search needs))))
+    (λ c κs. search needs)
+    turn-requires
     (λ c. search needs)
     (λ c. search needs)
     (λ c. search needs)
@@ -48,14 +70,12 @@ all-turns-spec =
     (λ c. search needs)
     (λ c. search needs)
     (λ c. search needs)
+    returns-2
     (λ c. search needs)
+    loop-less
     loop-again
     (λ c. search needs)
+    (λ c κs. search needs)
     (λ c. search needs)
     (λ c. search needs)
-    (λ c. search needs)
-    (λ c. search needs)
-    (λ c. search needs)
-    (λ c. search needs)
-    (λ c. search needs)
-    (λ c. search needs))
+    returns-3)

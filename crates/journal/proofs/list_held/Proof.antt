@@ -14,35 +14,36 @@ list-requires : tie.Need-list-requires
 list-requires c κs =
     let f = c .before in
     let a = f .before .before .before .before in
-    let h = a .pre .0 in
-    (omega (arith, ap length (f .front .ensures .octets), length-take-le (a .args .n) (a .args .text .now) (a .pre .0), a .pre .1 .0), search needs)
+    let n = a .pre .1 in
+    (a .pre .0, (omega (arith, ap length (f .front .ensures .octets), length-take-le (a .args .n) (a .args .text .now) (n .0), n .1 .0), search needs))
 
 keep-requires : tie.Need-keep-requires
 keep-requires c κs =
     let k = c .before .before in
-    let l = k .before .before .before .before in
+    let l = k .before .before .before .before .before in
     let f = l .before .before in
     let a = f .before .before .before .before in
-    (in-range (a .args .text .now) (a .args .n) (listed-as _ _ _ _ _ _ _ refl (k .rest .given .1) (l .list .ensures)) (f .front .ensures .octets) (a .pre .0), a .pre .0)
+    let n = a .pre .1 .0 in
+    (in-range (a .args .text .now) (a .args .n) (listed-as _ _ _ _ _ _ _ _ refl (k .rest .given .1) (l .list .ensures)) (f .front .ensures .octets) n, n)
 
 returns : tie.Need-returns
 returns c =
-    let l = c .before .before .before .before in
-    listed-as _ _ _ _ _ _ _ (l .before .before .front .ensures .octets) (c .enum-told .given .1) (l .list .ensures)
+    let l = c .before .before .before .before .before in
+    listed-as _ _ _ _ _ _ _ _ (l .before .before .front .ensures .octets) (c .enum-told .given .1) (l .list .ensures)
 
 returns-2 : tie.Need-returns-2
 returns-2 c =
-    let l = c .before .before .before .before in
-    listed-as _ _ _ _ _ _ _ (l .before .before .front .ensures .octets) (c .enum-told2 .given .1) (l .list .ensures)
+    let l = c .before .before .before .before .before in
+    listed-as _ _ _ _ _ _ _ _ (l .before .before .front .ensures .octets) (c .enum-told2 .given .1) (l .list .ensures)
 
 returns-3 : tie.Need-returns-3
 returns-3 c =
     let p = c .before .before in
     let k = p .before .before .before in
-    let l = k .before .before .before .before in
+    let l = k .before .before .before .before .before in
     let f = l .before .before in
     let a = f .before .before .before .before in
-    keeps (a .args .text .now) (a .args .n) (listed-as _ _ _ _ _ _ _ refl (k .rest .given .1) (l .list .ensures)) (f .front .ensures .octets) (a .pre .0) (p .keep .ensures .0) (p .keep .ensures .1)
+    keeps (a .args .text .now) (a .args .n) (listed-as _ _ _ _ _ _ _ _ refl (k .rest .given .1) (l .list .ensures)) (f .front .ensures .octets) (a .pre .1 .0) (p .keep .ensures .0) (p .keep .ensures .1)
 
 pub list-held-spec : {M : Type 1} → statement M
 list-held-spec =
