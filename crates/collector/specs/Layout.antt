@@ -122,8 +122,12 @@ unfoldable pub pushedAll : List ℕ → ℕ → List ErrorEntry → List ℕ
 pushedAll s k [] = s
 pushedAll s k (e ∷ es) = pushedAll (pushedBytes s k e) k es
 
+-- EA of block k becomes `ea`
+abbrev pub eaBytes : List ℕ → ℕ → Bool → List ℕ
+eaBytes s k ea = set s (block k + eaAt) (pick ea 1 0)
+
 unfoldable pub bookedBytes : List ℕ → ℕ → Bool → List ErrorEntry → List ℕ
-bookedBytes s k en es = set (pushedAll s k es) (block k + eaAt) (pick en 1 0)
+bookedBytes s k en es = eaBytes (pushedAll s k es) k en
 
 abbrev pub bookingBytes : Heard → Said → List ℕ → List ℕ
 bookingBytes (heard.Refused e) said s = s

@@ -5,9 +5,7 @@ ghost use lib.ListN.{length};
 ghost use Rattle.collector.specs.Calls.{Books, ReadsStatus};
 ghost use Rattle.collector.specs.Rules.{heads, responseIn};
 ghost use Rattle.collector.specs.Layout.{collectorLength};
-use crate::BLOCK_LEN;
 use crate::Collector;
-use crate::EA_AT;
 use crate::PLACES;
 use crate::ReadAnswer;
 use crate::book::count_entries;
@@ -15,6 +13,7 @@ use crate::book::push_entries;
 use crate::state::NODES;
 use crate::state::count;
 use crate::state::ea;
+use crate::state::set_ea;
 use crate::state::slot;
 use codec::FrameAnswer;
 use codec::read_frame;
@@ -79,6 +78,6 @@ fn book(state: &mut Collector, k: usize, en: bool, payload: &[u8]) -> ReadAnswer
         return ReadAnswer::BookFull;
     }
     push_entries(state, k, payload);
-    state[BLOCK_LEN * k + EA_AT] = if en { 1 } else { 0 };
+    set_ea(state, k, en);
     ReadAnswer::Booked
 }

@@ -2,7 +2,7 @@
 ghost use mathlib.Core.Path.{_≡_};
 ghost use Prim.Native.Nat.{_≤_, _<_};
 ghost use lib.ListN.{length};
-ghost use Rattle.collector.specs.Layout.{collectorLength, findOf, slotOf, eaIn, startIn, countIn, recordPlace, placedBytes};
+ghost use Rattle.collector.specs.Layout.{collectorLength, findOf, slotOf, eaIn, startIn, countIn, recordPlace, placedBytes, eaBytes};
 ghost use Rattle.collector.specs.Rules.{heads, bookLength};
 use crate::BLOCK_LEN;
 use crate::CONTROL_LEN;
@@ -59,6 +59,13 @@ pub(crate) fn ea(state: &Collector, k: usize) -> bool
     ensures { λ r. ⌜ r ≡ eaIn (now (state .entry)) k ⌝ }
 {
     state[BLOCK_LEN * k + EA_AT] % 2 == 1
+}
+
+pub(crate) fn set_ea(state: &mut Collector, k: usize, ea: bool)
+    requires { ⌜ k < heads ⌝ }
+    ensures { λ _. ⌜ now (state .exit) ≡ eaBytes (now (state .entry)) k ea ⌝ }
+{
+    state[BLOCK_LEN * k + EA_AT] = if ea { 1 } else { 0 };
 }
 
 pub(crate) fn start(state: &Collector, k: usize) -> u8

@@ -10,7 +10,7 @@ use borrow.Author.Needs.{needs}
 use Rattle.types.specs.Codes.{pick}
 use Rattle.error_entry.specs.declared.ErrorEntry.{ErrorEntry}
 use Rattle.status_response.specs.Steps.{statusEntries}
-use Rattle.collector.specs.Layout.{bookedBytes}
+use Rattle.collector.specs.Layout.{eaBytes, bookedBytes}
 use Rattle.collector.proofs.AnswerLaws.{book-known, book-full, book-room}
 use Rattle.collector.proofs.reading.book.Statement.{statement}
 use Rattle.collector.proofs.reading.book.Tie as tie
@@ -37,7 +37,7 @@ returns-2 c =
 returns-3 : tie.Need-returns-3
 unfolding bookedBytes
 returns-3 c =
-    let p = c .before in
+    let p = c .before .before in
     let n = p .before .before .before in
     let m = n .before .before in
     let d = m .before in
@@ -45,15 +45,10 @@ returns-3 c =
     let a = b .before .before .before .args in
     let s : List ℕ = a .state .now in
     let es : List ErrorEntry = statusEntries (a .payload .now) in
-    let bit : c .if3 .state ≡ pick (a .en) 1 0 =
-    ⊎-elim
-    (λ w. w .1 ∙ ap (λ (x : Bool). pick {A = ℕ} x 1 0) (sym (w .0 .taken)))
-    (λ w. w .1 ∙ ap (λ (x : Bool). pick {A = ℕ} x 1 0) (sym (w .0 .left)))
-    (c .if3 .came) in
     record {
       answer = book-room s (a .k) (a .en) es (ap (Bool·beq (a .en)) (sym (b .ea .ensures)) ∙ d .if1 .left)
           (omega (arith, n .count .ensures .0, m .count-entries .ensures));
-      bytes = rw (p .push-entries .ensures, bit);
+      bytes = c .set-ea .ensures ∙ ap (λ (l : List ℕ). eaBytes l (a .k) (a .en)) (p .push-entries .ensures);
     }
 
 pub book-spec : {M : Type 1} → statement M
@@ -67,8 +62,6 @@ book-spec =
     (search needs)
     (search needs)
     returns-2
-    (search needs)
-    (search needs)
     (search needs)
     (search needs)
     returns-3)
