@@ -48,14 +48,11 @@ kept-length true e n = refl
 kept-length false e n = refl
 
 module _ (w : Coded) (t t′ : List ℕ) (r n n′ o : ℕ) where
+  pub writes-named : (bs : List ℕ) → w ≡ octets bs → WritesTo bs r t t′ n n′ → WritesCoded w r t t′ n n′ o o
+  writes-named bs ew h = record { cause = h .cause ∙ rw ew; target = h .target ∙ rw ew; written = h .written ∙ rw ew; octet = kept-octet bs t o ∙ rw ew }
+
   pub writes-coded : (bs : List ℕ) (a : WriteAnswer) → w ≡ octets bs → Writes bs a t t′ → Told a r n n′ → WritesCoded w r t t′ n n′ o o
-  writes-coded bs a ew w′ e =
-      record {
-        cause = e .0 ∙ ap (λ (x : WriteAnswer). writeCause x .number) (w′ .answer) ∙ rw ew;
-        target = w′ .holds ∙ rw ew;
-        written = e .1 ∙ ap (λ (x : WriteAnswer). lengthAfter x n) (w′ .answer) ∙ rw ew;
-        octet = kept-octet bs t o ∙ rw ew;
-      }
+  writes-coded bs a ew w′ e = writes-named bs ew (writes-to bs a t t′ r n n′ w′ e)
 
 -- what `unnamed` tells, where k octets would be needed
 pub refuses-coded : (w : Coded) (t : List ℕ) (r n o o′ k : ℕ) (e : PowerlinkError) → w ≡ unnamed k e

@@ -1,4 +1,7 @@
 // Writing whole frames, as each kind's `new` makes them.
+ghost use mathlib.Core.List.{_++_};
+ghost use Rattle.types.specs.Header.{ethBytes};
+ghost use Rattle.section.specs.Write.{padded};
 ghost use Rattle.powerlink.specs.Given.{time, socFlagsGiven, newSoCFrame, preqFlagsGiven, newPReqFrame, presFlagsGiven, newPResWriting, soaFlagsGiven, newSoAWriting, newASndWriting};
 ghost use Rattle.powerlink.specs.Writing.{WritesTo, WritesCoded};
 use c_values::answers::padded_len;
@@ -19,6 +22,7 @@ use section::MIN_FRAME;
 use section::write_behind;
 use types::EPLVersion;
 use types::NodeId;
+use types::basic::EthernetHeader;
 use types::basic::MacAddress;
 use types::common::NetTime;
 use types::common::RelativeTime;
@@ -32,6 +36,20 @@ use types::service::ServiceId;
 use types::service::ServiceIdAnswer;
 use types::states::NmtState;
 use types::states::NmtStateAnswer;
+
+// Writes an Ethernet header and behind it a section of these fields and this payload, and tells the length.
+fn put_frame(
+    eth_header: EthernetHeader,
+    fields: &[u8],
+    payload: &[u8],
+    target: &mut [u8],
+    written: &mut usize,
+) -> u8
+    ensures { λ r. ⌜ WritesTo (ethBytes «eth_header» ++ padded (now (fields .entry) ++ now (payload .entry))) r (now (target .entry)) (now (target .exit)) (now (written .entry)) (now (written .exit)) ⌝ }
+{
+    let answer = write_behind(&eth_header.to_bytes(), fields, payload, target);
+    written_or(answer, written)
+}
 
 // SoC goes from the managing node to all, by its multicast address.
 #[no_mangle]
@@ -56,10 +74,8 @@ pub extern "C" fn powerlink_new_soc(
         },
         RelativeTime(relative_time),
     );
-    let eth_header = new.eth_header;
     let frame = new.frame;
-    let answer = write_behind(&eth_header.to_bytes(), &frame.to_bytes(), b"", target);
-    written_or(answer, written)
+    put_frame(new.eth_header, &frame.to_bytes(), b"", target, written)
 }
 
 // PReq goes from the managing node to one node, whose address the caller knows.
@@ -86,10 +102,8 @@ pub extern "C" fn powerlink_new_preq(
         PDOVersion(pdo_version),
         payload,
     );
-    let eth_header = new.eth_header;
     let frame = new.frame;
-    let answer = write_behind(&eth_header.to_bytes(), &frame.to_bytes(), payload, target);
-    written_or(answer, written)
+    put_frame(new.eth_header, &frame.to_bytes(), payload, target, written)
 }
 
 // PRes goes from a node to all, by its multicast address: 1, then 5.
@@ -136,13 +150,11 @@ pub extern "C" fn powerlink_new_pres(
                 PDOVersion(pdo_version),
                 payload,
             );
-            let eth_header = new.eth_header;
             let frame = new.frame;
             // The state's octet is the one that was given: the compiler then makes no table of states.
             let mut fields = frame.to_bytes();
             fields[STATE_AT] = state;
-            let answer = write_behind(&eth_header.to_bytes(), &fields, payload, target);
-            written_or(answer, written)
+            put_frame(new.eth_header, &fields, payload, target, written)
         }
     }
 }
@@ -188,10 +200,8 @@ pub extern "C" fn powerlink_new_soa(
                     NodeId(target_node),
                     EPLVersion(epl_version),
                 );
-                let eth_header = new.eth_header;
                 let frame = new.frame;
-                let answer = write_behind(&eth_header.to_bytes(), &frame.to_bytes(), b"", target);
-                written_or(answer, written)
+                put_frame(new.eth_header, &frame.to_bytes(), b"", target, written)
             }
         },
     }
@@ -230,13 +240,11 @@ pub extern "C" fn powerlink_new_asnd(
                 NodeId(source),
                 service_id,
             );
-            let eth_header = new.eth_header;
             let frame = new.frame;
             // The service's octet is the one that was given, as a PRes's state.
             let mut fields = frame.to_bytes();
             fields[asnd::SERVICE_AT] = service;
-            let answer = write_behind(&eth_header.to_bytes(), &fields, payload, target);
-            written_or(answer, written)
+            put_frame(new.eth_header, &fields, payload, target, written)
         }
     }
 }

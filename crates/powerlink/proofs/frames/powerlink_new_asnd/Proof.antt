@@ -6,12 +6,12 @@ use borrow.Author.Needs.{needs}
 use Rattle.types.proofs.CodeCauses.{service-code}
 use Rattle.control.specs.ASnd.{asndSection}
 use Rattle.frame.specs.Write.{frameBytes}
-use Rattle.powerlink.proofs.Writers.{writes-coded, refuses-coded}
+use Rattle.powerlink.proofs.Writers.{writes-named, refuses-coded}
 use Rattle.powerlink.proofs.frames.powerlink_new_asnd.Statement.{statement}
 use Rattle.powerlink.proofs.frames.powerlink_new_asnd.Tie as tie
 
-lent : tie.Need-slice-aggregate-write-behind-2
-lent c = sym (length-set (c .before .before .before .to-bytes .result) _ _ ∙ ap length (c .before .before .before .to-bytes .ensures))
+lent : tie.Need-slice-aggregate-put-frame
+lent c = sym (length-set (c .before .to-bytes .result) _ _ ∙ ap length (c .before .to-bytes .ensures))
 
 returns : tie.Need-returns
 returns c =
@@ -23,16 +23,14 @@ returns c =
 returns-2 : tie.Need-returns-2
 unfolding frameBytes asndSection
 returns-2 c =
-    let w = c .before .before .before .before in
-    let h = w .before .before .before .before in
-    let f = h .before in
-    let n = f .before .before .before in
+    let p = c .before .before in
+    let f = p .before .before .before .before in
+    let n = f .before .before in
     let s = n .before .before .before .before in
     let r = s .before .before in
     let known = sym (r .from-u8 .ensures .answer) ∙ s .service-id .given .1 in
     let code = service-code _ _ known in
-    writes-coded _ _ _ _ _ _ _ _ _ (rw (known, code))
-    (rw (h .to-bytes2 .ensures, f .to-bytes .ensures, n .new .ensures) at (w .write-behind .ensures)) (c .written-or .ensures)
+    writes-named _ _ _ _ _ _ _ _ (rw (known, code)) (rw (f .to-bytes .ensures, n .new .ensures) at (p .put-frame .ensures))
 
 pub powerlink-new-asnd-spec : {M : Type 1} → statement M
 powerlink-new-asnd-spec =
@@ -47,10 +45,7 @@ powerlink-new-asnd-spec =
     (search needs)
     (search needs)
     (search needs)
-    (search needs)
-    (search needs)
     lent
-    (search needs)
     (search needs)
     returns
     (search needs)

@@ -3,7 +3,7 @@
 use borrow.Author.Needs.{needs}
 use Rattle.control.specs.SoA.{soaSection}
 use Rattle.frame.specs.Write.{frameBytes}
-use Rattle.powerlink.proofs.Writers.{writes-coded, refuses-coded}
+use Rattle.powerlink.proofs.Writers.{writes-named, refuses-coded}
 use Rattle.powerlink.proofs.frames.powerlink_new_soa.Statement.{statement}
 use Rattle.powerlink.proofs.frames.powerlink_new_soa.Tie as tie
 
@@ -24,24 +24,20 @@ returns-2 c =
 returns-3 : tie.Need-returns-3
 unfolding frameBytes soaSection
 returns-3 c =
-    let w = c .before .before .before .before in
-    let f = w .before .before .before .before in
-    let h = f .before .before in
-    let n = h .before .before .before in
+    let p = c .before .before in
+    let f = p .before .before .before .before .before in
+    let n = f .before .before in
     let q = n .before .before .before in
     let g = q .before .before in
     let s = g .before .before in
     let r = s .before .before in
-    writes-coded _ _ _ _ _ _ _ _ _ (rw (← r .from-u8 .ensures .answer, s .nmt-state .given .1, ← g .from-u82 .ensures .answer, q .service .given .1))
-    (rw (f .to-bytes2 .ensures, h .to-bytes .ensures, n .new .ensures) at (w .write-behind .ensures)) (c .written-or .ensures)
+    writes-named _ _ _ _ _ _ _ _ (rw (← r .from-u8 .ensures .answer, s .nmt-state .given .1, ← g .from-u82 .ensures .answer, q .service .given .1))
+    (rw (f .to-bytes .ensures, n .new .ensures) at (p .put-frame .ensures))
 
 pub powerlink-new-soa-spec : {M : Type 1} → statement M
 powerlink-new-soa-spec =
     tie.close
     (tie.spec
-    (search needs)
-    (search needs)
-    (search needs)
     (search needs)
     (search needs)
     (search needs)
