@@ -5,8 +5,9 @@ use mathlib.Core.Path.{_≡_, refl, sym, ap, _∙_}
 use mathlib.Core.Bool.{Bool, true, false, not, Bool·beq}
 use mathlib.Core.List.{List}
 use native.Mathlib.Omega.{arith}
+use lib.Dec.{ltb}
 use lib.ListN.{length}
-use borrow.Author.Tests.{lt-ltb, le-ltb, eq-eqb, ne-eqb, not-true, not-false}
+use borrow.Author.Tests.{eq-eqb, ne-eqb, not-true, not-false}
 use Rattle.types.specs.Nodes.{isCnNodeId}
 use Rattle.types.specs.declared.NodeId.{NodeId}
 use Rattle.error_entry.specs.declared.ErrorEntry.{ErrorEntry}
@@ -46,14 +47,14 @@ module _ (e : ErrorEntry) (s : List ℕ) where
     unfolding raiseAnswer
     raise-invalid h = rw (sym eb ∙ h)
 
-    module _ (n : ℕ) (h : b ≡ true) (en : n ≡ waitingOf s) where
-      pub raise-full : queueLength ≤ n → QueueFull ≡ raiseAnswer e (headOf s)
+    module _ (h : b ≡ true) where
+      pub raise-full : ltb (waitingOf s) queueLength ≡ false → QueueFull ≡ raiseAnswer e (headOf s)
       unfolding raiseAnswer
-      raise-full l = rw (sym eb ∙ h, waiting-length s, ← en, le-ltb n queueLength l)
+      raise-full l = rw (sym eb ∙ h, waiting-length s, l)
 
-      pub raise-good : n < queueLength → Raised ≡ raiseAnswer e (headOf s)
+      pub raise-good : ltb (waitingOf s) queueLength ≡ true → Raised ≡ raiseAnswer e (headOf s)
       unfolding raiseAnswer
-      raise-good l = rw (sym eb ∙ h, waiting-length s, ← en, lt-ltb n queueLength l)
+      raise-good l = rw (sym eb ∙ h, waiting-length s, l)
 
   module _ (w : Numbers e) where
     pub invalid : EntryInvalid ≡ raiseAnswer e (headOf s) → Raises e EntryInvalid s s

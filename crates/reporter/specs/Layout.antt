@@ -114,5 +114,8 @@ abbrev pub answerBytes : WriteAnswer → List ℕ → List ℕ
 answerBytes r s = whenWritten r (openedBytes s) s
 
 -- closing moves the ring's start past the batch
+abbrev pub closedBytes : List ℕ → List ℕ
+closedBytes s = set (set s startAt ((startOf s + openOf s) % places)) openAt 0
+
 abbrev pub acknowledgeBytes : ReadAnswer → List ℕ → List ℕ
-acknowledgeBytes r s = whenClosed r (set (set s startAt ((startOf s + openOf s) % places)) openAt 0) s
+acknowledgeBytes r s = whenClosed r (closedBytes s) s

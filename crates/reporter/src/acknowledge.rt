@@ -2,14 +2,11 @@
 ghost use mathlib.Core.Path.{_≡_};
 ghost use Rattle.reporter.specs.Calls.{Acknowledges};
 ghost use Rattle.reporter.specs.Rules.{eaFor, eaInFrame, eaTold};
-use crate::OPEN_AT;
-use crate::PLACES;
 use crate::ReadAnswer;
 use crate::Reporter;
-use crate::START_AT;
+use crate::state::close;
 use crate::state::en;
 use crate::state::open;
-use crate::state::start;
 use codec::FrameAnswer;
 use codec::read_frame;
 use frame::PowerlinkFrame;
@@ -63,14 +60,12 @@ pub(crate) fn hear(id: u8, buffer: &[u8]) -> Heard
 pub(crate) fn acknowledge(state: &mut Reporter, ea: bool) -> ReadAnswer
     ensures { λ r. ⌜ Acknowledges ea r (now (state .entry)) (now (state .exit)) ⌝ }
 {
-    let n = open(state);
-    if n == 0 {
+    if open(state) == 0 {
         return ReadAnswer::Kept;
     }
     if en(state) != ea {
         return ReadAnswer::Kept;
     }
-    state[START_AT] = (start(state) + n) % PLACES;
-    state[OPEN_AT] = 0;
+    close(state);
     ReadAnswer::Closed
 }

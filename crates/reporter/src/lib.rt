@@ -24,9 +24,9 @@ use error_entry::ErrorEntry;
 use records::ENTRY_LEN;
 use section::MIN_FRAME;
 use section::WriteAnswer;
+use state::has_room;
 use state::push;
 use state::raisable;
-use state::waiting;
 use status_response::bit_field::StaticErrorBitField;
 use status_response::fields::FRONT_LEN;
 use types::NodeId;
@@ -128,7 +128,7 @@ pub fn raise(state: &mut Reporter, entry: ErrorEntry) -> RaiseAnswer
     if !raisable(entry) {
         return RaiseAnswer::EntryInvalid;
     }
-    if QUEUE_LEN <= waiting(state) {
+    if !has_room(state) {
         return RaiseAnswer::QueueFull;
     }
     push(state, entry);

@@ -2,8 +2,9 @@
 // ones follow.
 ghost use mathlib.Core.Path.{_≡_};
 ghost use Prim.Native.Nat.{_≤_, _<_};
+ghost use lib.Dec.{ltb};
 ghost use lib.ListN.{length};
-ghost use Rattle.reporter.specs.Layout.{places, reporterLength, enOf, startOf, openOf, waitingOf, recordPlace, raisedBytes};
+ghost use Rattle.reporter.specs.Layout.{places, reporterLength, enOf, startOf, openOf, waitingOf, recordPlace, raisedBytes, closedBytes};
 ghost use Rattle.reporter.specs.Rules.{queueLength, batchLength, isRaisable};
 use crate::BATCH_LEN;
 use crate::CONTROL_LEN;
@@ -49,6 +50,13 @@ pub(crate) fn waiting(state: &Reporter) -> u8
     }
 }
 
+// Whether one more entry may wait.
+pub(crate) fn has_room(state: &Reporter) -> bool
+    ensures { λ r. ⌜ r ≡ ltb (waitingOf (now (state .entry))) queueLength ⌝ }
+{
+    waiting(state) < QUEUE_LEN
+}
+
 // Where the record at a place of the ring begins.
 pub(crate) fn record_place(place: u8) -> usize
     ensures { λ r. ⌜ r ≡ recordPlace place ⌝ }
@@ -77,4 +85,12 @@ pub(crate) fn push(state: &mut Reporter, entry: ErrorEntry)
     let at = record_place(start(state) + open(state) + n);
     put(state, at, entry);
     state[WAITING_AT] = n + 1;
+}
+
+// Closes the open batch: the ring begins behind it.
+pub(crate) fn close(state: &mut Reporter)
+    ensures { λ _. ⌜ now (state .exit) ≡ closedBytes (now (state .entry)) ⌝ }
+{
+    state[START_AT] = (start(state) + open(state)) % PLACES;
+    state[OPEN_AT] = 0;
 }

@@ -1,7 +1,8 @@
 -- `raise` meets its contract.
 -- Assumes nothing.
 use borrow.Author.Needs.{needs}
-use borrow.Author.Tests.{not-true, not-false}
+use mathlib.Core.Path.{sym, _∙_}
+use borrow.Author.Tests.{not-true, not-false, ltb-true}
 use Rattle.reporter.proofs.CallLaws.{raise-invalid, raise-full, raise-good, invalid, full, raised}
 use Rattle.reporter.specs.Calls.{Numbers}
 use Rattle.reporter.proofs.raise.Statement.{statement}
@@ -26,10 +27,10 @@ returns-2 c =
     let r = l .before in
     let a = r .before .args in
     let s = a .state .now in
-    full (a .entry) s (widths (r .before)) (raise-full (a .entry) s _ (r .raisable .ensures) _ (not-false _ (l .if1 .left)) (w .waiting .ensures .0) (c .if2 .taken))
+    full (a .entry) s (widths (r .before)) (raise-full (a .entry) s _ (r .raisable .ensures) (not-false _ (l .if1 .left)) (sym (w .has-room .ensures) ∙ not-true _ (c .if2 .taken)))
 
 push-requires : tie.Need-push-requires
-push-requires c κs = search needs
+push-requires c κs = let m = c .before in ltb-true _ _ (sym (m .before .has-room .ensures) ∙ not-false _ (m .if2 .left))
 
 returns-3 : tie.Need-returns-3
 returns-3 c =
@@ -40,7 +41,7 @@ returns-3 c =
     let a = r .before .args in
     let s = a .state .now in
     raised (a .entry) s (widths (r .before)) _ (c .push .ensures .1)
-    (raise-good (a .entry) s _ (r .raisable .ensures) _ (not-false _ (l .if1 .left)) (w .waiting .ensures .0) (m .if2 .left))
+    (raise-good (a .entry) s _ (r .raisable .ensures) (not-false _ (l .if1 .left)) (sym (w .has-room .ensures) ∙ not-false _ (m .if2 .left)))
     (c .push .ensures .0)
 
 pub raise-spec : {M : Type 1} → statement M

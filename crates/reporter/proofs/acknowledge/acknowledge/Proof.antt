@@ -35,7 +35,7 @@ returns-3 c =
     let s = a .state .now in
     acknowledges (a .ea) s (o .«open» .ensures .2) Closed
     (same-ea (a .ea) s _ (o .«open» .ensures .0) (l .if1 .left) _ (n .en .ensures) (t .if2 .left))
-    _ (rw (c .start .ensures .0, o .«open» .ensures .0))
+    _ (c .close .ensures)
 
 pub acknowledge-spec : {M : Type 1} → statement M
 acknowledge-spec =
@@ -45,8 +45,5 @@ acknowledge-spec =
     returns
     (search needs)
     returns-2
-    (search needs)
-    (search needs)
-    (search needs)
     (search needs)
     returns-3)
