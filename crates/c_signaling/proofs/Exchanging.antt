@@ -37,7 +37,7 @@ use Rattle.c_signaling.specs.Calls as calls
 use Rattle.c_signaling.specs.Calls.{Site, worldOf, CStep, Translated, nothing, one}
 use Rattle.c_signaling.specs.Exchanges as ex
 use Rattle.c_signaling.specs.Exchanges.{CQuiet, CAnswerAgain, CRequestAgain, CNoRepeat, CQuietly, CExchange, CExchanges, CFound}
-use Rattle.c_signaling.specs.Log.{Raising, Call, reporterRaise, reporterAnswer, reporterRead, collectorRegister, collectorRead, collectorRequest, collectorTake, hostSends, entryOf, raiseEvents, answerEvents, requestEvents, reading, eventsOf}
+use Rattle.c_signaling.specs.Log.{Raising, Call, reporterRaise, reporterAnswer, reporterRead, collectorRegister, collectorRead, collectorRequest, collectorTake, hostSends, raisedEntry, raiseEvents, answerEvents, requestEvents, reading, eventsOf}
 use Rattle.c_signaling.proofs.Steps.{called, the-step}
 use Rattle.c_signaling.proofs.Told.{unnamed-number, unasked-number, box-row}
 
@@ -84,7 +84,7 @@ module _ (i : ℕ) where
   raise-quiet : (g : Raising) (m : ErrorEntryModeAnswer) (r : ℕ) → (r ≡ 0 → ⊥) → Each (Quiet i) (raiseEvents g m r)
   raise-quiet g (mode.Unknown b) r h = tt
   raise-quiet g (mode.Known m) r h =
-      either (eqb r 0) (λ t. absurd (h (eqb-true r 0 t))) (λ t. (rw t (refused-quiet (entryOf g m) (eqb r 8)), tt))
+      either (eqb r 0) (λ t. absurd (h (eqb-true r 0 t))) (λ t. (rw t (refused-quiet (raisedEntry g m) (eqb r 8)), tt))
 
   answer-quiet : (m : NmtStateAnswer) (r : ℕ) (t : List ℕ) (n : ℕ) → Each (Quiet i) (answerEvents m r t n)
   answer-quiet (state.Unknown b) r t n = tt

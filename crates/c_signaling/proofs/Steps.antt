@@ -33,17 +33,17 @@ use Rattle.powerlink.specs.Writing.{octets, stated, WritesCoded}
 use Rattle.signaling.specs.Calls.{Event, Log, World, Step, raise, answer, headReads, register, boxReads, request, takes, hosts, Run, fresh, call}
 use Rattle.c_signaling.specs.Calls as c
 use Rattle.c_signaling.specs.Calls.{Site, worldOf, CStep, CRun, Translated, nothing, one}
-use Rattle.c_signaling.specs.Log.{Raising, Call, entryOf, raiseEvents, answerEvents, requestEvents, eventsOf, events}
+use Rattle.c_signaling.specs.Log.{Raising, Call, raisedEntry, raiseEvents, answerEvents, requestEvents, eventsOf, events}
 use Rattle.c_signaling.proofs.Told.{raise-number, register-number, write-number, read-row, box-row, request-row, take-row}
 
 module _ (i : ℕ) (w : Site) where
-  raise-call : (g : Raising) (m : ErrorEntryModeAnswer) (r : ℕ) (after : List ℕ) → RaisesBy (entryOf g) m r (w .head) after
+  raise-call : (g : Raising) (m : ErrorEntryModeAnswer) (r : ℕ) (after : List ℕ) → RaisesBy (raisedEntry g) m r (w .head) after
       → Translated i (worldOf w) (raiseEvents g m r) (record { head = after; box = w .box; log = raiseEvents g m r ++ events (w .log) })
   raise-call g (mode.Unknown b) r after c = rw (c .stays) nothing
   raise-call g (mode.Known m) r after c =
-      let a = raiseAnswer (entryOf g m) (headOf (w .head)) in
+      let a = raiseAnswer (raisedEntry g m) (headOf (w .head)) in
       let e : raiseTold (row r []) ≡ a = rw (c .cause) (raise-number a) in
-      rw e (one (raise (entryOf g m) a after (c .raises)))
+      rw e (one (raise (raisedEntry g m) a after (c .raises)))
 
   answer-call : (f : NmtState → AnswerFields) (m : NmtStateAnswer) (r : ℕ) (after t t′ : List ℕ) (n n′ o o′ : ℕ)
       → WritesCoded (stated (answerLength (length (opened (headOf (w .head)) .batch))) m (λ s. octets (answerFrame (f s) (opened (headOf (w .head)))))) r t t′ n n′ o o′

@@ -34,7 +34,7 @@ use Rattle.powerlink.specs.Writing.{Coded, stated, codedAnswer}
 use Rattle.signaling.specs.Calls.{accepted, handedOut, answersSent, requestsSent, ifTaken, ifAnswered, ifRequested, Log}
 use Rattle.c_signaling.specs.Calls as c
 use Rattle.c_signaling.specs.Calls.{Site, CStep, CRun, seenIn, CallsAreSteps}
-use Rattle.c_signaling.specs.Log.{Raising, Call, Seen, seenWith, seen, ifZero, entriesOf, entryOf, raiseEvents, answerEvents, requestEvents, eventsOf, events}
+use Rattle.c_signaling.specs.Log.{Raising, Call, Seen, seenWith, seen, ifZero, raisedEntries, raisedEntry, raiseEvents, answerEvents, requestEvents, eventsOf, events}
 use Rattle.c_signaling.proofs.Steps.{called, runs}
 use Rattle.c_signaling.proofs.Told.{unnamed-number, unasked-number}
 
@@ -78,11 +78,11 @@ module _ (i : ℕ) (l : Log) where
   abbrev withHanded : List ErrorEntry → Seen
   withHanded es = record { accepted = accepted i l; handedOut = es; answersSent = answersSent i l; requestsSent = requestsSent i l }
 
-  raise-seen : (g : Raising) (m : ErrorEntryModeAnswer) (r : ℕ) (s after : List ℕ) → RaisesBy (entryOf g) m r s after
-      → seenIn i (raiseEvents g m r ++ l) ≡ withAccepted (ifZero r (accepted i l ++ entriesOf g m) (accepted i l))
+  raise-seen : (g : Raising) (m : ErrorEntryModeAnswer) (r : ℕ) (s after : List ℕ) → RaisesBy (raisedEntry g) m r s after
+      → seenIn i (raiseEvents g m r ++ l) ≡ withAccepted (ifZero r (accepted i l ++ raisedEntries g m) (accepted i l))
   raise-seen g (mode.Unknown b) r s after k = rw (k .cause)
   raise-seen g (mode.Known m) r s after k =
-      ap withAccepted (raised-if (accepted i l ++ (entryOf g m ∷ [])) (accepted i l) (eqb r 0) (eqb r 8))
+      ap withAccepted (raised-if (accepted i l ++ (raisedEntry g m ∷ [])) (accepted i l) (eqb r 0) (eqb r 8))
 
   answer-seen : (m : NmtStateAnswer) (k : ℕ) (f : NmtState → Coded) (r : ℕ) (t t′ : List ℕ) (n : ℕ)
       → r ≡ writeCause (codedAnswer (stated k m f) t) .number

@@ -46,8 +46,8 @@ pub data Call : Type 0 where
   -- no call: a frame that the box's host sends
   hostSends : List ℕ → Call
 
-abbrev pub entryOf : Raising → ErrorEntryMode → ErrorEntry
-entryOf g m = entryWith (g .status) (g .queue) m (g .profile) (g .code) (g .stamp) (g .information)
+abbrev pub raisedEntry : Raising → ErrorEntryMode → ErrorEntry
+raisedEntry g m = entryWith (g .status) (g .queue) m (g .profile) (g .code) (g .stamp) (g .information)
 
 -- ---- 01's words of it, by the numbers alone: what answered 0 was not refused
 
@@ -68,15 +68,15 @@ abbrev pub ifZero : {A : Type 0} → ℕ → List A → List A → List A
 ifZero r new old = pick (eqb r 0) new old
 
 -- the entry of a Raise whose mode is one
-abbrev pub entriesOf : Raising → ErrorEntryModeAnswer → List ErrorEntry
-entriesOf g (mode.Unknown b) = []
-entriesOf g (mode.Known m) = entryOf g m ∷ []
+abbrev pub raisedEntries : Raising → ErrorEntryModeAnswer → List ErrorEntry
+raisedEntries g (mode.Unknown b) = []
+raisedEntries g (mode.Known m) = raisedEntry g m ∷ []
 
 -- what a call adds, for the head with ID i
 abbrev pub seenWith : ℕ → Call → Seen → Seen
 seenWith i (reporterRaise g r) s =
     record {
-      accepted = ifZero r (s .accepted ++ entriesOf g (modeOf (g .mode))) (s .accepted);
+      accepted = ifZero r (s .accepted ++ raisedEntries g (modeOf (g .mode))) (s .accepted);
       handedOut = s .handedOut;
       answersSent = s .answersSent;
       requestsSent = s .requestsSent;
@@ -123,7 +123,7 @@ seen i (x ∷ l) = seenWith i x (seen i l)
 -- 0 is raised, 8 an invalid entry, 9 a full queue
 abbrev pub raiseEvents : Raising → ErrorEntryModeAnswer → ℕ → Log
 raiseEvents g (mode.Unknown b) r = []
-raiseEvents g (mode.Known m) r = raised (entryOf g m) (raiseTold (row r [])) ∷ []
+raiseEvents g (mode.Known m) r = raised (raisedEntry g m) (raiseTold (row r [])) ∷ []
 
 -- 0 is written, with the length
 abbrev pub answerEvents : NmtStateAnswer → ℕ → List ℕ → ℕ → Log
