@@ -189,7 +189,9 @@ fn simulated(scene: Scene) -> Scene {
 fn demo(journal: i32) {
     say(b"lines to check: the cause of a refusal, a length, or what a call came to\n");
     let scene = start(lines::all(fresh(journal)));
-    say(b"the simulation: entries, then answers on their way to the box\n");
+    say(
+        b"the simulation: entries, then answers on their way to the box; head 200 is another supplier's, with batches of 6\n",
+    );
     let shown = table::simulated(simulated(scene));
     say(b"the line is good from here on\n");
     table::verdict(closing::all(shown));
