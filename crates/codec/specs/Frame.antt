@@ -92,5 +92,4 @@ pub record ReadsFrame (f : List ℕ) (r : FrameAnswer) : Type 0 where
 -- the same, with the Ethernet header and the payload's place
 pub record Reads (f : List ℕ) (r : DeserializedFrame) : Type 0 where
   pub read : r ≡ deserializeFrame f
-  pub good : (x : PowerlinkFrame) → readFrame f ≡ Frame x → frameCause (r .answer) ≡ row 0 []
-  pub refused : (e : PowerlinkError) → readFrame f ≡ Refused e → frameCause (r .answer) ≡ causeOf e
+  pub frame : ReadsFrame f (r .answer)
