@@ -1,26 +1,20 @@
 -- The cases of `kindIn` and `kindOf`, each from what leads to it.
 -- Assumes nothing.
 use Prim.Native.Nat.{ℕ, _%_, _≤_, _<_}
-use mathlib.Core.Bool.{Bool, true, false}
-use mathlib.Core.Path.{_≡_, refl, ap, _∙_}
+use mathlib.Core.Path.{_≡_, ap, _∙_}
 use mathlib.Core.List.{List}
-use lib.Dec.{leb, ltb, eqb}
 use lib.ListN.{length, getD, drop}
 use borrow.Author.Needs.{needs}
 use borrow.Author.Tests.{le-leb, lt-leb, le-ltb, lt-ltb, eq-eqb, ne-eqb}
 use Rattle.octets.specs.Numbers.{beAt}
-use Rattle.types.specs.Codes.{need}
 use Rattle.types.specs.Header.{ethertypeEPL}
 use Rattle.types.specs.Messages.{messageCode, messageOf}
 use Rattle.types.specs.declared.hal.PowerlinkError.the-variants.{BufferTooShort, InvalidEthernetFrame, InvalidPlFrame, InvalidMessageType}
 use Rattle.types.specs.declared.message_type.MessageType.{MessageType}
-use Rattle.types.specs.declared.message_type.MessageTypeAnswer.{MessageTypeAnswer}
-use Rattle.types.specs.declared.message_type.MessageTypeAnswer.the-variants.{Known, Unknown}
+use Rattle.types.specs.declared.message_type.MessageTypeAnswer.the-variants.{Unknown}
 use Rattle.types.proofs.ReadBack.{message-known}
-use Rattle.codec.specs.Frame.{byMessage, readSection, readFrame, frameCause, ReadsFrame}
-use Rattle.codec.specs.Verdicts.{kindBy, kindIn, kindOf, kindAnswer}
+use Rattle.codec.specs.Frame.{kindIn, kindOf, readFrame, frameCause, ReadsFrame}
 use Rattle.codec.specs.declared.FrameAnswer.{FrameAnswer}
-use Rattle.codec.specs.declared.FrameAnswer.the-variants.{Refused}
 use Rattle.codec.specs.declared.KindAnswer.{KindAnswer}
 use Rattle.codec.specs.declared.KindAnswer.the-variants as kind
 
@@ -56,21 +50,6 @@ module _ (f : List ℕ) where
       pub frame-read : (s : List ℕ) (r : KindAnswer) → 14 < length f → s ≡ drop 14 f → r ≡ kindIn s → r ≡ kindOf f
       unfolding kindOf
       frame-read s r k es er = rw (le-leb 14 (length f) long, ← ew, eq-eqb w ethertypeEPL epl, lt-ltb 14 (length f) k, ← es) er
-
--- what the rules of the kind make of the section is what reading the frame gives
-pub kind-reads : (f : List ℕ) (r : KindAnswer) → r ≡ kindOf f → kindAnswer r (drop 14 f) ≡ readFrame f
-unfolding kindOf kindIn readFrame readSection
-kind-reads f r e =
-    rw e (go (leb 14 (length f)) (eqb (beAt 2 12 f) ethertypeEPL) (ltb 14 (length f)) (messageOf (getD (drop 14 f) 0 0 % 0x80)))
-  where
-    go : (enough epl more : Bool) (m : MessageTypeAnswer)
-        → kindAnswer (need enough (kind.Refused BufferTooShort) (need epl (kind.Refused InvalidEthernetFrame) (need more (kind.Refused InvalidPlFrame) (kindBy m)))) (drop 14 f)
-        ≡ need enough (Refused BufferTooShort) (need epl (Refused InvalidEthernetFrame) (need more (Refused InvalidPlFrame) (byMessage m (drop 14 f))))
-    go false epl more m = refl
-    go true false more m = refl
-    go true true false m = refl
-    go true true true (Unknown b) = refl
-    go true true true (Known k) = refl
 
 -- an answer that is what reading gives has the row of what it is
 pub frame-told : (f : List ℕ) (r : FrameAnswer) → r ≡ readFrame f → ReadsFrame f r

@@ -27,10 +27,31 @@ use Rattle.codec.specs.declared.DeserializedFrame.{DeserializedFrame}
 use Rattle.codec.specs.declared.PayloadPlace.{PayloadPlace}
 use Rattle.codec.specs.declared.FrameAnswer.{FrameAnswer}
 use Rattle.codec.specs.declared.FrameAnswer.the-variants.{Frame, Refused}
+use Rattle.codec.specs.declared.KindAnswer.{KindAnswer}
+use Rattle.codec.specs.declared.KindAnswer.the-variants as kind
 use Rattle.frame.specs.declared.PowerlinkFrame.{PowerlinkFrame}
 use Rattle.frame.specs.declared.PowerlinkFrame.the-variants.{Soc, PReq, PRes, SoA, ASnd}
 
--- the rules of a kind
+-- ---- the tests of a frame before those of its kind
+
+abbrev pub kindBy : MessageTypeAnswer → KindAnswer
+kindBy (Unknown b) = kind.Refused (InvalidMessageType b)
+kindBy (Known k) = kind.Kind k
+
+-- the message type is the low seven bits of octet 0; it is tested before any length that a kind needs
+unfoldable pub kindIn : List ℕ → KindAnswer
+kindIn s = kindBy (messageOf (getD s 0 0 % 0x80))
+
+-- the Ethernet header, then the EtherType, then a section that is not empty, then its message type
+unfoldable pub kindOf : List ℕ → KindAnswer
+kindOf f =
+    need (leb ethLength (length f)) (kind.Refused BufferTooShort)
+    (need (eqb (beAt 2 12 f) ethertypeEPL) (kind.Refused InvalidEthernetFrame)
+    (need (ltb ethLength (length f)) (kind.Refused InvalidPlFrame)
+    (kindIn (drop ethLength f))))
+
+-- ---- then the rules of the kind
+
 abbrev pub byKind : MessageType → List ℕ → FrameAnswer
 byKind message.SoC s = readSoC s
 byKind message.PReq s = readPReq s
@@ -38,21 +59,20 @@ byKind message.PRes s = readPRes s
 byKind message.SoA s = readSoA s
 byKind message.ASnd s = readASnd s
 
-abbrev pub byMessage : MessageTypeAnswer → List ℕ → FrameAnswer
-byMessage (Unknown b) s = Refused (InvalidMessageType b)
-byMessage (Known kind) s = byKind kind s
+-- what the section s is, after the tests before
+abbrev pub kindAnswer : KindAnswer → List ℕ → FrameAnswer
+kindAnswer (kind.Refused e) s = Refused e
+kindAnswer (kind.Kind k) s = byKind k s
 
--- the message type is the low seven bits of octet 0; it is tested before any length that a kind needs
+-- a section by itself: its message type, then the rules of its kind
 unfoldable pub readSection : List ℕ → FrameAnswer
-readSection s = byMessage (messageOf (getD s 0 0 % 0x80)) s
+readSection s = kindAnswer (kindIn s) s
 
--- the Ethernet header, then the EtherType, then a section that is not empty
+-- a frame: the tests before those of its kind, then the kind's rules of what stands behind the Ethernet header
 unfoldable pub readFrame : List ℕ → FrameAnswer
-readFrame f =
-    need (leb ethLength (length f)) (Refused BufferTooShort)
-    (need (eqb (beAt 2 12 f) ethertypeEPL) (Refused InvalidEthernetFrame)
-    (need (ltb ethLength (length f)) (Refused InvalidPlFrame)
-    (readSection (drop ethLength f))))
+readFrame f = kindAnswer (kindOf f) (drop ethLength f)
+
+-- ---- the payload's place, and what a reading promises
 
 abbrev pub place : ℕ → ℕ → PayloadPlace
 place at n = record { start = at; len = n }

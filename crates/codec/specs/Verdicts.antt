@@ -1,29 +1,18 @@
--- What the tests of a frame tell of it: `kind_of` of the whole frame, each kind's `judge` of its section.
+-- What a section is by the verdict of its kind's `judge`.
 -- Assumes nothing.
-use Prim.Native.Nat.{ℕ, _%_}
+use Prim.Native.Nat.{ℕ}
 use mathlib.Core.List.{List}
-use lib.Dec.{leb, ltb, eqb}
-use lib.ListN.{length, getD, drop}
-use Rattle.octets.specs.Numbers.{beAt}
-use Rattle.types.specs.Codes.{need}
-use Rattle.types.specs.Header.{ethLength, ethertypeEPL}
-use Rattle.types.specs.Messages.{messageOf}
 use Rattle.types.specs.declared.common.NetTime.{NetTime}
 use Rattle.types.specs.declared.common.RelativeTime.{RelativeTime}
-use Rattle.types.specs.declared.hal.PowerlinkError.the-variants.{BufferTooShort, InvalidEthernetFrame, InvalidPlFrame, InvalidMessageType, InvalidNmtState, InvalidServiceId, InvalidRequestedServiceId}
-use Rattle.types.specs.declared.message_type.MessageTypeAnswer.{MessageTypeAnswer}
-use Rattle.types.specs.declared.message_type.MessageTypeAnswer.the-variants.{Known, Unknown}
+use Rattle.types.specs.declared.hal.PowerlinkError.the-variants.{BufferTooShort, InvalidPlFrame, InvalidNmtState, InvalidServiceId, InvalidRequestedServiceId}
 use Rattle.control.specs.declared.soc.SocFrame.{SocFrame}
 use Rattle.codec.specs.ASnd.{asndOf}
-use Rattle.codec.specs.Frame.{byKind}
 use Rattle.codec.specs.PReq.{preqOf}
 use Rattle.codec.specs.PRes.{presOf}
 use Rattle.codec.specs.SoA.{soaOf}
 use Rattle.codec.specs.SoC.{socOf}
 use Rattle.codec.specs.declared.FrameAnswer.{FrameAnswer}
 use Rattle.codec.specs.declared.FrameAnswer.the-variants.{Frame, Refused}
-use Rattle.codec.specs.declared.KindAnswer.{KindAnswer}
-use Rattle.codec.specs.declared.KindAnswer.the-variants as kind
 use Rattle.codec.specs.declared.asnd.ASndVerdict.{ASndVerdict}
 use Rattle.codec.specs.declared.asnd.ASndVerdict.the-variants as asnd
 use Rattle.codec.specs.declared.preq.PReqVerdict.{PReqVerdict}
@@ -36,29 +25,6 @@ use Rattle.codec.specs.declared.soc.SocVerdict.{SocVerdict}
 use Rattle.codec.specs.declared.soc.SocVerdict.the-variants as soc
 use Rattle.frame.specs.declared.PowerlinkFrame.the-variants.{Soc, PReq, PRes, SoA, ASnd}
 
--- ---- the tests of a frame before those of its kind
-
-abbrev pub kindBy : MessageTypeAnswer → KindAnswer
-kindBy (Unknown b) = kind.Refused (InvalidMessageType b)
-kindBy (Known k) = kind.Kind k
-
--- the message type of a section, as `readSection` takes it
-unfoldable pub kindIn : List ℕ → KindAnswer
-kindIn s = kindBy (messageOf (getD s 0 0 % 0x80))
-
--- the Ethernet header, the EtherType, a section that is not empty, and its message type: the tests of `readFrame`
-unfoldable pub kindOf : List ℕ → KindAnswer
-kindOf f =
-    need (leb ethLength (length f)) (kind.Refused BufferTooShort)
-    (need (eqb (beAt 2 12 f) ethertypeEPL) (kind.Refused InvalidEthernetFrame)
-    (need (ltb ethLength (length f)) (kind.Refused InvalidPlFrame)
-    (kindIn (drop ethLength f))))
-
--- what a frame with the section s is, by the rules of the kind that its first tests find
-abbrev pub kindAnswer : KindAnswer → List ℕ → FrameAnswer
-kindAnswer (kind.Kind k) s = byKind k s
-kindAnswer (kind.Refused e) s = Refused e
-
 -- a SoC with the times given
 abbrev pub socTimed : List ℕ → NetTime → RelativeTime → SocFrame
 socTimed s net relative =
@@ -70,7 +36,6 @@ socTimed s net relative =
       «relative_time» = relative;
     }
 
--- and what a section s is, by the verdict of its kind
 abbrev pub socAnswer : SocVerdict → List ℕ → FrameAnswer
 socAnswer (soc.Read net relative) s = Frame (Soc (socTimed s net relative))
 socAnswer soc.TooShort s = Refused BufferTooShort

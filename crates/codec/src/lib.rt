@@ -2,8 +2,7 @@
 // `kind_of` and then the `judge` of the kind, and `read_frame` and any other reading go by their verdicts.
 ghost use mathlib.Core.Path.{_≡_};
 ghost use Rattle.octets.specs.Part.{Part};
-ghost use Rattle.codec.specs.Frame.{byKind, placeInFrame, placeOf, payloadOf, Reads, ReadsFrame};
-ghost use Rattle.codec.specs.Verdicts.{kindIn, kindOf};
+ghost use Rattle.codec.specs.Frame.{kindIn, kindOf, byKind, placeInFrame, placeOf, payloadOf, Reads, ReadsFrame};
 
 pub mod asnd;
 pub mod headers;

@@ -19,12 +19,12 @@ use Rattle.section.specs.Write.{padded}
 use Rattle.section.proofs.Sections.{padded-length}
 use Rattle.frame.specs.declared.PowerlinkFrame.the-variants.{ASnd}
 use Rattle.codec.specs.ASnd.{readASnd, asndPayloadLength}
-use Rattle.codec.specs.Frame.{readSection}
+use Rattle.codec.specs.Frame.{kindIn, readSection}
 use Rattle.codec.specs.declared.FrameAnswer.the-variants.{Frame}
 
 module _ (f : ASndFrame) (p : List ℕ) where
   pub asnd-back : readSection (asndSection f p) ≡ Frame (ASnd f)
-  unfolding readSection messageOf readASnd asndSection padded
+  unfolding messageOf kindIn readSection readASnd asndSection padded
   asnd-back = rw (le-leb 4 (length (asndSection f p)) (omega arith), service-known (f .«service_id»))
 
   section-length : length (asndSection f p) ≡ 4 + length p + (46 - (4 + length p))

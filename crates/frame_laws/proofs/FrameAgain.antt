@@ -14,11 +14,11 @@ use Rattle.types.specs.declared.hal.PowerlinkError.the-variants.{BufferTooShort
 use Rattle.frame.specs.Write.{frameBytes}
 use Rattle.frame.specs.declared.PowerlinkFrame.{PowerlinkFrame}
 use Rattle.frame.specs.declared.PowerlinkFrame.the-variants.{Soc, PReq, PRes, SoA, ASnd}
-use Rattle.codec.specs.Frame.{readSection, readFrame, placeInFrame, deserializeFrame, payloadOf}
+use Rattle.codec.specs.Frame.{kindOf, readSection, readFrame, placeInFrame, deserializeFrame, payloadOf}
 use Rattle.codec.specs.declared.FrameAnswer.the-variants.{Frame}
 use Rattle.frame_laws.specs.WriteBack.{Octets, Plain, payloadIn}
 use Rattle.frame_laws.proofs.Elements.{elements, elements-are, joined}
-use Rattle.frame_laws.proofs.Passed.{passed}
+use Rattle.frame_laws.proofs.Passed.{kind-passed}
 use Rattle.frame_laws.proofs.SectionAgain.{section-again}
 
 -- octets from a place on
@@ -52,11 +52,11 @@ module _ (bytes : List ℕ) (o : Octets bytes) where
   module _ (f : PowerlinkFrame) where
     -- a frame that is read has a header, and the rest is read as its section
     section-read : readFrame bytes ≡ Frame f → (14 ≤ length bytes) × (readSection (drop 14 bytes) ≡ Frame f)
-    unfolding readFrame
+    unfolding kindOf readFrame readSection
     section-read e =
-        let r = passed (leb 14 (length bytes)) BufferTooShort _ f e in
-        let t = passed (eqb (beAt 2 12 bytes) ethertypeEPL) InvalidEthernetFrame _ f (r .1) in
-        (leb-true 14 (length bytes) (r .0), passed (ltb 14 (length bytes)) InvalidPlFrame _ f (t .1) .1)
+        let r = kind-passed (leb 14 (length bytes)) BufferTooShort _ (drop 14 bytes) f e in
+        let t = kind-passed (eqb (beAt 2 12 bytes) ethertypeEPL) InvalidEthernetFrame _ (drop 14 bytes) f (r .1) in
+        (leb-true 14 (length bytes) (r .0), kind-passed (ltb 14 (length bytes)) InvalidPlFrame _ (drop 14 bytes) f (t .1) .1)
 
     pub frame-again : deserializeFrame bytes .answer ≡ Frame f → Plain f (drop 14 bytes)
         → frameBytes (deserializeFrame bytes .«eth_header») f (payloadOf (deserializeFrame bytes .«payload_place») bytes) ≡ bytes

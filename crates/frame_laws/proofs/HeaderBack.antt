@@ -10,7 +10,7 @@ use borrow.Author.Tests.{le-leb, lt-ltb}
 use Rattle.octets.specs.Numbers.{beAt}
 use Rattle.types.specs.Header.{ethHeaderOf, ethBytes}
 use Rattle.types.specs.declared.basic.EthernetHeader.{EthernetHeader}
-use Rattle.codec.specs.Frame.{readFrame, readSection, placeOf, deserializeFrame}
+use Rattle.codec.specs.Frame.{kindOf, readFrame, readSection, placeOf, deserializeFrame}
 use Rattle.frame_laws.specs.ReadBack.{IsHeader}
 use Rattle.frame_laws.proofs.Elements.{elements, elements-are}
 
@@ -25,7 +25,7 @@ module _ (h : EthernetHeader) (s : List ℕ) (is : IsHeader h) where
       rw (six (h .«destination_mac» .0) (is .destination), six (h .«source_mac» .0) (is .source), is .ethertype)
 
   pub section-back : 0 < length s → readFrame (ethBytes h ++ s) ≡ readSection s
-  unfolding readFrame ethBytes beAt
+  unfolding kindOf readFrame readSection ethBytes beAt
   section-back k =
       rw (
         le-leb 14 (length (ethBytes h ++ s)) (omega arith),

@@ -10,7 +10,7 @@ use Rattle.types.specs.RequestedServices.{requestedOf}
 use Rattle.types.specs.Services.{serviceOf}
 use Rattle.types.specs.States.{stateOf}
 use Rattle.codec.specs.ASnd.{readASnd, asndPayloadLength}
-use Rattle.codec.specs.Frame.{readFrame, readSection, deserializeFrame}
+use Rattle.codec.specs.Frame.{kindIn, kindOf, readFrame, deserializeFrame}
 use Rattle.codec.specs.PReq.{readPReq}
 use Rattle.codec.specs.PRes.{presFlagsOf, readPRes}
 use Rattle.codec.specs.SoA.{readSoA}
@@ -25,7 +25,7 @@ use Rattle.frame_laws.specs.StatusLines.{statusLines}
 use Rattle.frame_laws.proofs.FlagLines.{flag-line-holds}
 
 frames-hold : map frameOutcome frameLines ≡ frameLines
-unfolding leAt beAt ethHeaderOf messageOf priorityIn requestedOf serviceOf stateOf readASnd asndPayloadLength readFrame readSection deserializeFrame readPReq presFlagsOf readPRes readSoA readSoC
+unfolding leAt beAt ethHeaderOf messageOf priorityIn requestedOf serviceOf stateOf readASnd asndPayloadLength kindIn kindOf readFrame deserializeFrame readPReq presFlagsOf readPRes readSoA readSoC
 frames-hold = refl
 
 statuses-hold : map statusOutcome statusLines ≡ statusLines

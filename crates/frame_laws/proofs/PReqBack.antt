@@ -14,7 +14,7 @@ use Rattle.poll.specs.PReq.{preqBytes, preqSection}
 use Rattle.poll.specs.declared.preq.PReqFrame.{PReqFrame}
 use Rattle.section.specs.Write.{padded}
 use Rattle.frame.specs.declared.PowerlinkFrame.the-variants.{PReq}
-use Rattle.codec.specs.Frame.{readSection}
+use Rattle.codec.specs.Frame.{kindIn, readSection}
 use Rattle.codec.specs.PReq.{readPReq}
 use Rattle.codec.specs.declared.FrameAnswer.the-variants.{Frame, Refused}
 use Rattle.frame_laws.specs.Sizes.{behindFields}
@@ -40,7 +40,7 @@ module _ (f : PReqFrame) (p : List ℕ) (small : f .«payload_size» < 2 ^ 16) w
   left = behind-length (preqBytes f) p refl
 
   pub preq-back : f .«payload_size» ≤ length (behindFields p) → readSection (preqSection f p) ≡ Frame (PReq f)
-  unfolding readSection messageOf readPReq preqSection padded
+  unfolding messageOf kindIn readSection readPReq preqSection padded
   preq-back fits =
       rw (
         le-leb 10 (length (preqSection f p)) (omega arith),
@@ -53,7 +53,7 @@ module _ (f : PReqFrame) (p : List ℕ) (small : f .«payload_size» < 2 ^ 16) w
       )
 
   pub preq-cut : length (behindFields p) < f .«payload_size» → readSection (preqSection f p) ≡ Refused BufferTooShort
-  unfolding readSection messageOf readPReq preqSection padded
+  unfolding messageOf kindIn readSection readPReq preqSection padded
   preq-cut lacks =
       rw (
         le-leb 10 (length (preqSection f p)) (omega arith),

@@ -18,7 +18,7 @@ use Rattle.poll.specs.declared.pres.PResFlags.{PResFlags}
 use Rattle.poll.specs.declared.pres.PResFrame.{PResFrame}
 use Rattle.section.specs.Write.{padded}
 use Rattle.frame.specs.declared.PowerlinkFrame.the-variants.{PRes}
-use Rattle.codec.specs.Frame.{readSection}
+use Rattle.codec.specs.Frame.{kindIn, readSection}
 use Rattle.codec.specs.PRes.{presFlagsOf, readPRes}
 use Rattle.codec.specs.declared.FrameAnswer.the-variants.{Frame, Refused}
 use Rattle.frame_laws.specs.Sizes.{behindFields}
@@ -55,7 +55,7 @@ module _ (f : PResFrame) (p : List ℕ) (to : f .destination .0 ≡ 255) (small 
   left = behind-length (presBytes f) p refl
 
   pub pres-back : f .flags .rs .0 ≤ 7 → f .«payload_size» ≤ length (behindFields p) → readSection (presSection f p) ≡ Frame (PRes f)
-  unfolding readSection messageOf readPRes presSection padded leAt
+  unfolding messageOf kindIn readSection readPRes presSection padded leAt
   pres-back seven fits =
       rw (
         le-leb 10 (length (presSection f p)) (omega arith),
@@ -68,7 +68,7 @@ module _ (f : PResFrame) (p : List ℕ) (to : f .destination .0 ≡ 255) (small 
       )
 
   pub pres-cut : length (behindFields p) < f .«payload_size» → readSection (presSection f p) ≡ Refused BufferTooShort
-  unfolding readSection messageOf readPRes presSection padded leAt
+  unfolding messageOf kindIn readSection readPRes presSection padded leAt
   pres-cut lacks =
       rw (
         le-leb 10 (length (presSection f p)) (omega arith),

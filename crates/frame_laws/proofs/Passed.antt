@@ -32,20 +32,28 @@ use Rattle.types.specs.declared.states.NmtStateAnswer.the-variants as state
 use Rattle.frame.specs.declared.PowerlinkFrame.{PowerlinkFrame}
 use Rattle.frame.specs.declared.PowerlinkFrame.the-variants.{Soc, PReq, PRes, SoA, ASnd}
 use Rattle.codec.specs.ASnd.{asndOf, asndByService, readASnd}
-use Rattle.codec.specs.Frame.{byMessage, readSection}
+use Rattle.codec.specs.Frame.{kindBy, kindIn, kindAnswer, readSection}
 use Rattle.codec.specs.PReq.{preqOf, readPReq}
 use Rattle.codec.specs.PRes.{presOf, presByState, readPRes}
 use Rattle.codec.specs.SoA.{soaOf, soaByService, soaByState, readSoA}
 use Rattle.codec.specs.SoC.{socOf, readSoC}
 use Rattle.codec.specs.declared.FrameAnswer.{FrameAnswer}
 use Rattle.codec.specs.declared.FrameAnswer.the-variants.{Frame, Refused}
+use Rattle.codec.specs.declared.KindAnswer.{KindAnswer}
+use Rattle.codec.specs.declared.KindAnswer.the-variants as kind
 use Rattle.frame_laws.proofs.Named.{message-named, state-named, service-named, requested-named}
 
 -- a test in front of a frame that is read was passed
-pub passed : (t : Bool) (e : PowerlinkError) (next : FrameAnswer) (f : PowerlinkFrame) → need t (Refused e) next ≡ Frame f
+passed : (t : Bool) (e : PowerlinkError) (next : FrameAnswer) (f : PowerlinkFrame) → need t (Refused e) next ≡ Frame f
     → (t ≡ true) × (next ≡ Frame f)
 passed true e next f q = (refl, q)
 passed false e next f q = let z : _≡_ {A = ℕ} 0 1 = cc in absurd (omega arith)
+
+-- and one in front of the kind that it is read by
+pub kind-passed : (t : Bool) (e : PowerlinkError) (next : KindAnswer) (s : List ℕ) (f : PowerlinkFrame)
+    → kindAnswer (need t (kind.Refused e) next) s ≡ Frame f → (t ≡ true) × (kindAnswer next s ≡ Frame f)
+kind-passed true e next s f q = (refl, q)
+kind-passed false e next s f q = let z : _≡_ {A = ℕ} 0 1 = cc in absurd (omega arith)
 
 module _ (s : List ℕ) (P : PowerlinkFrame → Type 0) where
   -- P of each kind's frame, from the tests that the kind's section passed
@@ -89,7 +97,7 @@ module _ (s : List ℕ) (P : PowerlinkFrame → Type 0) where
     typed : (m : MessageType) → messageOf (getD s 0 0 % 0x80) ≡ Known m → getD s 0 0 % 0x80 ≡ messageCode m
     typed m q = sym (message-named (getD s 0 0 % 0x80) m q)
 
-    by-kind : (a : MessageTypeAnswer) → messageOf (getD s 0 0 % 0x80) ≡ a → byMessage a s ≡ Frame f → P f
+    by-kind : (a : MessageTypeAnswer) → messageOf (getD s 0 0 % 0x80) ≡ a → kindAnswer (kindBy a) s ≡ Frame f → P f
     unfolding readSoC readPReq readPRes readSoA readASnd
     by-kind (Unknown b) q e = never _ e
     by-kind (Known message.SoC) q e =
@@ -111,5 +119,5 @@ module _ (s : List ℕ) (P : PowerlinkFrame → Type 0) where
         by-service (typed _ q) (leb-true 4 (length s) (r .0)) (serviceOf (getD s 3 0)) refl (r .1)
 
     pub by-tests : readSection s ≡ Frame f → P f
-    unfolding readSection
+    unfolding kindIn readSection
     by-tests e = by-kind (messageOf (getD s 0 0 % 0x80)) refl e

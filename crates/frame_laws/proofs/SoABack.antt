@@ -7,7 +7,7 @@ use Rattle.control.specs.SoA.{soaSection}
 use Rattle.control.specs.declared.soa.SoAFrame.{SoAFrame}
 use Rattle.section.specs.Write.{padded}
 use Rattle.frame.specs.declared.PowerlinkFrame.the-variants.{SoA}
-use Rattle.codec.specs.Frame.{readSection}
+use Rattle.codec.specs.Frame.{kindIn, readSection}
 use Rattle.codec.specs.SoA.{readSoA}
 use Rattle.codec.specs.declared.FrameAnswer.the-variants.{Frame}
 use Rattle.frame_laws.proofs.Flags.{two, Reads2}
@@ -19,7 +19,7 @@ er : Reads2 2 1 1 (λ x y. y)
 er = two _ refl refl refl refl
 
 pub soa-back : (f : SoAFrame) → readSection (soaSection f) ≡ Frame (SoA f)
-unfolding readSection messageOf readSoA soaSection padded
+unfolding messageOf kindIn readSection readSoA soaSection padded
 soa-back f =
     rw (
       state-known (f .«nmt_state»),

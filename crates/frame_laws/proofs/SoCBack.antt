@@ -8,7 +8,7 @@ use Rattle.control.specs.SoC.{socSection}
 use Rattle.control.specs.declared.soc.SocFrame.{SocFrame}
 use Rattle.section.specs.Write.{padded}
 use Rattle.frame.specs.declared.PowerlinkFrame.the-variants.{Soc}
-use Rattle.codec.specs.Frame.{readSection}
+use Rattle.codec.specs.Frame.{kindIn, readSection}
 use Rattle.codec.specs.SoC.{readSoC}
 use Rattle.codec.specs.declared.FrameAnswer.the-variants.{Frame}
 use Rattle.frame_laws.specs.ReadBack.{SocInRange}
@@ -21,7 +21,7 @@ ps : Reads2 7 6 6 (λ x y. y)
 ps = two _ refl refl refl refl
 
 pub soc-back : (f : SocFrame) → SocInRange f → readSection (socSection f) ≡ Frame (Soc f)
-unfolding readSection messageOf readSoC socSection padded leAt
+unfolding messageOf kindIn readSection readSoC socSection padded leAt
 soc-back f r =
     rw (
       mc (f .flags .mc) (f .flags .ps),

@@ -1,10 +1,11 @@
 -- `codec::deserialize_frame` meets its contract: each field is what its call gives.
 -- Assumes nothing.
+use mathlib.Core.Path.{_≡_}
 use borrow.Author.Needs.{needs}
 use Rattle.types.specs.declared.hal.PowerlinkError.the-variants.{BufferTooShort}
-use Rattle.codec.specs.Frame.{deserializeFrame}
-use Rattle.codec.specs.declared.KindAnswer.the-variants as kind
-use Rattle.codec.proofs.FrameLaws.{frame-short, frame-told, kind-reads}
+use Rattle.codec.specs.Frame.{readFrame, deserializeFrame}
+use Rattle.codec.specs.declared.FrameAnswer.the-variants.{Refused}
+use Rattle.codec.proofs.FrameLaws.{frame-short, frame-told}
 use Rattle.codec.proofs.deserialize_frame.Statement.{statement}
 use Rattle.codec.proofs.deserialize_frame.Tie as tie
 
@@ -16,10 +17,10 @@ returns c =
     record { read = rw (c .whole-header .ensures, p .place-of .ensures, p .before .tail .ensures .octets, r .answer); frame = r }
 
 returns-2 : tie.Need-returns-2
-unfolding deserializeFrame
+unfolding readFrame deserializeFrame
 returns-2 c =
     let f = c .before .before .before .args .buffer .now in
-    let q = kind-reads f (kind.Refused BufferTooShort) (frame-short f (c .before .if1 .left)) in
+    let q : Refused BufferTooShort ≡ readFrame f = rw (← frame-short f (c .before .if1 .left)) in
     record { read = rw (c .eth-header-at .ensures, ← q); frame = frame-told f _ q }
 
 pub deserialize-frame-spec : {M : Type 1} → statement M
