@@ -55,4 +55,4 @@ module _ (f : List ℕ) where
 pub frame-told : (f : List ℕ) (r : FrameAnswer) → r ≡ readFrame f → ReadsFrame f r
 frame-told f r e = record { answer = e; good = λ x q. ap frameCause (e ∙ q); refused = λ x q. ap frameCause (e ∙ q) }
 
-pub ruleset frame-laws = (needs, frame-short, frame-other, frame-empty, frame-read)
+pub ruleset frame-laws = (needs, frame-other, frame-empty, frame-read)
