@@ -1,12 +1,15 @@
--- The numbers of what was read, for a caller in C. A flag is 1 or 0.
+-- The numbers of what was read, for a caller in C, where a flag is 1 or 0; and the entry that a caller's numbers give.
 -- Assumes nothing.
 use Prim.Native.Nat.{ℕ}
+use mathlib.Core.Bool.{Bool}
 use mathlib.Core.List.{List, [], _∷_}
 use Rattle.types.specs.Messages.{messageCode}
 use Rattle.types.specs.PollFlags.{priorityCode}
 use Rattle.types.specs.RequestedServices.{requestedCode}
 use Rattle.types.specs.Services.{serviceCode}
 use Rattle.types.specs.States.{stateCode}
+use Rattle.types.specs.declared.common.NetTime.{NetTime}
+use Rattle.types.specs.declared.error_mode.ErrorEntryMode.{ErrorEntryMode}
 use Rattle.types.specs.declared.message_type.MessageType.the-variants as message
 use Rattle.control.specs.declared.asnd.ASndFrame.{ASndFrame}
 use Rattle.control.specs.declared.soa.SoAFrame.{SoAFrame}
@@ -17,6 +20,7 @@ use Rattle.frame.specs.declared.PowerlinkFrame.{PowerlinkFrame}
 use Rattle.frame.specs.declared.PowerlinkFrame.the-variants.{Soc, PReq, PRes, SoA, ASnd}
 use Rattle.codec.specs.declared.PayloadPlace.{PayloadPlace}
 pub use Rattle.error_entry.specs.Values.{asNumber, entryNumbers}
+use Rattle.error_entry.specs.declared.ErrorEntry.{ErrorEntry}
 use Rattle.status_response.specs.declared.fields.StatusFields.{StatusFields}
 
 -- ---- frames
@@ -65,3 +69,17 @@ frameNumbers (ASnd f) p = asndNumbers f p
 abbrev pub statusNumbers : StatusFields → List ℕ
 statusNumbers f =
     asNumber (f .«en_flag») ∷ asNumber (f .«ec_flag») ∷ priorityCode (f .pr) ∷ f .rs .0 ∷ stateCode (f .«nmt_state») ∷ []
+
+-- ---- an entry
+
+abbrev pub time : ℕ → ℕ → NetTime
+time s ns = record { seconds = s; nanoseconds = ns }
+
+abbrev pub entryWith : Bool → Bool → ErrorEntryMode → ℕ → ℕ → NetTime → ℕ → ErrorEntry
+entryWith status queue mode profile code stamp information =
+    record {
+      «entry_type» = record { «is_status_entry» = status; «send_to_queue» = queue; mode = mode; profile = profile };
+      «error_code» = code;
+      timestamp = stamp;
+      «additional_information» = information;
+    }

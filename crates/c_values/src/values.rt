@@ -1,8 +1,11 @@
-// The numbers of an entry, in the order in which include/powerlink.h names them. specs/ defines those of frames and of a
-// StatusResponse's front too: `powerlink` makes these.
+// An entry as numbers, in the order in which include/powerlink.h names them: those that a caller is told, and those that it
+// gives. specs/ defines the numbers of frames and of a StatusResponse's front too: `powerlink` makes these.
 ghost use mathlib.Core.Path.{_≡_};
-ghost use Rattle.c_values.specs.Values.{asNumber, entryNumbers};
+ghost use Rattle.c_values.specs.Values.{asNumber, entryNumbers, time, entryWith};
+use error_entry::EntryType;
 use error_entry::ErrorEntry;
+use types::common::NetTime;
+use types::error_mode::ErrorEntryMode;
 
 fn number(on: bool) -> u64
     ensures { λ r. ⌜ r ≡ asNumber on ⌝ }
@@ -25,4 +28,34 @@ pub fn entry_values(e: ErrorEntry) -> [u64; 8]
         e.timestamp.nanoseconds as u64,
         e.additional_information,
     ]
+}
+
+// The entry that a caller's numbers give. Which mode a number names is read before: each call refuses one that names none in
+// its own way.
+pub fn entry_given(
+    status_entry: bool,
+    send_to_queue: bool,
+    mode: ErrorEntryMode,
+    profile: u16,
+    code: u16,
+    seconds: u32,
+    nanoseconds: u32,
+    information: u64,
+) -> ErrorEntry
+    ensures { λ r. ⌜ r ≡ entryWith «status_entry» «send_to_queue» mode profile code (time seconds nanoseconds) information ⌝ }
+{
+    ErrorEntry {
+        entry_type: EntryType {
+            is_status_entry: status_entry,
+            send_to_queue,
+            mode,
+            profile,
+        },
+        error_code: code,
+        timestamp: NetTime {
+            seconds,
+            nanoseconds,
+        },
+        additional_information: information,
+    }
 }

@@ -24,13 +24,14 @@ module _ (i : ℕ) (e : ErrorEntryMode → ErrorEntry) (m : ErrorEntryModeAnswer
   pub records-none : (b : ℕ) → m ≡ mode.Unknown b → 21 ≤ length t → RecordsBy i e m 19 t t n n
   records-none b q h = let l = le-leb 21 (length t) h in record { cause = rw (q, l); target = rw q; written = rw (q, l) }
 
-  pub records-told : (k : ErrorEntryMode) (a : JournalAnswer) (r : ℕ) (t′ : List ℕ) (n′ : ℕ) → m ≡ mode.Known k
-      → WritesRecord (node i) (e k) a t t′ → r ≡ journalCause a .number → n′ ≡ recordLengthAfter a n → RecordsBy i e m r t t′ n n′
-  records-told k a r t′ n′ q w er en =
+  pub records-told : (k : ErrorEntryMode) (x : ErrorEntry) (a : JournalAnswer) (r : ℕ) (t′ : List ℕ) (n′ : ℕ) → m ≡ mode.Known k → x ≡ e k
+      → WritesRecord (node i) x a t t′ → r ≡ journalCause a .number → n′ ≡ recordLengthAfter a n → RecordsBy i e m r t t′ n n′
+  records-told k x a r t′ n′ q given w er en =
+      let v : WritesRecord (node i) (e k) a t t′ = rw given at w in
       record {
-        cause = er ∙ ap (λ (x : JournalAnswer). journalCause x .number) (w .answer) ∙ rw q;
-        target = w .holds ∙ ap (λ (x : JournalAnswer). journalHolds x (recordBytes i (e k)) t) (w .answer) ∙ rw q;
-        written = en ∙ ap (λ (x : JournalAnswer). recordLengthAfter x n) (w .answer) ∙ rw q;
+        cause = er ∙ ap (λ (x : JournalAnswer). journalCause x .number) (v .answer) ∙ rw q;
+        target = v .holds ∙ ap (λ (x : JournalAnswer). journalHolds x (recordBytes i (e k)) t) (v .answer) ∙ rw q;
+        written = en ∙ ap (λ (x : JournalAnswer). recordLengthAfter x n) (v .answer) ∙ rw q;
       }
 
 pub whole-told : (version len r n n′ : ℕ) (a : WholeLenAnswer) → TellsWhole version len a → r ≡ wholeLenCause a .number → n′ ≡ wholeAfter a n

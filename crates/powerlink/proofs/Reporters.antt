@@ -32,9 +32,11 @@ module _ (s s′ : List ℕ) where
   makes-told i r a w e = record { cause = e ∙ ap (λ (x : NewAnswer). newCause x .number) (w .answer); makes = rw (w .answer) at w }
 
   module _ (e : ErrorEntryMode → ErrorEntry) (m : ErrorEntryModeAnswer) where
-    pub raises-told : (k : ErrorEntryMode) (a : RaiseAnswer) (r : ℕ) → m ≡ mode.Known k → Raises (e k) a s s′ → r ≡ raiseCause a .number → RaisesBy e m r s s′
-    raises-told k a r q w t =
-        rw q (record { cause = t ∙ ap (λ (x : RaiseAnswer). raiseCause x .number) (w .answer); raises = rw (w .answer) at w })
+    pub raises-told : (k : ErrorEntryMode) (x : ErrorEntry) (a : RaiseAnswer) (r : ℕ) → m ≡ mode.Known k → x ≡ e k → Raises x a s s′
+        → r ≡ raiseCause a .number → RaisesBy e m r s s′
+    raises-told k x a r q given w t =
+        let v : Raises (e k) a s s′ = rw given at w in
+        rw q (record { cause = t ∙ ap (λ (x : RaiseAnswer). raiseCause x .number) (v .answer); raises = rw (v .answer) at v })
 
   pub reads-told : (f : List ℕ) (a : ReadAnswer) (r k k′ o o′ : ℕ) → Reads f a s s′ → RowTold (readCause a) r k k′ o o′ → ReporterReads f r s s′ k k′ o o′
   reads-told f a r k k′ o o′ w t = record { told = rw (w .answer) at t; reads = rw (w .answer) at w }

@@ -81,5 +81,8 @@ module _ (e : ErrorEntryMode → ErrorEntry) (m : ErrorEntryModeAnswer) (t : Lis
   pub entry-none : (b : ℕ) → m ≡ mode.Unknown b → 20 ≤ length t → WritesEntry e m 8 t t n n
   entry-none b q h = record { cause = rw (q, le-leb 20 (length t) h); target = rw q; written = rw q }
 
-  pub entry-told : (k : ErrorEntryMode) (r : ℕ) (t′ : List ℕ) (n′ : ℕ) → m ≡ mode.Known k → WritesTo (entryBytes (e k)) r t t′ n n′ → WritesEntry e m r t t′ n n′
-  entry-told k r t′ n′ q w = record { cause = w .cause ∙ rw q; target = w .target ∙ rw q; written = w .written ∙ rw q }
+  pub entry-told : (k : ErrorEntryMode) (x : ErrorEntry) (r : ℕ) (t′ : List ℕ) (n′ : ℕ) → m ≡ mode.Known k → x ≡ e k
+      → WritesTo (entryBytes x) r t t′ n n′ → WritesEntry e m r t t′ n n′
+  entry-told k x r t′ n′ q given w =
+      let v : WritesTo (entryBytes (e k)) r t t′ n n′ = rw given at w in
+      record { cause = v .cause ∙ rw q; target = v .target ∙ rw q; written = v .written ∙ rw q }

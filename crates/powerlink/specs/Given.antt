@@ -17,7 +17,6 @@ use Rattle.types.specs.declared.NodeId.{NodeId}
 use Rattle.types.specs.declared.basic.EthernetHeader.{EthernetHeader}
 use Rattle.types.specs.declared.basic.MacAddress.{MacAddress}
 use Rattle.types.specs.declared.common.NetTime.{NetTime}
-use Rattle.types.specs.declared.error_mode.ErrorEntryMode.{ErrorEntryMode}
 use Rattle.types.specs.declared.hal.PowerlinkError.the-variants.{BufferTooShort}
 use Rattle.types.specs.declared.requested_service.RequestedServiceId.{RequestedServiceId}
 use Rattle.types.specs.declared.service.ServiceId.{ServiceId}
@@ -46,12 +45,12 @@ use Rattle.poll.specs.declared.pres.PResFrame.{PResFrame}
 use Rattle.frame.specs.Write.{plHeaderBytes, frameBytes}
 use Rattle.frame.specs.declared.PowerlinkFrame.the-variants.{Soc, PReq, PRes, SoA, ASnd}
 use Rattle.error_entry.specs.Entry.{entryLength}
-use Rattle.error_entry.specs.declared.ErrorEntry.{ErrorEntry}
 use Rattle.status_response.specs.BitField.{fieldOf}
 use Rattle.status_response.specs.Given.{entriesGiven}
 use Rattle.status_response.specs.Fields.{headBytes}
 use Rattle.status_response.specs.Steps.{statusBytes, statusLength}
 use Rattle.status_response.specs.declared.fields.StatusFields.{StatusFields}
+pub use Rattle.c_values.specs.Values.{time, entryWith}
 use Rattle.powerlink.specs.Writing.{Coded, octets, unnamed, WritesEntry, typed, stated, served, requested}
 
 abbrev pub node : ℕ → NodeId
@@ -59,9 +58,6 @@ node i = record { 0 = i }
 
 abbrev pub mac : List ℕ → MacAddress
 mac bs = record { 0 = bs }
-
-abbrev pub time : ℕ → ℕ → NetTime
-time s ns = record { seconds = s; nanoseconds = ns }
 
 -- ---- sections
 
@@ -189,15 +185,6 @@ newASndWriting from to target source service payload =
     octets (frameBytes (n .«eth_header») (ASnd (n .frame)) payload))
 
 -- ---- StatusResponse
-
-abbrev pub entryWith : Bool → Bool → ErrorEntryMode → ℕ → ℕ → NetTime → ℕ → ErrorEntry
-entryWith status queue mode profile code stamp information =
-    record {
-      «entry_type» = record { «is_status_entry» = status; «send_to_queue» = queue; mode = mode; profile = profile };
-      «error_code» = code;
-      timestamp = stamp;
-      «additional_information» = information;
-    }
 
 -- the entry whose mode a number names
 abbrev pub EntryWrites : Bool → Bool → ℕ → ℕ → ℕ → NetTime → ℕ → ℕ → List ℕ → List ℕ → ℕ → ℕ → Type 0

@@ -1,8 +1,7 @@
 // The journal of booked entries (01, "Journal").
 ghost use Rattle.powerlink.specs.Given.{time};
 ghost use Rattle.powerlink.specs.Journal.{JournalRecords, JournalWhole};
-use error_entry::EntryType;
-use error_entry::ErrorEntry;
+use c_values::values::entry_given;
 use journal_records::JOURNAL_RECORD_LEN;
 use journal_records::JournalAnswer;
 use journal_records::WholeLenAnswer;
@@ -13,7 +12,6 @@ use types::causes::NOT_A_JOURNAL;
 use types::causes::RECORD_INVALID;
 use types::causes::TOO_SHORT;
 use types::causes::UNKNOWN_VERSION;
-use types::common::NetTime;
 use types::error_mode::ErrorEntryMode;
 use types::error_mode::ErrorEntryModeAnswer;
 
@@ -42,20 +40,16 @@ pub extern "C" fn powerlink_journal_record(
             RECORD_INVALID
         }
         ErrorEntryModeAnswer::Known(mode) => {
-            let entry = ErrorEntry {
-                entry_type: EntryType {
-                    is_status_entry: status_entry,
-                    send_to_queue,
-                    mode,
-                    profile,
-                },
-                error_code: code,
-                timestamp: NetTime {
-                    seconds,
-                    nanoseconds,
-                },
-                additional_information: information,
-            };
+            let entry = entry_given(
+                status_entry,
+                send_to_queue,
+                mode,
+                profile,
+                code,
+                seconds,
+                nanoseconds,
+                information,
+            );
             match write(NodeId(id), entry, target) {
                 JournalAnswer::Written(n) => {
                     *written = n;

@@ -4,8 +4,7 @@ ghost use Rattle.powerlink.specs.Reporting.{ReporterMakes, ReporterRaise
 use c_values::answers::refusal;
 use c_values::answers::unnamed;
 use c_values::answers::written_or;
-use error_entry::EntryType;
-use error_entry::ErrorEntry;
+use c_values::values::entry_given;
 use reporter::AnswerFields;
 use reporter::NewAnswer;
 use reporter::RaiseAnswer;
@@ -22,7 +21,6 @@ use types::basic::MacAddress;
 use types::causes::ENTRY_INVALID;
 use types::causes::ID_OUT_OF_RANGE;
 use types::causes::QUEUE_FULL;
-use types::common::NetTime;
 use types::error_mode::ErrorEntryMode;
 use types::error_mode::ErrorEntryModeAnswer;
 use types::hal::PowerlinkError;
@@ -60,20 +58,16 @@ pub extern "C" fn powerlink_reporter_raise(
     match ErrorEntryMode::from_u8(mode) {
         ErrorEntryModeAnswer::Unknown(_) => ENTRY_INVALID,
         ErrorEntryModeAnswer::Known(mode) => {
-            let entry = ErrorEntry {
-                entry_type: EntryType {
-                    is_status_entry: status_entry,
-                    send_to_queue,
-                    mode,
-                    profile,
-                },
-                error_code: code,
-                timestamp: NetTime {
-                    seconds,
-                    nanoseconds,
-                },
-                additional_information: information,
-            };
+            let entry = entry_given(
+                status_entry,
+                send_to_queue,
+                mode,
+                profile,
+                code,
+                seconds,
+                nanoseconds,
+                information,
+            );
             match raise(state, entry) {
                 RaiseAnswer::Raised => 0,
                 RaiseAnswer::EntryInvalid => ENTRY_INVALID,

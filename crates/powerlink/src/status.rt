@@ -7,9 +7,9 @@ use crate::frame_values::status_values;
 use c_values::answers::refusal;
 use c_values::answers::unnamed;
 use c_values::answers::written_or;
+use c_values::values::entry_given;
 use c_values::values::entry_values;
 use error_entry::ENTRY_LEN;
-use error_entry::EntryType;
 use error_entry::ErrorEntry;
 use error_entry::ErrorEntryAnswer;
 use status_response::bit_field::ErrorFieldAnswer;
@@ -24,7 +24,6 @@ use status_response::walk::EntryStep;
 use status_response::walk::step_from;
 use types::causes::ENTRY_INVALID;
 use types::causes::TOO_SHORT;
-use types::common::NetTime;
 use types::error_mode::ErrorEntryMode;
 use types::error_mode::ErrorEntryModeAnswer;
 use types::hal::PowerlinkError;
@@ -134,20 +133,16 @@ pub extern "C" fn powerlink_serialize_entry(
             ENTRY_INVALID
         }
         ErrorEntryModeAnswer::Known(mode) => {
-            let entry = ErrorEntry {
-                entry_type: EntryType {
-                    is_status_entry: status_entry,
-                    send_to_queue,
-                    mode,
-                    profile,
-                },
-                error_code: code,
-                timestamp: NetTime {
-                    seconds,
-                    nanoseconds,
-                },
-                additional_information: information,
-            };
+            let entry = entry_given(
+                status_entry,
+                send_to_queue,
+                mode,
+                profile,
+                code,
+                seconds,
+                nanoseconds,
+                information,
+            );
             let answer = entry.serialize(target);
             written_or(answer, written)
         }

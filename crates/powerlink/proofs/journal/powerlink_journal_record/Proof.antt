@@ -20,26 +20,29 @@ returns-3 : tie.Need-returns-3
 returns-3 c =
     let n = c .before in
     let w = n .before .before .before .before in
-    let m = w .before .before .before in
+    let g = w .before .before in
+    let m = g .before .before in
     let f = m .before .before in
     let q = n .n .given .1 in
-    records-told _ _ _ _ _ _ _ _ _ _ (sym (f .from-u8 .ensures .answer) ∙ m .mode .given .1) (w .write .ensures) (rw q) (rw q)
+    records-told _ _ _ _ _ _ _ _ _ _ _ (sym (f .from-u8 .ensures .answer) ∙ m .mode .given .1) (g .entry-given .ensures) (w .write .ensures) (rw q) (rw q)
 
 returns-4 : tie.Need-returns-4
 returns-4 c =
     let w = c .before .before .before .before in
-    let m = w .before .before .before in
+    let g = w .before .before in
+    let m = g .before .before in
     let f = m .before .before in
     let q = c .enum-told2 .given .1 in
-    records-told _ _ _ _ _ _ _ _ _ _ (sym (f .from-u8 .ensures .answer) ∙ m .mode .given .1) (w .write .ensures) (rw q) (rw q)
+    records-told _ _ _ _ _ _ _ _ _ _ _ (sym (f .from-u8 .ensures .answer) ∙ m .mode .given .1) (g .entry-given .ensures) (w .write .ensures) (rw q) (rw q)
 
 returns-5 : tie.Need-returns-5
 returns-5 c =
     let w = c .before .before .before .before in
-    let m = w .before .before .before in
+    let g = w .before .before in
+    let m = g .before .before in
     let f = m .before .before in
     let q = c .enum-told3 .given .1 in
-    records-told _ _ _ _ _ _ _ _ _ _ (sym (f .from-u8 .ensures .answer) ∙ m .mode .given .1) (w .write .ensures) (rw q) (rw q)
+    records-told _ _ _ _ _ _ _ _ _ _ _ (sym (f .from-u8 .ensures .answer) ∙ m .mode .given .1) (g .entry-given .ensures) (w .write .ensures) (rw q) (rw q)
 
 pub powerlink-journal-record-spec : {M : Type 1} → statement M
 powerlink-journal-record-spec =
@@ -48,6 +51,7 @@ powerlink-journal-record-spec =
     (search needs)
     (search needs)
     returns
+    (search needs)
     (search needs)
     (search needs)
     (search needs)

@@ -19,9 +19,10 @@ returns-2 c =
 returns-3 : tie.Need-returns-3
 returns-3 c =
     let s = c .before .before .before .before in
-    let m = s .before .before .before in
+    let g = s .before .before in
+    let m = g .before .before in
     let f = m .before .before in
-    entry-told _ _ _ _ _ _ _ _ (sym (f .from-u8 .ensures .answer) ∙ m .mode .given .1) (writes-to _ _ _ _ _ _ _ (s .serialize .ensures) (c .written-or .ensures))
+    entry-told _ _ _ _ _ _ _ _ _ (sym (f .from-u8 .ensures .answer) ∙ m .mode .given .1) (g .entry-given .ensures) (writes-to _ _ _ _ _ _ _ (s .serialize .ensures) (c .written-or .ensures))
 
 pub powerlink-serialize-entry-spec : {M : Type 1} → statement M
 powerlink-serialize-entry-spec =
@@ -30,6 +31,7 @@ powerlink-serialize-entry-spec =
     (search needs)
     (search needs)
     returns
+    (search needs)
     (search needs)
     (search needs)
     (search needs)
