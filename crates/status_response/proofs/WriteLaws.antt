@@ -23,7 +23,7 @@ use Rattle.status_response.specs.BitField.{fieldBytes}
 use Rattle.status_response.specs.Fields.{headBytes}
 use Rattle.status_response.specs.declared.bit_field.StaticErrorBitField.{StaticErrorBitField}
 use Rattle.status_response.specs.declared.fields.StatusFields.{StatusFields}
-use Rattle.status_response.specs.Parts.{entriesFit, entriesPut, entryAtPlace, headPut, statusAnswer, terminated}
+use Rattle.status_response.specs.Parts.{entriesAnswer, entriesFit, entriesPut, entryAtPlace, headPut, terminated}
 use Rattle.status_response.specs.Steps.{entriesBytes, statusBytes}
 use Rattle.status_response.proofs.Places.{entry-length, fit-true, fit-false, put-length}
 
@@ -74,16 +74,16 @@ module _ (es : List ErrorEntry) (t : List ℕ) where
 
   -- the answer and the target of a list that was written, if it fits
   pub list-writes : (r : WriteAnswer) (t₁ t₂ : List ℕ) → t₁ ≡ pick (entriesFit (length es) (length t)) (entriesPut es t (length es)) t
-      → r ≡ statusAnswer (length es) (length t₁) → t₂ ≡ terminated (length es) t₁ → Writes (statusBytes (take 14 t) es) r t t₂
+      → r ≡ entriesAnswer (length es) (length t₁) → t₂ ≡ terminated (length es) t₁ → Writes (statusBytes (take 14 t) es) r t t₂
   list-writes r t₁ t₂ e₁ er e₂ = by-fit (entriesFit (length es) (length t)) refl
     where
-      answers : entriesFit (length es) (length t) ≡ true → statusAnswer (length es) (length t) ≡ Written (34 + 20 * length es)
+      answers : entriesFit (length es) (length t) ≡ true → entriesAnswer (length es) (length t) ≡ Written (34 + 20 * length es)
       answers f = rw f
 
       terminates : entriesFit (length es) (length t₁) ≡ true → terminated (length es) t₁ ≡ sets t₁ (14 + 20 * length es) (replicate 20 0)
       terminates f = rw f
 
-      refuses-list : entriesFit (length es) (length t) ≡ false → statusAnswer (length es) (length t) ≡ Refused BufferTooShort
+      refuses-list : entriesFit (length es) (length t) ≡ false → entriesAnswer (length es) (length t) ≡ Refused BufferTooShort
       refuses-list f = rw f
 
       stays : entriesFit (length es) (length t) ≡ false → terminated (length es) t ≡ t
@@ -96,7 +96,7 @@ module _ (es : List ErrorEntry) (t : List ℕ) where
           let k : length t₁ ≡ length t = ap length p ∙ put-length es t (length es) in
           let n : length (statusBytes (take 14 t) es) ≡ 34 + 20 * length es =
           status-length (take 14 t) es ∙ omega (arith, length-take-le 14 t (omega arith)) in
-          let a : r ≡ Written (34 + 20 * length es) = er ∙ ap (statusAnswer (length es)) k ∙ answers f in
+          let a : r ≡ Written (34 + 20 * length es) = er ∙ ap (entriesAnswer (length es)) k ∙ answers f in
           let o : t₂ ≡ sets t 0 (statusBytes (take 14 t) es) =
           e₂ ∙ terminates (ap (entriesFit (length es)) k ∙ f) ∙ ap (λ (s : List ℕ). sets s (14 + 20 * length es) (replicate 20 0)) p ∙ list-is h in
           rw (a, o)
@@ -104,7 +104,7 @@ module _ (es : List ErrorEntry) (t : List ℕ) where
       by-fit false f =
           let h : length t < 34 + 20 * length es = fit-false (length es) (length t) f in
           let p : t₁ ≡ t = rw f at e₁ in
-          let a : r ≡ Refused BufferTooShort = er ∙ ap (λ (s : List ℕ). statusAnswer (length es) (length s)) p ∙ refuses-list f in
+          let a : r ≡ Refused BufferTooShort = er ∙ ap (λ (s : List ℕ). entriesAnswer (length es) (length s)) p ∙ refuses-list f in
           let o : t₂ ≡ t = e₂ ∙ ap (terminated (length es)) p ∙ stays f in
           rw (a, o)
           (refuses (statusBytes (take 14 t) es) t (omega (arith, status-length (take 14 t) es, length-take 14 t)))

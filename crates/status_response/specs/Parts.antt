@@ -28,8 +28,8 @@ unfoldable pub entriesFit : ℕ → ℕ → Bool
 entriesFit n len = leb (statusLength n) len
 
 -- the answer: the length of n entries and the terminator with what stands in front, or 01's cause 1
-abbrev pub statusAnswer : ℕ → ℕ → WriteAnswer
-statusAnswer n len = pick (entriesFit n len) (Written (statusLength n)) (Refused BufferTooShort)
+abbrev pub entriesAnswer : ℕ → ℕ → WriteAnswer
+entriesAnswer n len = pick (entriesFit n len) (Written (statusLength n)) (Refused BufferTooShort)
 
 -- the target once the first n entries are put, each at its place
 abbrev pub entriesPut : List ErrorEntry → List ℕ → ℕ → List ℕ

@@ -8,7 +8,7 @@ ghost use Rattle.section.specs.Write.{Writes};
 ghost use Rattle.error_entry.specs.Entry.{entryLength, entryBytes};
 ghost use Rattle.status_response.specs.Fields.{frontLength, headBytes};
 ghost use Rattle.status_response.specs.Given.{WritesWhole};
-ghost use Rattle.status_response.specs.Parts.{entriesFit, entriesPut, entryPlace, headPut, statusAnswer, terminated};
+ghost use Rattle.status_response.specs.Parts.{entriesAnswer, entriesFit, entriesPut, entryPlace, headPut, terminated};
 ghost use Rattle.status_response.specs.Steps.{statusBytes, statusLength};
 use crate::bit_field::StaticErrorBitField;
 use crate::fields::FRONT_LEN;
@@ -53,7 +53,7 @@ pub(crate) fn put_terminator(n: usize, target: &mut [u8])
 
 // Writes the terminator behind `n` entries, if it fits, and answers for them all.
 fn finish(n: usize, target: &mut [u8]) -> WriteAnswer
-    ensures { λ r. ⌜ (r ≡ statusAnswer n (length (now (target .entry)))) × (now (target .exit) ≡ terminated n (now (target .entry))) ⌝ }
+    ensures { λ r. ⌜ (r ≡ entriesAnswer n (length (now (target .entry)))) × (now (target .exit) ≡ terminated n (now (target .entry))) ⌝ }
 {
     let len = target.len();
     if fits(n, len) {

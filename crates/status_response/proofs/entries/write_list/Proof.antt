@@ -46,7 +46,7 @@ use Rattle.error_entry.specs.declared.ErrorEntry.{ErrorEntry}
 use Rattle.section.specs.declared.WriteAnswer.{WriteAnswer}
 use Rattle.types.specs.Codes.{pick as choose}
 use Rattle.section.specs.Write.{Writes}
-use Rattle.status_response.specs.Parts.{entriesFit, entriesPut, statusAnswer, terminated}
+use Rattle.status_response.specs.Parts.{entriesAnswer, entriesFit, entriesPut, terminated}
 use Rattle.status_response.specs.Steps.{statusBytes}
 use Rattle.error_entry.proofs.ErrorEntry as T
 use Rattle.section.proofs.WriteAnswer as S
@@ -195,8 +195,8 @@ module _ {M : Type 1} (𝓤 : URA M) (H : Heap 𝓤) (A : Atoms 𝓤) (W : Given
           -- [what `finish` asks; the entries' token; the entries; _10; …]
           calls-at ! fm (Finish 𝓤 H A mem run) known-finish (to-finish zs) (and-then ! (load ! (from ! (stop !)) (look ! 17 refl)) (and-then ! (load ! (from ! (stop !)) (look ! 3 refl)) (no-more !))) (λ w.
           use1 W (later (some (λ (r : WriteAnswer). ((‵ (flft κ₁ q₁) ⊛ ‵ ftrue) ⊛ ‵ (S.the-row .own r (w ∷ []))) ⊛ raw (ensured 𝓤 H A finish.ended (finish.clauses 𝓤 H A mem run) (κ₁, tt) (n, (x γ zs, tt)) tt r)))) (id⊢ 𝓤 _) $ await ! tt $ pick ! (λ r.
-          split ! $ move ! (1 ∷ []) $ use1 W (some (λ (ws : Unit {0} × (List ℕ × Unit {0})). ‵ (lasts finish.ended (κ₁, tt) (n, (x γ zs, tt)) ws) ⊛ raw (fact 𝓤 ((r ≡ statusAnswer n (length zs)) × (ws .1 .0 ≡ terminated n zs))))) (id⊢ 𝓤 _) $ pick ! (λ ws.
-          split ! $ move ! (1 ∷ []) $ heard ! ((r ≡ statusAnswer n (length zs)) × (ws .1 .0 ≡ terminated n zs)) (λ e. fsplit ! $ drop ! $ fsplit ! $ fsplit ! $ move ! (1 ∷ []) $ feqL ! (λ same′.
+          split ! $ move ! (1 ∷ []) $ use1 W (some (λ (ws : Unit {0} × (List ℕ × Unit {0})). ‵ (lasts finish.ended (κ₁, tt) (n, (x γ zs, tt)) ws) ⊛ raw (fact 𝓤 ((r ≡ entriesAnswer n (length zs)) × (ws .1 .0 ≡ terminated n zs))))) (id⊢ 𝓤 _) $ pick ! (λ ws.
+          split ! $ move ! (1 ∷ []) $ heard ! ((r ≡ entriesAnswer n (length zs)) × (ws .1 .0 ≡ terminated n zs)) (λ e. fsplit ! $ drop ! $ fsplit ! $ fsplit ! $ move ! (1 ∷ []) $ feqL ! (λ same′.
           -- [the last list; true; the token and the result; the entries' token; the entries; _10; …]
           move ! (2 ∷ []) $ split ! $ move ! (1 ∷ []) $
           peeks ! S.the-row (Is S.the-row) (shows 𝓤 H A S.the-row) r (w ∷ []) (λ is. land ! (from ! (stop !)) (init ! 26 refl (EL.lawful S.the-type S′.the-laws 𝓤 H A W tt .typed r _ is .0)) $
