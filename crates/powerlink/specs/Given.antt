@@ -13,7 +13,6 @@ use Rattle.types.specs.PollFlags.{priorityIn}
 use Rattle.types.specs.RequestedServices.{requestedOf}
 use Rattle.types.specs.Services.{serviceOf}
 use Rattle.types.specs.States.{stateOf}
-use Rattle.types.specs.declared.NodeId.{NodeId}
 use Rattle.types.specs.declared.basic.EthernetHeader.{EthernetHeader}
 use Rattle.types.specs.declared.basic.MacAddress.{MacAddress}
 use Rattle.types.specs.declared.common.NetTime.{NetTime}
@@ -50,11 +49,9 @@ use Rattle.status_response.specs.Given.{entriesGiven}
 use Rattle.status_response.specs.Fields.{headBytes}
 use Rattle.status_response.specs.Steps.{statusBytes, statusLength}
 use Rattle.status_response.specs.declared.fields.StatusFields.{StatusFields}
+pub use Rattle.types.specs.Nodes.{node}
 pub use Rattle.c_values.specs.Values.{time, entryWith}
 use Rattle.powerlink.specs.Writing.{Coded, octets, unnamed, WritesEntry, typed, stated, served, requested}
-
-abbrev pub node : ℕ → NodeId
-node i = record { 0 = i }
 
 abbrev pub mac : List ℕ → MacAddress
 mac bs = record { 0 = bs }

@@ -13,7 +13,7 @@ use lib.ListN.{length, take, getElem?}
 use lib.Dec.{leb, eqb}
 use Rattle.types.specs.Codes.{pick}
 use Rattle.types.specs.Nodes.{managingNode}
-use Rattle.types.specs.declared.NodeId.{NodeId}
+pub use Rattle.types.specs.Nodes.{node}
 use Rattle.section.specs.declared.WriteAnswer.{WriteAnswer}
 use Rattle.section.specs.declared.WriteAnswer.the-variants as write
 use Rattle.control.specs.declared.soa.SoAFlags.{SoAFlags}
@@ -242,9 +242,6 @@ NotFrom i (frame.Frame f) = sourceOf f ≡ i → ⊥
 abbrev pub Delivered : ℕ → Origin → List ℕ → Line → Type 0
 Delivered i (sent p) bs l = (l .at ≤ p) × (getElem? (l .frames) p ≡ some bs)
 Delivered i foreign bs l = NotFrom i (readFrame bs)
-
-abbrev pub node : ℕ → NodeId
-node i = record { 0 = i }
 
 -- EA as the box has it for a head; 0 before the head is registered
 abbrev pub eaOf : Option Account → Bool
