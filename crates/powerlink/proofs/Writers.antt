@@ -1,12 +1,14 @@
 -- What a caller of a writer is told, from what the writer promises.
 -- Assumes nothing.
-use Prim.Native.Nat.{ℕ, _≤_, _<_}
+use Prim.Native.Nat.{ℕ, _/_, _%_, _≤_, _<_}
 use mathlib.Core.Bool.{Bool, true, false}
 use mathlib.Core.Path.{_≡_, refl, ap, _∙_}
 use mathlib.Core.List.{List}
 use lib.ListN.{length}
-use lib.Dec.{leb}
+use lib.Dec.{eqb, leb}
+use native.Mathlib.Omega.{arith}
 use borrow.Author.Tests.{le-leb, lt-leb}
+use Rattle.types.specs.Causes.{causeNumber}
 use Rattle.types.specs.Codes.{pick, need}
 use Rattle.types.specs.declared.error_mode.ErrorEntryMode.{ErrorEntryMode}
 use Rattle.types.specs.declared.error_mode.ErrorEntryModeAnswer.{ErrorEntryModeAnswer}
@@ -16,9 +18,11 @@ use Rattle.types.specs.declared.hal.PowerlinkError.the-variants.{BufferTooShort
 use Rattle.section.specs.Write.{writeAnswer, writeCause, Writes}
 use Rattle.section.specs.declared.WriteAnswer.{WriteAnswer}
 use Rattle.section.specs.declared.WriteAnswer.the-variants.{Written, Refused}
-use Rattle.error_entry.specs.Entry.{entryBytes}
+use Rattle.error_entry.specs.Entry.{entryBytes, entryLength}
 use Rattle.error_entry.specs.declared.ErrorEntry.{ErrorEntry}
-use Rattle.c_values.specs.Answers.{lengthAfter, octetAfter, unnamedAnswer}
+use Rattle.status_response.specs.Given.{WritesWhole, givenFit}
+use Rattle.status_response.specs.Steps.{statusLength}
+use Rattle.c_values.specs.Answers.{lengthAfter, errorOctet, octetAfter, unnamedAnswer}
 use Rattle.powerlink.specs.Writing.{WritesTo, WritesEntry, Coded, octets, unnamed, WritesCoded}
 
 -- what `written_or` tells of an answer
@@ -70,8 +74,51 @@ short-either : (b : Bool) (o : ℕ) → (_≡_ {A = ℕ} 1 (writeCause (need b (
 short-either true o = (refl, refl)
 short-either false o = (refl, refl)
 
-pub refuses-short : (w : Coded) (t : List ℕ) (n o k : ℕ) → w ≡ unnamed k BufferTooShort → WritesCoded w 1 t t n n o o
+refuses-short : (w : Coded) (t : List ℕ) (n o k : ℕ) → w ≡ unnamed k BufferTooShort → WritesCoded w 1 t t n n o o
 refuses-short w t n o k ew = refuses-coded w t 1 n o o k BufferTooShort ew (short-either (leb k (length t)) o)
+
+-- entries that are given as the octets s
+module _ (w : Coded) (t : List ℕ) (n o : ℕ) (s : List ℕ) where
+  abbrev are-whole : Bool
+  are-whole = eqb (length s % entryLength) 0
+
+  abbrev needed : ℕ
+  needed = statusLength (length s / entryLength)
+
+  -- b says whether they are whole entries; the next is then written, or refused
+  abbrev Next : Bool → Coded → Type 0
+  Next b next = w ≡ need b (unnamed needed BufferTooShort) next
+
+  short : (b : Bool) (e : PowerlinkError) → Next b (unnamed needed e) → need b false (leb needed (length t)) ≡ false → WritesCoded w 1 t t n n o o
+  short true e q h = refuses-coded w t 1 n o o needed e q (rw h (refl, refl))
+  short false e q h = refuses-short w t n o needed q
+
+  -- a code that names nothing, where the payload does not fit
+  pub given-short : (e : PowerlinkError) → Next are-whole (unnamed needed e) → givenFit s (length t) ≡ false → WritesCoded w 1 t t n n o o
+  given-short = short are-whole
+
+  refused : (b : Bool) (e : PowerlinkError) (r o′ : ℕ) → Next b (unnamed needed e) → need b false (leb needed (length t)) ≡ true
+      → (r ≡ causeNumber e) × (o′ ≡ errorOctet e o) → WritesCoded w r t t n n o o′
+  refused true e r o′ q h told = refuses-coded w t r n o o′ needed e q (rw h told)
+  refused false e r o′ q h told = let z : _≡_ {A = ℕ} 0 1 = cc in absurd (omega arith)
+
+  -- and where it fits
+  pub given-refused : (e : PowerlinkError) (r o′ : ℕ) → Next are-whole (unnamed needed e) → givenFit s (length t) ≡ true
+      → (r ≡ causeNumber e) × (o′ ≡ errorOctet e o) → WritesCoded w r t t n n o o′
+  given-refused = refused are-whole
+
+  told : (b : Bool) (bs t′ : List ℕ) (a : WriteAnswer) (r n′ : ℕ) → Next b (octets bs) → WritesWhole b bs a t t′ → Told a r n n′
+      → WritesCoded w r t t′ n n′ o o
+  told true bs t′ a r n′ q v e = writes-coded w t t′ r n n′ o bs a q v e
+  told false bs t′ a r n′ q v e =
+      let er : r ≡ 1 = e .0 ∙ rw (v .0) in
+      let en : n′ ≡ n = e .1 ∙ rw (v .0) in
+      rw (er, en, v .2) (refuses-short w t n o needed q)
+
+  -- what the writer answers is told
+  pub given-told : (bs t′ : List ℕ) (a : WriteAnswer) (r n′ : ℕ) → Next are-whole (octets bs) → WritesWhole are-whole bs a t t′ → Told a r n n′
+      → WritesCoded w r t t′ n n′ o o
+  given-told = told are-whole
 
 -- an entry, by its mode
 module _ (e : ErrorEntryMode → ErrorEntry) (m : ErrorEntryModeAnswer) (t : List ℕ) (n : ℕ) where

@@ -5,7 +5,6 @@ ghost use Rattle.powerlink.specs.Reading.{StatusRead, FieldRead, EntryRe
 ghost use Rattle.powerlink.specs.Writing.{WritesTo, WritesCoded};
 use crate::frame_values::status_values;
 use c_values::answers::refusal;
-use c_values::answers::unnamed;
 use c_values::answers::written_or;
 use c_values::values::entry_given;
 use c_values::values::entry_values;
@@ -180,18 +179,13 @@ pub extern "C" fn powerlink_serialize_status(
 ) -> u8
     ensures { λ r. ⌜ WritesCoded (statusWriting en ec pr rs state (now (field .entry)) (now (entries .entry))) r (now (target .entry)) (now (target .exit)) (now (written .entry)) (now (written .exit)) (now (octet .entry)) (now (octet .exit)) ⌝ }
 {
-    if entries.len() % ENTRY_LEN != 0 {
-        return TOO_SHORT;
-    }
     match NmtState::from_u8(state) {
+        // Cause 1 comes first; where the code is a state's, the writer tests for it.
         NmtStateAnswer::Unknown(b) => {
-            let needed = given::payload_len(entries);
-            unnamed(
-                PowerlinkError::InvalidNmtState(b),
-                needed,
-                target.len(),
-                octet,
-            )
+            if !given::fits(entries, target.len()) {
+                return TOO_SHORT;
+            }
+            refusal(PowerlinkError::InvalidNmtState(b), octet)
         }
         NmtStateAnswer::Known(nmt_state) => {
             let fields = StatusFields {

@@ -1,26 +1,28 @@
 -- Entries that are given as their octets: reading and writing them, four at a time, puts the octets.
 -- Assumes nothing.
 use Prim.Native.Nat.{ℕ, zero, suc, _+_, _*_, _-_, _/_, _%_, _≤_, _<_}
+use mathlib.Core.Bool.{Bool, true, false}
 use mathlib.Core.Path.{_≡_, refl, sym, ap, _∙_}
 use mathlib.Core.List.{List}
 use native.Mathlib.Nat.{zero-add}
 use native.Mathlib.Omega.{arith}
 use lib.ListN.{length, getD, take, drop, replicate, length-append, length-drop}
-use lib.Dec.{eqb}
+use lib.Dec.{eqb, leb}
 use lib.Seq.{sets, length-sets, take-add, take-all, getD-drop, length-take-le}
-use borrow.Author.Tests.{le-leb, eq-eqb}
+use borrow.Author.Tests.{le-leb, eq-eqb, eqb-true, leb-true, leb-false}
 use borrow.Rule.Slice.PartMut.{midOf, putMid}
 use Rattle.octets.proofs.Sets.{sets-append}
 use Rattle.section.specs.Write.{Writes}
 use Rattle.section.specs.declared.WriteAnswer.the-variants.{Written, Refused}
 use Rattle.section.proofs.Sections.{refuses, writes}
+use Rattle.types.specs.Codes.{need}
 use Rattle.types.specs.declared.hal.PowerlinkError.the-variants.{BufferTooShort}
 use Rattle.error_entry.specs.Entry.{entryLength, entryOf, readEntry, orTerminator}
 use Rattle.error_entry.specs.declared.ErrorEntry.{ErrorEntry}
 use Rattle.error_entry.proofs.Places.{sets-rest}
 use Rattle.error_entry.proofs.ReadBack.{entries-read-back}
 use Rattle.status_response.specs.BitField.{fieldBytes}
-use Rattle.status_response.specs.Given.{WritesWhole, entriesOf, entriesGiven}
+use Rattle.status_response.specs.Given.{WritesWhole, entriesOf, entriesGiven, givenFit}
 use Rattle.status_response.specs.Fields.{frontLength, headBytes}
 use Rattle.status_response.specs.Parts.{batchOf, entriesPut}
 use Rattle.status_response.specs.Steps.{entriesBytes, statusBytes, statusLength}
@@ -106,7 +108,16 @@ all-put at s t t₀ h e = e ∙ ap (sets t₀ frontLength) (take-all at s h)
 
 -- ---- the whole
 
-module _ (f : StatusFields) (g : StaticErrorBitField) (s : List ℕ) (whole-entries : length s % entryLength ≡ 0) where
+both : (a b : Bool) → need a false b ≡ true → (a ≡ true) × (b ≡ true)
+both true b e = (refl, e)
+both false b e = let z : _≡_ {A = ℕ} 0 1 = cc in absurd (omega arith)
+
+pub given-fits : (s : List ℕ) (len : ℕ) → givenFit s len ≡ true → (length s % entryLength ≡ 0) × (statusLength (length s / entryLength) ≤ len)
+given-fits s len e =
+    let b = both (eqb (length s % entryLength) 0) (leb (statusLength (length s / entryLength)) len) e in
+    (eqb-true _ 0 (b .0), leb-true _ len (b .1))
+
+module _ (f : StatusFields) (g : StaticErrorBitField) (s t : List ℕ) where
   abbrev n : ℕ
   n = length s / entryLength
 
@@ -124,20 +135,29 @@ module _ (f : StatusFields) (g : StaticErrorBitField) (s : List ℕ) (whole-entr
       let h = head-length in
       omega arith
 
-  pub status-refused : (t : List ℕ) → length t < statusLength n → WritesWhole (eqb (length s % entryLength) 0) whole (Refused BufferTooShort) t t
-  status-refused t h = rw (eq-eqb _ 0 whole-entries) (refuses whole t (omega (arith, whole-length)))
+  -- no whole entries, or a target that is too short for them
+  refused : (b : Bool) → need b false (leb (statusLength n) (length t)) ≡ false → WritesWhole b whole (Refused BufferTooShort) t t
+  refused true e = refuses whole t (omega (arith, whole-length, leb-false (statusLength n) (length t) e))
+  refused false e = (refl, refl, refl)
 
-  module _ (t : List ℕ) (o : Octets s) (fits : statusLength n ≤ length t) where
+  pub status-refused : givenFit s (length t) ≡ false → WritesWhole (eqb (length s % entryLength) 0) whole (Refused BufferTooShort) t t
+  status-refused e = refused (eqb (length s % entryLength) 0) e
+
+  module _ (o : Octets s) (fit : givenFit s (length t) ≡ true) where
+    whole-entries : length s ≡ entryLength * n
+    whole-entries = omega (arith, given-fits s (length t) fit .0)
+
     three-copies : sets (sets (sets t 0 (headBytes f g)) frontLength s) (frontLength + entryLength * n) (replicate entryLength 0) ≡ sets t 0 whole
     unfolding statusBytes
     three-copies =
-        let l : length s ≡ entryLength * n = omega arith in
+        let l = whole-entries in
         rw (entries-octets n s (omega arith) o, take-all (entryLength * n) s (omega arith), ← l)
         (simp (sets-append, length-append, zero-add, head-length))
 
-    pub status-written : (h t₁ t₂ t₃ : List ℕ) → h ≡ headBytes f g → t₁ ≡ sets t 0 h → t₂ ≡ sets t₁ frontLength s
-        → t₃ ≡ sets t₂ (frontLength + entryLength * n) (replicate entryLength 0)
-        → WritesWhole (eqb (length s % entryLength) 0) whole (Written (statusLength n)) t t₃
-    status-written h t₁ t₂ t₃ eh e₁ e₂ e₃ =
+    pub status-written : (h t₁ t₂ t₃ : List ℕ) (k : ℕ) → h ≡ headBytes f g → t₁ ≡ sets t 0 h → t₂ ≡ sets t₁ frontLength s
+        → t₃ ≡ sets t₂ (frontLength + entryLength * n) (replicate entryLength 0) → k ≡ statusLength n
+        → WritesWhole (eqb (length s % entryLength) 0) whole (Written k) t t₃
+    status-written h t₁ t₂ t₃ k eh e₁ e₂ e₃ ek =
         let e : t₃ ≡ sets t 0 whole = e₃ ∙ rw (e₂, e₁, eh) three-copies in
-        rw (e, eq-eqb _ 0 whole-entries) (writes whole t (statusLength n) whole-length fits)
+        let b = given-fits s (length t) fit in
+        rw (e, ek, eq-eqb _ 0 (b .0)) (writes whole t (statusLength n) whole-length (b .1))

@@ -4,6 +4,8 @@ ghost use Prim.Native.Nat.{_≤_};
 ghost use lib.ListN.{length, take, replicate};
 ghost use lib.Dec.{leb};
 ghost use lib.Seq.{sets};
+ghost use mir.Syntax.{w64};
+ghost use mir.Val.{Fits};
 ghost use Rattle.section.specs.Write.{Writes};
 ghost use Rattle.error_entry.specs.Entry.{entryLength, entryBytes};
 ghost use Rattle.status_response.specs.Fields.{frontLength, headBytes};
@@ -20,9 +22,18 @@ use section::WriteAnswer;
 use types::hal::PowerlinkError;
 
 // The smallest payload: what stands in front, and the terminator.
-pub(crate) const EMPTY_LEN: usize = FRONT_LEN + ENTRY_LEN;
+const EMPTY_LEN: usize = FRONT_LEN + ENTRY_LEN;
 
-// Whether `n` entries and the terminator fit into `len` octets, behind what stands in front.
+// How many octets a payload of `n` entries has, where a usize holds that number.
+pub(crate) fn status_len(n: usize) -> usize
+    requires { ⌜ Fits w64 (statusLength n) ⌝ }
+    ensures { λ r. ⌜ r ≡ statusLength n ⌝ }
+{
+    EMPTY_LEN + ENTRY_LEN * n
+}
+
+// Whether `n` entries and the terminator fit into `len` octets, behind what stands in front. `n` may be any number, and a product
+// of it could wrap: so the length is divided. Behind the first test the compiler knows that there is room for the front.
 pub(crate) fn fits(n: usize, len: usize) -> bool
     ensures { λ r. ⌜ r ≡ entriesFit n len ⌝ }
 {
@@ -58,7 +69,7 @@ fn finish(n: usize, target: &mut [u8]) -> WriteAnswer
     let len = target.len();
     if fits(n, len) {
         put_terminator(n, target);
-        return WriteAnswer::Written(EMPTY_LEN + ENTRY_LEN * n);
+        return WriteAnswer::Written(status_len(n));
     }
     WriteAnswer::Refused(PowerlinkError::BufferTooShort)
 }

@@ -1,20 +1,19 @@
 // Writing a StatusResponse whose entries are given as their octets, for callers that have no records. Four at a time are read
 // and lent to the writer of a list, so that no heap is needed.
 ghost use mathlib.Core.Path.{_≡_};
-ghost use Prim.Native.Nat.{_+_, _/_, _%_, _≤_};
+ghost use Prim.Native.Nat.{_+_, _%_, _≤_};
 ghost use lib.Dec.{eqb};
 ghost use lib.ListN.{length};
 ghost use lib.Seq.{sets};
 ghost use Rattle.error_entry.specs.Entry.{entryLength};
-ghost use Rattle.status_response.specs.Given.{WritesWhole, entriesGiven};
+ghost use Rattle.status_response.specs.Given.{WritesWhole, entriesGiven, givenFit};
 ghost use Rattle.status_response.specs.Fields.{frontLength, headBytes};
 ghost use Rattle.status_response.specs.Parts.{batchOf};
 ghost use Rattle.status_response.specs.Steps.{statusBytes, statusLength};
 use crate::bit_field::StaticErrorBitField;
-use crate::entries::EMPTY_LEN;
-use crate::entries::fits;
 use crate::entries::put_batch;
 use crate::entries::put_terminator;
+use crate::entries::status_len;
 use crate::fields::StatusFields;
 use error_entry::ENTRY_LEN;
 use error_entry::ErrorEntry;
@@ -26,11 +25,14 @@ use types::hal::PowerlinkError;
 // The octets of four entries.
 const GROUP_LEN: usize = 4 * ENTRY_LEN;
 
-// How many octets the payload has.
-pub fn payload_len(entries: &[u8]) -> usize
-    ensures { λ r. ⌜ r ≡ statusLength (length (now (entries .entry)) / entryLength) ⌝ }
+// Whether `entries` are whole entries, and their payload fits into `len` octets: what `serialize` tests.
+pub fn fits(entries: &[u8], len: usize) -> bool
+    ensures { λ r. ⌜ r ≡ givenFit (now (entries .entry)) len ⌝ }
 {
-    EMPTY_LEN + ENTRY_LEN * (entries.len() / ENTRY_LEN)
+    if entries.len() % ENTRY_LEN != 0 {
+        return false;
+    }
+    crate::entries::fits(entries.len() / ENTRY_LEN, len)
 }
 
 // Four entries, terminators in the place of those that are not there.
@@ -87,15 +89,12 @@ pub fn serialize(
 ) -> WriteAnswer
     ensures { λ r. ⌜ WritesWhole (eqb (length (now (entries .entry)) % entryLength) 0) (statusBytes (headBytes fields field) (entriesGiven (now (entries .entry)))) r (now (target .entry)) (now (target .exit)) ⌝ }
 {
-    if entries.len() % ENTRY_LEN != 0 {
+    if !fits(entries, target.len()) {
         return WriteAnswer::Refused(PowerlinkError::BufferTooShort);
     }
     let n = entries.len() / ENTRY_LEN;
-    if fits(n, target.len()) {
-        put(target, 0, &fields.to_bytes(field));
-        put_groups(entries, target);
-        put_terminator(n, target);
-        return WriteAnswer::Written(EMPTY_LEN + ENTRY_LEN * n);
-    }
-    WriteAnswer::Refused(PowerlinkError::BufferTooShort)
+    put(target, 0, &fields.to_bytes(field));
+    put_groups(entries, target);
+    put_terminator(n, target);
+    WriteAnswer::Written(status_len(n))
 }
