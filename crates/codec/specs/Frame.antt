@@ -1,6 +1,6 @@
 -- Reading a frame, from its Ethernet header on (EPSG DS 301, 4.6.1; IEEE 802.3, 3.1.1).
 -- Assumes nothing.
-use Prim.Native.Nat.{ℕ, _%_}
+use Prim.Native.Nat.{ℕ}
 use mathlib.Core.Path.{_≡_}
 use mathlib.Core.List.{List, []}
 use lib.ListN.{length, getD, take, drop}
@@ -19,6 +19,7 @@ use Rattle.types.specs.declared.message_type.MessageTypeAnswer.the-variants.{Kn
 use Rattle.control.specs.ASnd.{asndPayloadAt}
 use Rattle.poll.specs.Poll.{pollPayloadAt}
 use Rattle.codec.specs.ASnd.{readASnd, asndPayloadLength}
+use Rattle.codec.specs.Headers.{messageNumber}
 use Rattle.codec.specs.PReq.{readPReq}
 use Rattle.codec.specs.PRes.{readPRes}
 use Rattle.codec.specs.SoA.{readSoA}
@@ -38,9 +39,9 @@ abbrev pub kindBy : MessageTypeAnswer → KindAnswer
 kindBy (Unknown b) = kind.Refused (InvalidMessageType b)
 kindBy (Known k) = kind.Kind k
 
--- the message type is the low seven bits of octet 0; it is tested before any length that a kind needs
+-- the message type is tested before any length that a kind needs
 unfoldable pub kindIn : List ℕ → KindAnswer
-kindIn s = kindBy (messageOf (getD s 0 0 % 0x80))
+kindIn s = kindBy (messageOf (messageNumber s))
 
 -- the Ethernet header, then the EtherType, then a section that is not empty, then its message type
 unfoldable pub kindOf : List ℕ → KindAnswer

@@ -42,9 +42,13 @@ plByMessage s (Unknown b) = Refused (InvalidMessageType b)
 plByMessage s (Known message) =
     Read (record { «message_type» = message; destination = record { 0 = getD s 1 0 }; source = record { 0 = getD s 2 0 } })
 
--- 3 octets are needed, then a message type in the low seven bits of octet 0; for a whole frame `readSection` tests the type first
+-- the message type is the low seven bits of octet 0
+abbrev pub messageNumber : List ℕ → ℕ
+messageNumber s = getD s 0 0 % 0x80
+
+-- 3 octets are needed, then a message type; of a whole frame the type is tested first
 unfoldable pub deserializePlHeader : List ℕ → PlHeaderAnswer
-deserializePlHeader s = need (leb 3 (length s)) (Refused BufferTooShort) (plByMessage s (messageOf (getD s 0 0 % 0x80)))
+deserializePlHeader s = need (leb 3 (length s)) (Refused BufferTooShort) (plByMessage s (messageOf (messageNumber s)))
 
 -- ---- what the two readings promise, with 01's number and values
 
@@ -59,4 +63,4 @@ plRow code destination source =
 
 pub record ReadsPlHeader (s : List ℕ) (r : PlHeaderAnswer) : Type 0 where
   pub answer : r ≡ deserializePlHeader s
-  pub cause : plHeaderCause r ≡ need (leb 3 (length s)) (row tooShort []) (plRow (getD s 0 0 % 0x80) (getD s 1 0) (getD s 2 0))
+  pub cause : plHeaderCause r ≡ need (leb 3 (length s)) (row tooShort []) (plRow (messageNumber s) (getD s 1 0) (getD s 2 0))

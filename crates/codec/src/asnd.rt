@@ -5,6 +5,7 @@ ghost use Rattle.codec.specs.ASnd.{asndOf, readASnd, asndPayloadLength};
 use crate::FrameAnswer;
 use control::asnd::ASndFrame;
 use control::asnd::FIELDS_LEN;
+use control::asnd::SERVICE_AT;
 use frame::PowerlinkFrame;
 use octets::slices::byte_at;
 use octets::slices::tail;
@@ -28,7 +29,7 @@ pub fn judge(s: &[u8]) -> ASndVerdict
     if s.len() < FIELDS_LEN {
         return ASndVerdict::TooShort;
     }
-    match ServiceId::from_u8(s[3]) {
+    match ServiceId::from_u8(s[SERVICE_AT]) {
         ServiceIdAnswer::Unknown(b) => ASndVerdict::NoService(b),
         ServiceIdAnswer::Known(service) => ASndVerdict::Read(service),
     }

@@ -15,6 +15,9 @@ use types::hal::PowerlinkError;
 use types::message_type::MessageType;
 use types::message_type::MessageTypeAnswer;
 
+// The message type is the low seven bits of octet 0, which is the octet modulo this.
+pub(crate) const MESSAGE_TYPES: u8 = 0x80;
+
 pub enum EthHeaderAnswer {
     Read,
     Refused(PowerlinkError),
@@ -116,7 +119,7 @@ pub fn deserialize_pl_header(s: &[u8]) -> PlHeaderAnswer
     if s.len() < 3 {
         return PlHeaderAnswer::Refused(PowerlinkError::BufferTooShort);
     }
-    match MessageType::from_u8(s[0] % 0x80) {
+    match MessageType::from_u8(s[0] % MESSAGE_TYPES) {
         MessageTypeAnswer::Unknown(b) => PlHeaderAnswer::Refused(PowerlinkError::InvalidMessageType(
             b,
         )),

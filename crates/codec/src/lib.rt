@@ -12,6 +12,7 @@ pub mod soa;
 pub mod soc;
 
 use frame::PowerlinkFrame;
+use headers::MESSAGE_TYPES;
 use headers::eth_header_at;
 use headers::whole_header;
 use octets::big_endian::get_u16_be;
@@ -120,7 +121,7 @@ pub fn kind_of(buffer: &[u8]) -> KindAnswer
 fn kind_in(s: &[u8]) -> KindAnswer
     ensures { λ r. ⌜ r ≡ kindIn (now (s .entry)) ⌝ }
 {
-    let code = byte_at(s, 0) % 0x80;
+    let code = byte_at(s, 0) % MESSAGE_TYPES;
     if code < 4 {
         match code {
             1 => KindAnswer::Kind(MessageType::SoC),

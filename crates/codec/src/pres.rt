@@ -12,6 +12,7 @@ use poll::RD;
 use poll::pres::EN;
 use poll::pres::PResFlags;
 use poll::pres::PResFrame;
+use poll::pres::STATE_AT;
 use types::C_ADR_BROADCAST_NODE_ID;
 use types::NodeId;
 use types::hal::PowerlinkError;
@@ -38,7 +39,7 @@ pub fn judge(s: &[u8]) -> PResVerdict
     if s[1] != C_ADR_BROADCAST_NODE_ID {
         return PResVerdict::NotToAll;
     }
-    match NmtState::from_u8(s[3]) {
+    match NmtState::from_u8(s[STATE_AT]) {
         NmtStateAnswer::Unknown(b) => PResVerdict::NoState(b),
         NmtStateAnswer::Known(nmt_state) => {
             let size = get_u16_le(s, 8);

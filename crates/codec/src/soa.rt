@@ -6,6 +6,8 @@ use crate::FrameAnswer;
 use control::soa::EA;
 use control::soa::ER;
 use control::soa::FIELDS_LEN;
+use control::soa::SERVICE_AT;
+use control::soa::STATE_AT;
 use control::soa::SoAFlags;
 use control::soa::SoAFrame;
 use frame::PowerlinkFrame;
@@ -32,9 +34,9 @@ pub fn judge(s: &[u8]) -> SoAVerdict
     if s.len() < FIELDS_LEN {
         return SoAVerdict::TooShort;
     }
-    match NmtState::from_u8(s[3]) {
+    match NmtState::from_u8(s[STATE_AT]) {
         NmtStateAnswer::Unknown(b) => SoAVerdict::NoState(b),
-        NmtStateAnswer::Known(state) => match RequestedServiceId::from_u8(s[6]) {
+        NmtStateAnswer::Known(state) => match RequestedServiceId::from_u8(s[SERVICE_AT]) {
             RequestedServiceIdAnswer::Unknown(b) => SoAVerdict::NoService(b),
             RequestedServiceIdAnswer::Known(service) => SoAVerdict::Read(state, service),
         },

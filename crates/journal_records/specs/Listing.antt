@@ -10,7 +10,7 @@ use Rattle.types.specs.Codes.{pick, need}
 use Rattle.types.specs.Modes.{modeCode}
 use Rattle.error_entry.specs.Entry.{entryOf}
 use Rattle.error_entry.specs.declared.ErrorEntry.{ErrorEntry}
-use Rattle.journal_records.specs.Record.{validRecord}
+use Rattle.journal_records.specs.Record.{journalRecordLength, validRecord}
 use Rattle.journal_records.specs.Text.{hex, decimal, joined}
 
 -- a column of the listing: its name, and its text for the octets of a record
@@ -34,7 +34,7 @@ recordedEntry s = entryOf (drop 1 s)
 unfoldable pub version1 : Layout
 version1 =
     record {
-      size = 21;
+      size = journalRecordLength;
       columns =
           record { name = 110 ∷ 111 ∷ 100 ∷ 101 ∷ []; text = λ s. decimal (nodeOf s) }
           ∷ record { name = 99 ∷ 111 ∷ 100 ∷ 101 ∷ []; text = λ s. hex 4 (recordedEntry s .«error_code») }

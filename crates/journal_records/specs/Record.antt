@@ -1,6 +1,6 @@
 -- A record of the journal (01, "Journal"): the node ID, then the 20 octets of the entry, its profile masked to 12 bits.
 -- Assumes nothing.
-use Prim.Native.Nat.{ℕ}
+use Prim.Native.Nat.{ℕ, _+_}
 use mathlib.Core.Bool.{Bool, true, false, _&&_}
 use mathlib.Core.Path.{_≡_}
 use mathlib.Core.List.{List, [], _∷_, _++_}
@@ -12,10 +12,14 @@ use Rattle.types.specs.Codes.{pick, need}
 use Rattle.types.specs.Modes.{unlessTerminator}
 use Rattle.types.specs.Nodes.{isCnNodeId}
 use Rattle.types.specs.declared.NodeId.{NodeId}
-use Rattle.error_entry.specs.Entry.{entryBytes}
+use Rattle.error_entry.specs.Entry.{entryLength, entryBytes}
 use Rattle.error_entry.specs.declared.ErrorEntry.{ErrorEntry}
 use Rattle.journal_records.specs.declared.JournalAnswer.{JournalAnswer}
 use Rattle.journal_records.specs.declared.JournalAnswer.the-variants.{Written, BufferTooShort, RecordInvalid}
+
+-- the octets of a record
+abbrev pub journalRecordLength : ℕ
+journalRecordLength = 1 + entryLength
 
 unfoldable pub recordBytes : ℕ → ErrorEntry → List ℕ
 recordBytes node e = node ∷ entryBytes e
@@ -26,7 +30,7 @@ validRecord node e = isCnNodeId node && unlessTerminator (e .«entry_type» .mod
 
 -- 1, then 19
 abbrev pub journalAnswer : ℕ → ErrorEntry → ℕ → JournalAnswer
-journalAnswer node e room = need (leb 21 room) BufferTooShort (need (validRecord node e) RecordInvalid (Written 21))
+journalAnswer node e room = need (leb journalRecordLength room) BufferTooShort (need (validRecord node e) RecordInvalid (Written journalRecordLength))
 
 -- 01's number and values for each case: 0 with how many octets were written, or the cause
 abbrev pub journalCause : JournalAnswer → Cause
@@ -43,5 +47,5 @@ journalHolds RecordInvalid bs target = target
 -- r is what writing a record to `target` answers, with 01's number, and `after` what the target then holds
 pub record WritesRecord (node : NodeId) (e : ErrorEntry) (r : JournalAnswer) (target after : List ℕ) : Type 0 where
   pub answer : r ≡ journalAnswer (node .0) e (length target)
-  pub cause : journalCause r ≡ need (leb 21 (length target)) (row 1 []) (pick (validRecord (node .0) e) (row 0 (21 ∷ [])) (row 19 []))
+  pub cause : journalCause r ≡ need (leb journalRecordLength (length target)) (row 1 []) (pick (validRecord (node .0) e) (row 0 (21 ∷ [])) (row 19 []))
   pub holds : after ≡ journalHolds r (recordBytes (node .0) e) target

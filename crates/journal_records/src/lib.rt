@@ -6,6 +6,7 @@ ghost use Rattle.journal_records.specs.Whole.{TellsWhole};
 pub mod listing;
 mod text;
 
+use error_entry::ENTRY_LEN;
 use error_entry::ErrorEntry;
 use types::NodeId;
 
@@ -16,7 +17,7 @@ pub(crate) const VERSION: u16 = 1;
 pub const JOURNAL_START_LEN: usize = 5;
 
 // The octets of a record: the node ID, and the entry's 20.
-pub const JOURNAL_RECORD_LEN: usize = 21;
+pub const JOURNAL_RECORD_LEN: usize = 1 + ENTRY_LEN;
 
 pub enum JournalAnswer {
     Written(usize),

@@ -13,7 +13,7 @@ use Rattle.types.specs.declared.error_mode.ErrorEntryMode.{ErrorEntryMode}
 use Rattle.types.specs.declared.error_mode.ErrorEntryModeAnswer.{ErrorEntryModeAnswer}
 use Rattle.types.specs.declared.error_mode.ErrorEntryModeAnswer.the-variants as mode
 use Rattle.error_entry.specs.declared.ErrorEntry.{ErrorEntry}
-use Rattle.journal_records.specs.Record.{recordBytes, journalAnswer, journalCause, journalHolds}
+use Rattle.journal_records.specs.Record.{journalRecordLength, recordBytes, journalAnswer, journalCause, journalHolds}
 use Rattle.journal_records.specs.declared.JournalAnswer.{JournalAnswer}
 use Rattle.journal_records.specs.declared.JournalAnswer.the-variants.{Written, BufferTooShort, RecordInvalid}
 use Rattle.journal_records.specs.Whole.{wholeLen, wholeLenCause}
@@ -23,7 +23,7 @@ use Rattle.powerlink.specs.Given.{entryWith}
 
 -- 1, then 19: a mode that is none is refused as mode 0 is
 abbrev pub recordBy : ℕ → (ErrorEntryMode → ErrorEntry) → ErrorEntryModeAnswer → ℕ → JournalAnswer
-recordBy node e (mode.Unknown b) room = need (leb 21 room) BufferTooShort RecordInvalid
+recordBy node e (mode.Unknown b) room = need (leb journalRecordLength room) BufferTooShort RecordInvalid
 recordBy node e (mode.Known m) room = journalAnswer node (e m) room
 
 abbrev pub targetBy : ℕ → (ErrorEntryMode → ErrorEntry) → ErrorEntryModeAnswer → List ℕ → List ℕ
