@@ -20,7 +20,7 @@ use Rattle.error_entry.specs.Values.{entryTold}
 use Rattle.error_entry.specs.declared.ErrorEntry.{ErrorEntry}
 use Rattle.reporter.specs.CausesTell.{raiseTold, writeTold, readTold}
 use Rattle.collector.specs.CausesTell as box
-use Rattle.powerlink.specs.Given.{entryWith}
+use Rattle.c_values.specs.Values.{entryWith}
 use Rattle.signaling.specs.Calls.{Origin, raised, answered, headRead, registered, boxRead, requested, taken, hosted, Log}
 
 -- the parameters of a Raise

@@ -44,6 +44,7 @@ pub record Requests (i : NodeId) (f : RequestFields) (r : RequestAnswer) (state 
   pub cause : requestCause r ≡ requestCause (requestAnswer (i .0) f target (accountOf state (i .0)))
   -- an address of six octets
   pub source : length (f .«source_mac» .0) ≡ 6
+  -- "a 60-byte SoA frame"
   pub size : (ea : Bool) → length (requestFrame (i .0) f ea) ≡ 60
   pub holds : written ≡ afterRequest (i .0) f target (accountOf state (i .0))
 
