@@ -1,36 +1,57 @@
--- What the counts of the streams tell.
+-- What the streams tell of themselves.
 -- Assumes nothing.
-use Prim.Native.Nat.{ℕ, _+_, _≤_}
+use Prim.Native.Nat.{ℕ, _≤_}
+use lib.IntN.{ℤ, pos, negsuc}
 use mathlib.Core.Bool.{Bool, true, false, _&&_}
+use mathlib.Core.Logic.{inl, inr}
 use mathlib.Core.Path.{_≡_, refl, sym, ap, _∙_}
-use mathlib.Core.List.{List, _++_}
-use native.Mathlib.Nat.{add-zero, add-assoc}
+use native.Mathlib.Nat.{min-le-right}
 use native.Mathlib.Omega.{arith}
 use lib.Dec.{leb}
-use lib.ListN.{length, length-append}
-use borrow.Author.Tests.{leb-true}
-use Rattle.journal.specs.Streams.{saidMore, countMost, hasRoom, Unless}
+use lib.Signed.{ltZ}
+use borrow.Author.Tests.{leb-true, ltb-true}
+use Rattle.io.specs.Counts.{clamped}
+use Rattle.journal.specs.Streams.{failing, saidMore, gotMore, afterRead, afterWrite, countMost, hasRoom, OrFails, Reads}
+use Rattle.journal.specs.declared.streams.Reading.{Reading}
 use Rattle.journal.specs.declared.streams.Streams.{Streams}
 
 pub not-both : {A : Type 0} {b : Bool} → b ≡ true → b ≡ false → A
 not-both t f = let z : _≡_ {A = ℕ} 0 1 = cc in let y : ⊥ = omega arith in absurd y
 
--- of streams that have failed nothing is said
-pub failed-unless : {r : Streams} (s : Streams) → r .failed ≡ true → Unless r s
-failed-unless s t f = not-both t f
+-- ---- whether something has failed
 
--- octets that are counted behind others
-pub count-on : (n : ℕ) (t u : List ℕ) → n + length t + length u ≡ n + length (t ++ u)
-count-on n t u = add-assoc n (length t) (length u) ∙ ap (λ (k : ℕ). n + k) (sym (length-append t u))
+pub unless-failed : (before : Streams) {r s : Streams} → OrFails before r s → r .failed ≡ false → r ≡ s
+unless-failed before (inl e) f = not-both (ap (λ (x : Streams). x .failed) e) f
+unless-failed before (inr e) f = e
 
-abbrev withSaid : Streams → ℕ → Streams
-withSaid s n = record { got = s .got; said = n; failed = s .failed }
+-- what a write or a read may come to, whatever C answered
+pub wrote : {r : Streams} (s : Streams) (all : Bool) (n : ℕ) → r ≡ afterWrite s all n → OrFails s r (saidMore s n)
+wrote s true n e = inr e
+wrote s false n e = inl e
 
-pub said-none : (s : Streams) → s ≡ saidMore s 0
-said-none s = sym (ap (withSaid s) (add-zero (s .said)))
+pub has-read : {r : Reading} (s : Streams) (z : ℤ) (most : ℕ) → r ≡ afterRead s z most → Reads s (r .streams) (r .len) most
+has-read s (pos k) most e =
+    let n = ap (λ (x : Reading). x .len) e in
+    record { within = omega (arith, min-le-right k most); counted = inr (ap (λ (x : Reading). x .streams) e ∙ ap (gotMore s) (sym n)) }
+has-read s (negsuc k) most e = let n = ap (λ (x : Reading). x .len) e in record { within = omega arith; counted = inl (ap (λ (x : Reading). x .streams) e) }
 
-pub said-on : (s : Streams) (t u : List ℕ) → saidMore (saidMore s (length t)) (length u) ≡ saidMore s (length (t ++ u))
-said-on s t u = ap (withSaid s) (count-on (s .said) t u)
+-- ---- what C answered
+
+pub all-written : (s : Streams) (all : Bool) (n : ℕ) → all ≡ true → saidMore s n ≡ afterWrite s all n
+all-written s true n e = refl
+all-written s false n e = not-both e refl
+
+pub not-written : (s : Streams) (all : Bool) (n : ℕ) → all ≡ false → failing s ≡ afterWrite s all n
+not-written s true n e = not-both refl e
+not-written s false n e = refl
+
+pub not-read : (s : Streams) (z : ℤ) (most : ℕ) → ltZ z (pos 0) ≡ true → record { streams = failing s; len = 0 } ≡ afterRead s z most
+not-read s (pos k) most e = let z : ⊥ = omega (arith, ltb-true k 0 e) in absurd z
+not-read s (negsuc k) most e = refl
+
+pub some-read : (s : Streams) (z : ℤ) (most : ℕ) {n : ℕ} → ltZ z (pos 0) ≡ false → n ≡ clamped z most → record { streams = gotMore s n; len = n } ≡ afterRead s z most
+some-read s (pos k) most t e = ap (λ (n : ℕ). record { streams = gotMore s n; len = n }) e
+some-read s (negsuc k) most t e = not-both refl t
 
 -- ---- whether there is room
 

@@ -3,14 +3,13 @@
 // says if one of them fails.
 mod streams;
 
-ghost use Prim.Native.Nat.{_-_, _≤_};
-ghost use mathlib.Core.Bool.{true};
+ghost use Prim.Native.Nat.{_-_, _≤_, _<_};
+ghost use mathlib.Core.Bool.{true, false};
 ghost use mathlib.Core.Path.{_≡_};
 ghost use lib.ListN.{length, take, drop};
 ghost use lib.Seq.{paste};
-ghost use Rattle.journal.specs.Rest.{restAfter, Listed, Left, Waits, Buffer};
+ghost use Rattle.journal.specs.Rest.{restAfter, bufferLen, recordLen, Buffer, Stands, Listed, Left, Waits, InAll};
 ghost use Rattle.journal.specs.Streams.{countMost, hasRoom};
-ghost use Rattle.journal.specs.Turns.{InAll};
 ghost use Rattle.journal_records.specs.Parts.{crowded};
 use journal_records::listing::ListAnswer;
 use journal_records::listing::Phase;
@@ -65,20 +64,21 @@ fn rest_after(answer: ListAnswer, phase: Phase, at: usize) -> Rest
 }
 
 // Lists a part, and writes `out` as often as it fills.
-fn list(streams: Streams, phase: Phase, bytes: &[u8], last: bool, out: &mut [u8]) -> Outcome
-    requires { ⌜ (streams .said ≤ countMost) × ((length (now bytes) ≤ 65536) × Buffer (now out)) ⌝ }
-    ensures { λ r. ⌜ Listed phase (now (bytes .entry)) last streams (r .streams) (r .rest) ⌝ }
+fn list(streams: Streams, phase: Phase, bytes: &[u8], out: &mut [u8]) -> Outcome
+    requires { ⌜ Stands streams phase (now bytes) ⌝ }
+    requires { ⌜ (streams .said ≤ countMost) × ((length (now bytes) ≤ bufferLen) × Buffer (now out)) ⌝ }
+    ensures { λ r. ⌜ Listed (now (bytes .entry)) streams (r .streams) (r .rest) ⌝ }
 {
     let mut streams = streams;
     let mut to_come = phase;
     let mut at = 0;
     loop {
         let left = tail(bytes, at);
-        let part = list_part(to_come, left, last, out);
+        let part = list_part(to_come, left, streams.has_ended(), out);
         let answer = part.answer;
         let next = part.phase;
         at += part.consumed;
-        streams = streams.say(to_come, left, last, front(out, part.written));
+        streams = streams.say(front(out, part.written));
         if streams.has_failed() {
             return Outcome {
                 streams,
@@ -109,18 +109,12 @@ fn keep(text: &mut [u8], from: usize, to: usize) -> usize
 }
 
 // Lists the first `n` octets, and moves what is left of them to the front.
-fn list_held(
-    streams: Streams,
-    phase: Phase,
-    text: &mut [u8],
-    n: usize,
-    last: bool,
-    out: &mut [u8],
-) -> Outcome
+fn list_held(streams: Streams, phase: Phase, text: &mut [u8], n: usize, out: &mut [u8]) -> Outcome
+    requires { ⌜ Stands streams phase (take n (now text)) ⌝ }
     requires { ⌜ (streams .said ≤ countMost) × ((n ≤ length (now text)) × (Buffer (now text) × Buffer (now out))) ⌝ }
-    ensures { λ r. ⌜ Left phase (take n (now (text .entry))) last streams (r .streams) (r .rest) (now (text .exit)) ⌝ }
+    ensures { λ r. ⌜ Left streams (r .streams) (r .rest) (now (text .exit)) ⌝ }
 {
-    let outcome = list(streams, phase, front(text, n), last, out);
+    let outcome = list(streams, phase, front(text, n), out);
     let streams = outcome.streams;
     let rest = outcome.rest;
     match rest {
@@ -142,10 +136,11 @@ fn list_held(
     }
 }
 
-// Reads behind the octets that are held, and lists. Where nothing is read the input is at its end.
+// Reads behind the octets that are held, and lists.
 fn turn(streams: Streams, phase: Phase, text: &mut [u8], held: usize, out: &mut [u8]) -> Outcome
-    requires { ⌜ (hasRoom streams ≡ true) × ((held ≤ 20) × (Buffer (now text) × Buffer (now out))) ⌝ }
-    ensures { λ r. ⌜ Waits phase (take held (now (text .entry))) streams (r .streams) (r .rest) (now (text .exit)) ⌝ }
+    requires { ⌜ Stands streams phase (take held (now text)) × (streams .ended ≡ false) ⌝ }
+    requires { ⌜ (hasRoom streams ≡ true) × ((held < recordLen) × (Buffer (now text) × Buffer (now out))) ⌝ }
+    ensures { λ r. ⌜ Waits streams (r .streams) (r .rest) (now (text .exit)) ⌝ }
 {
     let reading = streams.read(&mut text[held..]);
     let after = reading.streams;
@@ -155,8 +150,7 @@ fn turn(streams: Streams, phase: Phase, text: &mut [u8], held: usize, out: &mut 
             rest: Rest::Failed,
         };
     }
-    let n = held + reading.len;
-    list_held(after, phase, text, n, n == held, out)
+    list_held(after, phase, text, held + reading.len, out)
 }
 
 // How the turns end.

@@ -1,14 +1,13 @@
 // The program's streams, and what became of them: how many octets were read from standard input and said on standard
-// output, and whether that failed. The fields are this module's own, so that no other code can count what was not read or not
-// said, or call a failure what was none. No contract tells what C has read and written: that `read` and `say` count it
-// rightly is tested (tests/journal/run.sh).
+// output, whether the input is at its end, and whether a read or a write has failed. The fields are this module's own, so that no
+// other code can count what was not read or not said, or call an end or a failure what was none. No contract tells what C has read
+// and written: `after_read` and `after_write` judge what it answers, and that `read` and `say` hand its answer on is tested
+// (tests/journal/run.sh).
 ghost use Prim.Native.Nat.{_+_, _≤_};
-ghost use mathlib.Core.Bool.{true};
 ghost use mathlib.Core.Path.{_≡_};
 ghost use lib.ListN.{length};
-ghost use Rattle.journal.specs.Rest.{Begins};
-ghost use Rattle.journal.specs.Streams.{fresh, gotMore, saidMore, hasRoom, Counted, Unless};
-use journal_records::listing::Phase;
+ghost use Rattle.journal.specs.Rest.{Says};
+ghost use Rattle.journal.specs.Streams.{fresh, failing, saidMore, hasRoom, afterRead, afterWrite, Counted, Open, Reads, OrFails};
 use libc::STDERR_FILENO;
 use libc::STDIN_FILENO;
 use libc::STDOUT_FILENO;
@@ -16,62 +15,69 @@ use libc::STDOUT_FILENO;
 // Counts up to this leave room for what a turn adds to them, and no run reaches it.
 const COUNT_MAX: usize = usize::MAX / 2;
 
-pub struct Streams {
+pub(crate) struct Streams {
     got: usize,
     said: usize,
+    ended: bool,
     failed: bool,
 }
 
 // What became of a read: the streams behind it, and how many octets are in front of the buffer.
-pub struct Reading {
-    pub streams: Streams,
-    pub len: usize,
+pub(crate) struct Reading {
+    pub(crate) streams: Streams,
+    pub(crate) len: usize,
 }
 
 impl Streams {
-    pub fn new() -> Streams
+    pub(crate) fn new() -> Streams
         ensures { λ r. ⌜ r ≡ fresh ⌝ }
     {
         Streams {
             got: 0,
             said: 0,
+            ended: false,
             failed: false,
         }
     }
 
-    pub fn has_failed(self) -> bool
+    pub(crate) fn has_failed(self) -> bool
         ensures { λ r. ⌜ r ≡ self .failed ⌝ }
     {
         self.failed
     }
 
-    pub fn has_room(self) -> bool
+    pub(crate) fn has_ended(self) -> bool
+        ensures { λ r. ⌜ r ≡ self .ended ⌝ }
+    {
+        self.ended
+    }
+
+    pub(crate) fn has_room(self) -> bool
         ensures { λ r. ⌜ r ≡ hasRoom self ⌝ }
     {
         self.got <= COUNT_MAX && self.said <= COUNT_MAX
     }
 
-    // A read or a write has failed. Which it was is said on standard error.
-    fn fail(self, message: &[u8]) -> Streams
-        ensures { λ r. ⌜ r .failed ≡ true ⌝ }
+    // A read or a write has failed.
+    fn failing(self) -> Streams
+        ensures { λ r. ⌜ r ≡ failing self ⌝ }
     {
-        io::write_all(STDERR_FILENO, message);
         Streams {
             got: self.got,
             said: self.said,
+            ended: self.ended,
             failed: true,
         }
     }
 
-    pub fn read(self, buffer: &mut [u8]) -> Reading
+    // What C's read of `buffer` brought about, by what it answered.
+    fn after_read(self, got: isize, buffer: &[u8]) -> Reading
         requires { ⌜ Counted (self .got + length (now buffer)) ⌝ }
-        ensures { λ r. ⌜ r .len ≤ length (now (buffer .exit)) ⌝ }
-        ensures { λ r. ⌜ Unless (r .streams) (gotMore self (r .len)) ⌝ }
+        ensures { λ r. ⌜ r ≡ afterRead self got (length (now (buffer .entry))) ⌝ }
     {
-        let got = libc::read(STDIN_FILENO, buffer);
         if got < 0 {
             return Reading {
-                streams: self.fail(b"journal: cannot read\n"),
+                streams: self.failing(),
                 len: 0,
             };
         }
@@ -79,23 +85,52 @@ impl Streams {
         let streams = Streams {
             got: self.got + len,
             said: self.said,
+            ended: len == 0,
             failed: self.failed,
         };
         Reading { streams, len }
     }
 
-    // Writes a text that is due of `bytes`: those, `phase` and `last` are lent for the contract alone.
-    pub fn say(self, phase: Phase, bytes: &[u8], last: bool, text: &[u8]) -> Streams
-        requires { ⌜ Begins phase (now bytes) last (now text) × Counted (self .said + length (now text)) ⌝ }
-        ensures { λ r. ⌜ Unless r (saidMore self (length (now (text .entry)))) ⌝ }
+    // What writing `n` octets brought about, by whether all were written.
+    fn after_write(self, all: bool, n: usize) -> Streams
+        requires { ⌜ Counted (self .said + n) ⌝ }
+        ensures { λ r. ⌜ r ≡ afterWrite self all n ⌝ }
     {
-        if !io::write_all(STDOUT_FILENO, text) {
-            return self.fail(b"journal: cannot write\n");
+        if !all {
+            return self.failing();
         }
         Streams {
             got: self.got,
-            said: self.said + text.len(),
+            said: self.said + n,
+            ended: self.ended,
             failed: self.failed,
         }
+    }
+
+    // Reads to the front of `buffer`, which is not empty: what a read into nothing gives looks like the end of the input.
+    pub(crate) fn read(self, buffer: &mut [u8]) -> Reading
+        requires { ⌜ Open self × ((1 ≤ length (now buffer)) × Counted (self .got + length (now buffer))) ⌝ }
+        ensures { λ r. ⌜ Reads self (r .streams) (r .len) (length (now (buffer .exit))) ⌝ }
+    {
+        let got = libc::read(STDIN_FILENO, buffer);
+        let reading = self.after_read(got, buffer);
+        let streams = reading.streams;
+        if streams.failed {
+            io::write_all(STDERR_FILENO, b"journal: cannot read\n");
+        }
+        reading
+    }
+
+    // Writes the text that is due at the place up to which the listing is said.
+    pub(crate) fn say(self, text: &[u8]) -> Streams
+        requires { ⌜ Says self (now text) × Counted (self .said + length (now text)) ⌝ }
+        ensures { λ r. ⌜ OrFails self r (saidMore self (length (now (text .entry)))) ⌝ }
+    {
+        let all = io::write_all(STDOUT_FILENO, text);
+        let streams = self.after_write(all, text.len());
+        if streams.failed {
+            io::write_all(STDERR_FILENO, b"journal: cannot write\n");
+        }
+        streams
     }
 }
