@@ -152,7 +152,7 @@ fn states_and_records_are_as_long_as_in_the_source() {
     assert_eq!(powerlink::REPORTER_LEN, reporter);
     let collector = constant(&(read("collector") + &entries), "COLLECTOR_LEN");
     assert_eq!(powerlink::COLLECTOR_LEN, collector);
-    let record = constant(&read("journal_records"), "JOURNAL_RECORD_LEN");
+    let record = constant(&(read("journal_records") + &entries), "JOURNAL_RECORD_LEN");
     assert_eq!(powerlink::journal::RECORD_LEN, record);
 }
 

@@ -1,6 +1,6 @@
 // Lists the journal that comes on standard input (01, "Journal"). What is listed, and when it is over, the calls of
-// `list_part` decide; here is carrying over what they leave. Reading and writing is in `streams`. A message on standard error
-// says if one of them fails.
+// `list_part` decide; here is carrying over what they leave. All reading and writing is in `streams`, so that nothing but the
+// listing is written on standard output.
 mod streams;
 
 ghost use Prim.Native.Nat.{_-_, _≤_, _<_};
@@ -14,10 +14,10 @@ ghost use Rattle.journal_records.specs.Parts.{crowded};
 use journal_records::listing::ListAnswer;
 use journal_records::listing::Phase;
 use journal_records::listing::list_part;
-use libc::STDERR_FILENO;
 use octets::slices::front;
 use octets::slices::tail;
 use streams::Streams;
+use streams::tell_too_long;
 
 // What follows a part of the journal: octets that go on from `at`, or nothing.
 enum Rest {
@@ -198,7 +198,7 @@ fn all_turns(text: &mut [u8], out: &mut [u8]) -> Ended
             }
         }
     }
-    io::write_all(STDERR_FILENO, b"journal: the input is too long\n");
+    tell_too_long();
     Ended {
         streams,
         end: End::TooLong,

@@ -28,6 +28,11 @@ pub(crate) struct Reading {
     pub(crate) len: usize,
 }
 
+// The counts are used up. Like a failure, this is said on standard error.
+pub(crate) fn tell_too_long() {
+    io::write_all(STDERR_FILENO, b"journal: the input is too long\n");
+}
+
 impl Streams {
     pub(crate) fn new() -> Streams
         ensures { λ r. ⌜ r ≡ fresh ⌝ }

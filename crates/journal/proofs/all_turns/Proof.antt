@@ -16,11 +16,11 @@ use Rattle.journal.proofs.all_turns.Statement.{statement}
 use Rattle.journal.proofs.all_turns.Tie as tie
 
 abbrev Inv-loop : tie.InvT-loop
-Inv-loop text₀ out₀ streams₀ to-come₀ held₀ message text out streams to-come held =
+Inv-loop text₀ out₀ streams₀ to-come₀ held₀ text out streams to-come held =
     (Stands streams to-come (take held text) × (streams .ended ≡ false)) × ((held < recordLen) × (Buffer text × Buffer out))
 
 abbrev μ-loop : tie.MeasureT-loop
-μ-loop text₀ out₀ streams₀ to-come₀ held₀ message text out streams to-come held = countMost + 1 - streams .got
+μ-loop text₀ out₀ streams₀ to-come₀ held₀ text out streams to-come held = countMost + 1 - streams .got
 
 loop-holds : tie.Need-loop-holds Inv-loop μ-loop
 loop-holds c =
@@ -59,7 +59,7 @@ loop-again c =
     ((k .stands, k .more), (k .few, (search needs, search needs)))
 
 returns-3 : tie.Need-returns-3 Inv-loop μ-loop
-returns-3 c = let e = c .before .before in sym (e .before .has-room .ensures) ∙ e .if1 .left
+returns-3 c = let e = c .before in sym (e .before .has-room .ensures) ∙ e .if1 .left
 
 pub all-turns-spec : {M : Type 1} → statement M
 all-turns-spec =
@@ -82,7 +82,6 @@ all-turns-spec =
     (λ c. search needs)
     loop-less
     loop-again
-    (λ c. search needs)
     (λ c κs. search needs)
     (λ c. search needs)
     (λ c. search needs)
