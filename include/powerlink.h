@@ -316,7 +316,8 @@ uint8_t powerlink_deserialize_entry(
     const uint8_t *POWERLINK_RESTRICT buffer, size_t buffer_len,
     uint64_t values[POWERLINK_ARRAY(POWERLINK_ENTRY_VALUES)]);
 
-/* Finds the entry of a StatusResponse's payload at `offset`, the first being at 14. Where there is one, `values`
+/* Finds the entry of a StatusResponse's payload at `offset`, the first being at 14, and each other where `next` was told:
+ * at any other offset the octets are taken for an entry all the same. Where there is one, `values`
  * receives it and `next` the offset after it. At the end of the list, which is a terminator or under 20 octets,
  * `values` stays as it was and `next` becomes 0. Refuses nothing: the answer is always 0. */
 uint8_t powerlink_entry_step(
@@ -416,7 +417,7 @@ uint8_t powerlink_serialize_error_field(
 
 /* Writes the payload of a StatusResponse: 14 octets, the entries, and the 20 zeros that end the list. `entries` are the
  * octets of the entries, 20 each, as powerlink_serialize_entry writes them; a rest of 1 to 19 octets is an entry that is
- * too short: 1.
+ * too short: 1. An entry of mode 0 among them is written too, and who reads stops there: those behind it are not found.
  * Not for a node that has a reporter: an EN that its Answer did not write makes its next batch known, and lost.
  * Tests: 1, 5. Refused: nothing is written, but `octet` with 5. */
 uint8_t powerlink_serialize_status(
@@ -491,6 +492,9 @@ uint8_t powerlink_new_asnd(
  *
  * EN, EA, ER and EC are the exception flags of DS 301: new (entries were reported), acknowledge, reset and clear. A
  * batch is what one EN reports: it is open until the EA that equals its EN closes it, and known where EN equals EA.
+ *
+ * Refused frames. A frame that is refused changes nothing, and is dropped: on a real line frames of other protocols (2), of
+ * kinds that the box does not want (10) and of heads that are not registered (11) arrive all the time.
  *
  * Whole frames. What is read is the whole frame, as long as it was received. Of a StatusResponse that was cut behind
  * its first entries these are booked, and the others are lost: nothing in it tells how long it was.
@@ -648,7 +652,8 @@ uint8_t powerlink_journal_record(
  * 3 and 4, low octet first, and not POWERLINK_VERSION. What a power cut left of a record may stand behind them: cut the
  * file to `whole` octets before anything is appended. Records behind a torn one are read from a wrong place, and list
  * faults that nobody raised. The mark, octets 0 to 2, is the caller's to compare with POWERLINK_JOURNAL_START: a file
- * that is refused, or has another mark, may be somebody else's.
+ * that is refused, or has another mark, may be somebody else's. Under 5 octets, for which `version` may be any number, a
+ * file that is empty or begins as POWERLINK_JOURNAL_START does is one that was begun, and is begun anew.
  * Tests: 17, 18. Refused: nothing is written. */
 uint8_t powerlink_journal_whole_len(uint16_t version, size_t len, size_t *POWERLINK_RESTRICT whole);
 

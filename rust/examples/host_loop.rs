@@ -175,6 +175,7 @@ impl BoxHost {
                 Ok(outcome) => self.changed |= outcome == CollectorRead::Booked,
                 // A PRes; and what the book has no place for, the head sends again.
                 Err(Error::NotStatusResponse | Error::BookFull) => {}
+                // On this line nothing else arrives: it would be a mistake. On a real one it is dropped.
                 Err(other) => return Err(other.into()),
             }
         }

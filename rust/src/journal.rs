@@ -74,7 +74,8 @@ pub fn record(id: NodeId, entry: &ErrorEntry, target: &mut [u8]) -> Result<usize
 
 /// How much of a journal of `len` octets is whole: [`START`] and its records, without one that was
 /// cut short. Before anything is appended after a restart, the journal is cut to this length, or to
-/// a shorter one that was saved. Refused are under 5 octets (17), then a version other than 1 (18),
+/// a shorter one that was saved. A file of under 5 octets that begins as [`START`] does, or is empty, was begun, and is begun
+/// anew. Refused are under 5 octets (17), then a version other than 1 (18),
 /// which is the number in the journal's octets 3 and 4, low octet first.
 ///
 /// ```

@@ -149,7 +149,8 @@ static void box_reads(const struct frame *f)
 {
     uint8_t outcome = POWERLINK_KNOWN, octet;
     uint8_t cause = powerlink_collector_read(box.state, f->octets, f->len, &outcome, &octet);
-    /* A PRes is no StatusResponse; what the book has no place for, the head sends again. */
+    /* A PRes is no StatusResponse; what the book has no place for, the head sends again. On this line nothing else
+     * arrives: it would be a mistake. On a real one it is dropped. */
     if (cause != POWERLINK_NOT_STATUS_RESPONSE && cause != POWERLINK_BOOK_FULL)
         want("the box's reading", cause, POWERLINK_DONE);
     changed = changed || outcome == POWERLINK_BOOKED;
