@@ -50,8 +50,9 @@ fn our_answer(state: &mut ReporterState, f: &AnswerFields, target: &mut [u8], wr
     field[1..].copy_from_slice(&bits.specific_errors);
     let (mac, dest, pr, rs, mut octet) = (&f.source_mac.0, &f.dest_mac.0, f.pr as u8, f.rs.get(), 0);
     unsafe {
-        powerlink_reporter_answer(
+        powerlink_reporter_answer_v2(
             state,
+            &DS301,
             mac,
             dest,
             f.ec_flag,
@@ -69,12 +70,12 @@ fn our_answer(state: &mut ReporterState, f: &AnswerFields, target: &mut [u8], wr
 
 fn our_reporter_read(state: &mut ReporterState, frame: &[u8], outcome: &mut u8) -> u8 {
     let mut octet = 0;
-    unsafe { powerlink_reporter_read(state, frame.as_ptr(), frame.len(), outcome, &mut octet) }
+    unsafe { powerlink_reporter_read_v2(state, &DS301, frame.as_ptr(), frame.len(), outcome, &mut octet) }
 }
 
 fn our_collector_read(state: &mut CollectorState, frame: &[u8], outcome: &mut u8) -> u8 {
     let mut octet = 0;
-    unsafe { powerlink_collector_read(state, frame.as_ptr(), frame.len(), outcome, &mut octet) }
+    unsafe { powerlink_collector_read_v2(state, &DS301, frame.as_ptr(), frame.len(), outcome, &mut octet) }
 }
 
 fn our_request(state: &CollectorState, id: u8, f: &RequestFields, target: &mut [u8], written: &mut usize) -> u8 {
@@ -98,7 +99,7 @@ fn our_request(state: &CollectorState, id: u8, f: &RequestFields, target: &mut [
 impl ReporterPair {
     fn new(id: u8, waiting: usize, random: &mut Random) -> ReporterPair {
         let mut reporter = ReporterPair { ours: [0; REPORTER_LEN], theirs: Reporter::new(NodeId(id)).expect("an ID") };
-        assert_eq!(unsafe { powerlink_reporter_new_v1(&mut reporter.ours, id) }, 0);
+        assert_eq!(unsafe { powerlink_reporter_new_v2(&mut reporter.ours, id) }, 0);
         for _ in 0..waiting {
             let entry = random.entry();
             assert_eq!((our_raise(&mut reporter.ours, &entry), reporter.theirs.raise(entry)), (0, Ok(())));
@@ -128,7 +129,7 @@ impl ReporterPair {
 impl CollectorPair {
     fn new(ids: &[u8]) -> CollectorPair {
         let mut both = CollectorPair { ours: [0xFC; COLLECTOR_LEN], theirs: Collector::new() };
-        unsafe { powerlink_collector_new_v1(&mut both.ours) };
+        unsafe { powerlink_collector_new_v2(&mut both.ours) };
         for id in ids {
             let ours = unsafe { powerlink_collector_register(&mut both.ours, *id) };
             assert_eq!((ours, both.theirs.register(NodeId(*id))), (0, Ok(())));

@@ -33,7 +33,8 @@ pub fn cause(error: PowerlinkError) -> u8 {
 fn agree(frames: &[Vec<u8>]) {
     for frame in frames {
         let (mut values, mut octet) = ([0; 16], 0);
-        let ours = unsafe { powerlink_deserialize_frame(frame.as_ptr(), frame.len(), &mut values, &mut octet) };
+        let ours =
+            unsafe { powerlink_deserialize_frame_v2(&DS301, frame.as_ptr(), frame.len(), &mut values, &mut octet) };
         let (theirs, payload) = match deserialize_frame(frame) {
             Err(e) => (cause(e), Vec::new()),
             Ok(PowerlinkFrame::PReq(f)) => (0, f.payload),
@@ -57,7 +58,7 @@ fn read_row(group: Group, name: String, frames: Vec<Vec<u8>>) -> Row {
     let ours = calls(move || {
         for (frame, values) in mine.iter().zip(&mut places) {
             let frame = black_box(&frame[..]);
-            let cause = unsafe { powerlink_deserialize_frame(frame.as_ptr(), frame.len(), values, &mut octet) };
+            let cause = unsafe { powerlink_deserialize_frame_v2(&DS301, frame.as_ptr(), frame.len(), values, &mut octet) };
             black_box(cause);
             if has_payload && cause == 0 {
                 black_box(frame.get(values[3] as usize..(values[3] + values[4]) as usize));

@@ -92,7 +92,8 @@ fn our_section(frame: &PowerlinkFrame, target: &mut [u8], written: &mut usize) -
         },
         PowerlinkFrame::ASnd(f) => unsafe {
             let (to, from, p) = (f.destination.0, f.source.0, &f.payload);
-            powerlink_serialize_asnd(to, from, f.service_id as u8, p.as_ptr(), p.len(), at, len, written, &mut octet)
+            let service = f.service_id as u8;
+            powerlink_serialize_asnd_v2(&DS301, to, from, service, p.as_ptr(), p.len(), at, len, written, &mut octet)
         },
     }
 }
@@ -173,7 +174,8 @@ fn our_frame(frame: &PowerlinkFrame, target: &mut [u8], written: &mut usize) -> 
         },
         PowerlinkFrame::ASnd(f) => unsafe {
             let (to, from, p) = (f.destination.0, f.source.0, &f.payload);
-            powerlink_new_asnd(
+            powerlink_new_asnd_v2(
+                &DS301,
                 mac,
                 dest,
                 to,

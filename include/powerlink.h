@@ -10,7 +10,8 @@
  * with every other answer, 0 among them.
  *
  * Memory. No function allocates, keeps a pointer, calls back, or has a state of its own: a state is octets that the
- * caller lends, and any octets are one. No input is undefined, but for what C itself asks of the caller:
+ * caller lends, and any octets are one; the same goes for a table of services. No input is undefined, but for what C
+ * itself asks of the caller:
  *  - no pointer is null, also where its length is 0;
  *  - a pointer followed by a length, `buffer` and `buffer_len`, points to that many octets; an array parameter to as many
  *    elements as its declaration says; any other pointer to one object;
@@ -38,13 +39,26 @@ extern "C" {
 
 /* ---- The version of this interface
  *
- * Each change of a function's parameters or of a state's length raises it. The functions that make a state carry it in
- * the name that is linked: a program that makes one with the header of one version does not link with the archive of
- * another, which would write past its arrays. (A program that calls neither links with any: it compares versions
- * itself.) A state that was saved is of one version only. */
-#define POWERLINK_VERSION 1
-#define powerlink_reporter_new powerlink_reporter_new_v1
-#define powerlink_collector_new powerlink_collector_new_v1
+ * Each change of a function's parameters or of a state's length raises it. The two functions that make a state have it at
+ * the end of the name that is linked; a function whose parameters have changed has there the version of its last change.
+ * So a program that makes a state, or calls a function whose parameters are others in the archive, does not link with it.
+ * (One that does neither, as one that goes on from saved octets, links with any archive: it has to be built with the
+ * archive's own header.) A state that was saved is of one version only, unless it is said here.
+ *
+ * Version 2 has tables of services: powerlink_services_load and powerlink_services_contains are new; who reads or writes
+ * an ASnd takes a table. It is the first parameter of powerlink_deserialize_frame, powerlink_serialize_asnd and
+ * powerlink_new_asnd, and stands behind the state of powerlink_reporter_answer, powerlink_reporter_read and
+ * powerlink_collector_read. With POWERLINK_DS301_SERVICES each of them answers as in version 1. The octets of a state are
+ * as in version 1: what was saved there goes on here. */
+#define POWERLINK_VERSION 2
+#define powerlink_reporter_new powerlink_reporter_new_v2
+#define powerlink_collector_new powerlink_collector_new_v2
+#define powerlink_deserialize_frame powerlink_deserialize_frame_v2
+#define powerlink_serialize_asnd powerlink_serialize_asnd_v2
+#define powerlink_new_asnd powerlink_new_asnd_v2
+#define powerlink_reporter_answer powerlink_reporter_answer_v2
+#define powerlink_reporter_read powerlink_reporter_read_v2
+#define powerlink_collector_read powerlink_collector_read_v2
 
 /* ---- Lengths in octets */
 
@@ -57,6 +71,9 @@ extern "C" {
 #define POWERLINK_ETH_LEN 14
 #define POWERLINK_FIELD_LEN 8
 #define POWERLINK_ENTRY_LEN 20
+
+/* A table of services, an octet for each ID. */
+#define POWERLINK_SERVICES_LEN 256
 
 /* The longest answer of a reporter, and a collector's request. Both are lengths to write in: an answer of another
  * supplier's node may be longer, so that frames are received in a whole Ethernet frame's place. */
@@ -91,6 +108,10 @@ extern "C" {
 /* What a journal begins with, an initializer too: `PLB`, then version 1, low octet first. Records follow. */
 #define POWERLINK_JOURNAL_START {0x50, 0x4C, 0x42, 0x01, 0x00}
 
+/* The table of the twelve services that have a name below, an initializer too; with its length, C makes the rest of the
+ * array 0: static const uint8_t services[POWERLINK_SERVICES_LEN] = POWERLINK_DS301_SERVICES; */
+#define POWERLINK_DS301_SERVICES {0, 1, 1, 1, 1, 1, 0, 0, 0, 0, 0, 1, 0, 1, 1, 1, 1, 1, 1}
+
 /* ---- Causes */
 enum {
     POWERLINK_DONE = 0,
@@ -99,7 +120,7 @@ enum {
     POWERLINK_INVALID_FRAME = 3,           /* the section is empty, or a PRes is not to node 255 */
     POWERLINK_UNKNOWN_MESSAGE = 4,         /* octet: the message type, without its highest bit when it is read */
     POWERLINK_UNKNOWN_STATE = 5,           /* octet: the NMT state */
-    POWERLINK_UNKNOWN_SERVICE = 6,         /* octet: the service */
+    POWERLINK_UNKNOWN_SERVICE = 6,         /* octet: the service, which the table does not hold */
     POWERLINK_UNKNOWN_REQUEST = 7,         /* octet: the requested service */
     POWERLINK_ENTRY_INVALID = 8,           /* an entry to raise has mode 0 or above 3, or a profile above 4,095; one to write has a mode above 3 */
     POWERLINK_QUEUE_FULL = 9,              /* 16 entries are waiting */
@@ -112,7 +133,10 @@ enum {
     POWERLINK_NOTHING_BOOKED = 16,
     POWERLINK_NOT_A_JOURNAL = 17,          /* a journal has under 5 octets; the program `journal`: or not its mark */
     POWERLINK_UNKNOWN_VERSION = 18,        /* a journal's version is not 1 */
-    POWERLINK_RECORD_INVALID = 19          /* a record has mode 0 or above 3, or an ID that is not 1 to 239 */
+    POWERLINK_RECORD_INVALID = 19,         /* a record has mode 0 or above 3, or an ID that is not 1 to 239 */
+    POWERLINK_NOT_A_TABLE = 20,            /* a table of services has under 5 octets, or another mark or version */
+    POWERLINK_NOT_ASCENDING = 21,          /* its IDs are not strictly ascending */
+    POWERLINK_WITHOUT_STATUS_RESPONSE = 22      /* 2, StatusResponse, is not among them */
 };
 
 /* ---- Codes */
@@ -142,7 +166,8 @@ enum {
     POWERLINK_BASIC_ETHERNET = 0x1E
 };
 
-/* The services of an ASnd. */
+/* The services of an ASnd that have a name here: those that powerlink-rs lists (EPSG DS 301, Appendix 3.3 and Table 138).
+ * Any octet may be one: a table says which are known. */
 enum {
     POWERLINK_IDENT_RESPONSE = 0x01,
     POWERLINK_STATUS_RESPONSE = 0x02,
@@ -158,7 +183,7 @@ enum {
     POWERLINK_NMT_PUBLISH_ACTIVE_NODES = 0x12
 };
 
-/* The services that an SoA requests. */
+/* The services that an SoA requests: these five, whatever the table. */
 enum {
     POWERLINK_NO_SERVICE = 0x00,
     POWERLINK_IDENT_REQUEST = 0x01,
@@ -271,15 +296,37 @@ enum {
     POWERLINK_BOOKED = 1 /* the batch is in the book, and EA is changed */
 };
 
+/* ---- Tables of services
+ *
+ * A table says which services of an ASnd are known: whoever reads or writes one takes it. It is octets that the caller
+ * lends, one for each ID: any but 0 means that the table holds the service. StatusResponse, 2, is held whatever its octet
+ * says, so that any octets are a table, and the error exchange runs under each of them; one that was never loaded, all
+ * zeros, holds nothing else. Calls need not take the same table. Threads may share one as long as none loads it meanwhile.
+ * The requested service of an SoA (7) has nothing to do with it. */
+
+/* Loads a table from the octets of a file: `PLS`, the 16-bit version 1 with its low octet first, then the IDs that it is
+ * to hold, an octet each, strictly ascending and with 2 among them. No ID is too small or too large: a line's end behind
+ * them is one too. The octets of `services` become 1 for each of them and 0 else.
+ * Tests: 20, 21, 22. Refused: nothing is written. */
+uint8_t powerlink_services_load(
+    const uint8_t *POWERLINK_RESTRICT file, size_t file_len,
+    uint8_t services[POWERLINK_ARRAY(POWERLINK_SERVICES_LEN)]);
+
+/* Tells whether a table holds the service `id`.
+ * Refuses nothing: the answer is always 0. */
+uint8_t powerlink_services_contains(
+    const uint8_t services[POWERLINK_ARRAY(POWERLINK_SERVICES_LEN)], uint8_t id, bool *POWERLINK_RESTRICT held);
+
 /* ---- Reading */
 
 /* Reads a frame, from its Ethernet header on. A payload lies in `buffer`, at values[POWERLINK_PAYLOAD_START], and has
  * values[POWERLINK_PAYLOAD_LEN] octets; that of an ASnd whose section has exactly 46 octets has lost the zeros at its
  * end, so that the payload of a StatusResponse is better taken from octet 18 to the frame's end.
  * Tests: 1 (14 octets), 2, 3 (an empty section), 4, then those of the kind. SoC: 1 (22 octets of section). PReq: 1
- * (10), 1 (the payload). PRes: 1 (10), 3, 5, 1 (the payload). SoA: 1 (9), 5, 7. ASnd: 1 (4), 6.
+ * (10), 1 (the payload). PRes: 1 (10), 3, 5, 1 (the payload). SoA: 1 (9), 5, 7. ASnd: 1 (4), 6 (by `services`).
  * Refused: nothing is written, but `octet` with 4 to 7. */
 uint8_t powerlink_deserialize_frame(
+    const uint8_t services[POWERLINK_ARRAY(POWERLINK_SERVICES_LEN)],
     const uint8_t *POWERLINK_RESTRICT buffer, size_t buffer_len,
     uint64_t values[POWERLINK_ARRAY(POWERLINK_FRAME_VALUES)], uint8_t *POWERLINK_RESTRICT octet);
 
@@ -378,9 +425,10 @@ uint8_t powerlink_serialize_soa(
     uint8_t *POWERLINK_RESTRICT target, size_t target_len, size_t *POWERLINK_RESTRICT written,
     uint8_t *POWERLINK_RESTRICT octet);
 
-/* Writes the section of an ASnd: 4 octets and the payload, but at least 46.
+/* Writes the section of an ASnd: 4 octets and the payload, but at least 46. `services` has to hold the service: 6.
  * Tests: 1, 6. Refused: nothing is written, but `octet` with 6. */
 uint8_t powerlink_serialize_asnd(
+    const uint8_t services[POWERLINK_ARRAY(POWERLINK_SERVICES_LEN)],
     uint8_t destination, uint8_t source, uint8_t service,
     const uint8_t *POWERLINK_RESTRICT payload, size_t payload_len,
     uint8_t *POWERLINK_RESTRICT target, size_t target_len, size_t *POWERLINK_RESTRICT written,
@@ -470,10 +518,11 @@ uint8_t powerlink_new_soa(
     uint8_t *POWERLINK_RESTRICT target, size_t target_len, size_t *POWERLINK_RESTRICT written,
     uint8_t *POWERLINK_RESTRICT octet);
 
-/* Writes an ASnd, 18 octets and the payload, but at least 60: from `source` to `target_node`. Not for a StatusResponse of a
- * node that has a reporter: that one is powerlink_reporter_answer's.
+/* Writes an ASnd, 18 octets and the payload, but at least 60: from `source` to `target_node`. `services` has to hold the
+ * service: 6. Not for a StatusResponse of a node that has a reporter: that one is powerlink_reporter_answer's.
  * Tests: 1, 6. Refused: nothing is written, but `octet` with 6. */
 uint8_t powerlink_new_asnd(
+    const uint8_t services[POWERLINK_ARRAY(POWERLINK_SERVICES_LEN)],
     const uint8_t source_mac[POWERLINK_ARRAY(POWERLINK_MAC_LEN)],
     const uint8_t dest_mac[POWERLINK_ARRAY(POWERLINK_MAC_LEN)],
     uint8_t target_node, uint8_t source, uint8_t service,
@@ -494,7 +543,11 @@ uint8_t powerlink_new_asnd(
  * batch is what one EN reports: it is open until the EA that equals its EN closes it, and known where EN equals EA.
  *
  * Refused frames. A frame that is refused changes nothing, and is dropped: on a real line frames of other protocols (2), of
- * kinds that the box does not want (10) and of heads that are not registered (11) arrive all the time.
+ * services that the table does not hold (6), of kinds that the box does not want (10) and of heads that are not
+ * registered (11) arrive all the time.
+ *
+ * Tables. Reading and answering take a table of services, any one, each end its own and each call another if need be: what
+ * is booked and acknowledged does not depend on it.
  *
  * Whole frames. What is read is the whole frame, as long as it was received. Of a StatusResponse that was cut behind
  * its first entries these are booked, and the others are lost: nothing in it tells how long it was.
@@ -541,7 +594,7 @@ uint8_t powerlink_new_asnd(
  *    next one has the EN that the old EA equals, is known, and lost too.
  *  - a reporter saved before an answer that was booked: what is raised since joins the batch under the EN that is
  *    booked; it is known and closed, and what has joined is lost.
- * A saved state is of one POWERLINK_VERSION alone.
+ * A saved state is of one POWERLINK_VERSION alone, unless it is said there.
  *
  * Take and the journal. The state saved after the journal lists an entry twice if the power goes between them; the
  * state saved before it loses one. So the length of the journal is saved with the state, in one file: Take, append,
@@ -571,9 +624,12 @@ uint8_t powerlink_reporter_raise(
 /* Writes a StatusResponse, a whole frame from this node to all (255), with the open batch. Where none is open and
  * entries wait, the first four, or all if fewer, become it. 60 octets without entries, else 52 and 20 for each.
  * `dest_mac` is POWERLINK_MULTICAST_ASND, or what the host has for it. The state is saved before the answer leaves.
+ * An ASnd is written, and so a table is taken; since every table holds StatusResponse, the result is the same for all of
+ * them, and never 6.
  * Tests: 1, 5. Refused: nothing is written and no batch opened, but `octet` with 5. */
 uint8_t powerlink_reporter_answer(
     uint8_t state[POWERLINK_ARRAY(POWERLINK_REPORTER_LEN)],
+    const uint8_t services[POWERLINK_ARRAY(POWERLINK_SERVICES_LEN)],
     const uint8_t source_mac[POWERLINK_ARRAY(POWERLINK_MAC_LEN)],
     const uint8_t dest_mac[POWERLINK_ARRAY(POWERLINK_MAC_LEN)],
     bool ec, uint8_t pr, uint8_t rs, uint8_t nmt_state, const uint8_t field[POWERLINK_ARRAY(POWERLINK_FIELD_LEN)],
@@ -585,6 +641,7 @@ uint8_t powerlink_reporter_answer(
  * Tests: those of powerlink_deserialize_frame. Refused: nothing is written, but `octet` with 4 to 7. */
 uint8_t powerlink_reporter_read(
     uint8_t state[POWERLINK_ARRAY(POWERLINK_REPORTER_LEN)],
+    const uint8_t services[POWERLINK_ARRAY(POWERLINK_SERVICES_LEN)],
     const uint8_t *POWERLINK_RESTRICT buffer, size_t buffer_len,
     uint8_t *POWERLINK_RESTRICT outcome, uint8_t *POWERLINK_RESTRICT octet);
 
@@ -612,6 +669,7 @@ uint8_t powerlink_collector_register(uint8_t state[POWERLINK_ARRAY(POWERLINK_COL
  * Refused: nothing is written, but `octet` with 4 to 7. */
 uint8_t powerlink_collector_read(
     uint8_t state[POWERLINK_ARRAY(POWERLINK_COLLECTOR_LEN)],
+    const uint8_t services[POWERLINK_ARRAY(POWERLINK_SERVICES_LEN)],
     const uint8_t *POWERLINK_RESTRICT buffer, size_t buffer_len,
     uint8_t *POWERLINK_RESTRICT outcome, uint8_t *POWERLINK_RESTRICT octet);
 

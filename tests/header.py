@@ -3,10 +3,10 @@
 - Every exported function of crates/powerlink/src is declared, with the same parameters in the same order, and no other:
   a lent slice is a pointer and a length, an array has its length, what is not `&mut` is const, and pointers are restrict.
 - Every declaration has a comment of its own. Its causes and their order are those of the contract: of a writer, as its
-  definition in specs/Given.antt tests them; of any other call, as ORDERS has them. `octet` goes with those of 4 to 7.
-  What else the comments say is not looked at.
-- The functions that make a state, and no others, have the interface's version, POWERLINK_VERSION, at the end of the name that
-  is linked, and a `#define` of their name without it.
+  definition in specs/Given.antt tests them; of loading a table, as its definition in services/specs/Load.antt does; of any
+  other call, as ORDERS has them. `octet` goes with those of 4 to 7. What else the comments say is not looked at.
+- The functions that make a state have the interface's version, POWERLINK_VERSION, at the end of the name that is linked, any other
+  function that has one there a version from 2 to it; each has a `#define` of its name without it.
 - Every constant has the value of its source, a `const` or a definition in specs/, and none is without a source; every
   code, cause, outcome and place of a value has its constant.
 It prints a line for each fault.
@@ -41,12 +41,12 @@ def constant(crate, name):
         owner = re.search(rf'^(?:pub )?use (\w+)::(?:\w+::)*{name};', code, re.M)
         return constant(owner[1], name)
     if found[1].startswith('['):
-        return [value_of(crate, item) for item in found[1].strip('[]').split(',')]
+        return [value_of(crate, item) for item in found[1].strip('[]').split(',') if item.strip()]
     return value_of(crate, found[1])
 
 
 def value_of(crate, text):
-    numbers = re.sub(r'\b[A-Z]\w*', lambda name: str(constant(crate, name[0])), re.sub(r' as \w+', '', text))
+    numbers = re.sub(r'\b[A-Z]\w*', lambda name: str(constant(crate, name[0])), re.sub(r' as \w+', '', text.strip()))
     return eval(numbers, {'__builtins__': {}})
 
 
@@ -72,6 +72,7 @@ def snake(name):
 CONSTANTS = {
     'REPORTER_LEN': ('reporter', 'REPORTER_LEN'),
     'COLLECTOR_LEN': ('collector', 'COLLECTOR_LEN'),
+    'SERVICES_LEN': ('services', 'SERVICES_LEN'),
     'ETH_LEN': ('types', 'ETH_LEN'),
     'ENTRY_LEN': ('error_entry', 'ENTRY_LEN'),
     'RECORD_LEN': ('journal_records', 'JOURNAL_RECORD_LEN'),
@@ -91,7 +92,6 @@ CONSTANTS = {
 CODES = {
     ('Messages', 'messageCode'): str.upper,
     ('States', 'stateCode'): lambda name: re.sub('^NMT_(CS_)?', '', snake(name)),
-    ('Services', 'serviceCode'): snake,
     ('RequestedServices', 'requestedCode'): snake,
     ('PollFlags', 'priorityCode'): lambda name: 'PRIO_' + snake(name).removeprefix('PRIO_'),
     ('Modes', 'modeCode'): snake,
@@ -124,10 +124,15 @@ FIELD_NAMES = {
 }
 
 
+def cause_numbers():
+    """The numbers of the causes, by their names in specs/."""
+    return {name: int(number) for name, number in re.findall(r'^(\w+) = (\d+)$', text_of('types/specs/CauseNumbers.antt'), re.M)}
+
+
 def causes():
     """The causes of the sources, whose names in specs/ are the same."""
     yield 'DONE', 0
-    in_specs = {snake(name): int(number) for name, number in re.findall(r'^(\w+) = (\d+)$', text_of('types/specs/CauseNumbers.antt'), re.M)}
+    in_specs = {snake(name): number for name, number in cause_numbers().items()}
     for name, number in re.findall(r'^pub const (\w+): u8 = (\d+);$', text_of('types/src/causes.rt'), re.M):
         if in_specs.pop(name, None) == int(number):
             yield name, int(number)
@@ -165,6 +170,21 @@ def lengths():
     yield 'JOURNAL_START', [int(octet) for octet in start]
 
 
+def services():
+    """The twelve services by their names, and their table: what C leaves out at an array's end is 0."""
+    ids = [int(octet, 0) for octet in items(text_of('services/specs/Ids.antt'), 'ds301Ids')]
+    named = re.findall(r'^pub const (\w+): u8 = (\w+);$', text_of('services/src/lib.rt'), re.M)
+    for name, octet in named:
+        yield name, int(octet, 0)
+    if [int(octet, 0) for _, octet in named] != ids:
+        yield 'SERVICES of services/src/lib.rt, which are not those of services/specs/Ids.antt', ids
+    table, used = constant('services', 'DS301'), max(ids) + 1
+    if len(table) != constant('services', 'SERVICES_LEN') or any(table[used:]):
+        yield 'DS301_SERVICES of services/src/ds301.rt, which is not that of services/specs/Ids.antt', ids
+    yield 'DS301_SERVICES', table[:used]
+    yield 'DS301_SERVICES', [int(octet in ids) for octet in range(used)]
+
+
 def outcomes():
     for crate in ['reporter', 'collector']:
         for variant, value in re.findall(r'^readCause (\w+) = row 0 \((\d+) ∷ \[\]\)$', text_of(crate, 'specs/Rules.antt'), re.M):
@@ -184,15 +204,25 @@ ORDERS = {
     'WritesTo': [1], 'EthRead': [1], 'PlRead': [1, 4], 'StatusRead': [1, 5], 'FieldRead': [1], 'EntryRead': [1], 'StepRead': [],
     'ReporterMakes': [13], 'ReporterRaises': [8, 9], 'ReporterAnswers': [1, 5], 'ReporterEn': [], 'CollectorMakes': [],
     'CollectorRegisters': [13, 14, 15], 'CollectorFlags': [11], 'CollectorRequests': [11, 1, 5], 'CollectorTakes': [11, 16],
-    'JournalRecords': [1, 19], 'JournalWhole': [17, 18],
+    'JournalRecords': [1, 19], 'JournalWhole': [17, 18], 'ServicesContain': [],
 }
 # The contracts of the functions that make a state.
 MAKERS = {'ReporterMakes', 'CollectorMakes'}
 NAMED = {'typed': 4, 'stated': 5, 'served': 6, 'requested': 7}
 
 
+def load_order():
+    """The causes of loading a table, in the order in which its definition names their cases."""
+    text = text_of('services/specs/Load.antt')
+    rows = {case: value.split()[1] for case, value in equations(text, 'loadCause')}
+    tests = ' '.join(re.search(rf'^{name} \w+ = (.*)$', text, re.M)[1] for name in ('loadAnswer', 'idsAnswer'))
+    return [cause_numbers()[rows[word]] for word in re.findall(r'\w+', tests) if rows.get(word, '0') != '0']
+
+
 def order(contract, given):
     """The causes of a contract in their order, or None where the comment says them in words."""
+    if contract == 'ServicesLoad':
+        return load_order()
     if contract != 'WritesCoded':
         return ORDERS.get(contract)
     body = re.search(rf'^{given} [^\n]*=\n((?: .*\n)+)', text_of('powerlink/specs/Given.antt'), re.M)[1]
@@ -224,7 +254,7 @@ def exported():
     """Each exported function of the sources: its parameters in C and its result, whether its name is kept, its causes, and
     whether it makes a state."""
     arrays = {}
-    for crate in ('reporter', 'collector'):
+    for crate in ('reporter', 'collector', 'services'):
         for name, length in re.findall(r'^pub type (\w+) = \[u8; (\w+)\];', code_of(crate), re.M):
             arrays[name] = f'[u8; {constant(crate, length)}]'
     for mangled, name, parameters, result, contract, given in EXPORTED.findall(code_of('powerlink')):
@@ -235,11 +265,13 @@ def exported():
 
 
 def versions():
-    """The interface's version, as each function that makes a state has it in its name."""
-    for name, *_, makes in exported():
-        found = re.search(r'_v(\d+)$', name)
-        if makes or found:
-            yield 'VERSION', int(found[1]) if found and makes else None
+    """The interface's version, as each function that makes a state has it in its name; no other name has a later one."""
+    numbers = {name: re.search(r'_v(\d+)$', name) for name, *_ in exported()}
+    made = {int(numbers[name][1]) if numbers[name] else None for name, *_, makes in exported() if makes}
+    yield from (('VERSION', number) for number in made)
+    for number in (int(found[1]) for found in numbers.values() if found):
+        if not 2 <= number <= max(filter(None, made), default=0):
+            yield 'VERSION', None
 
 
 # ---- the header
@@ -288,13 +320,14 @@ class Header:
 
 def function_faults(header):
     there = {}
-    for name, signature, mangled, causes, makes in exported():
+    for name, signature, mangled, causes, _ in exported():
         there[name] = signature
         tests, with_octet = told(header.comment(name))
         if causes is not None and (tests != causes or with_octet != [cause for cause in causes if 4 <= cause <= 7]):
             yield f'the comment of {name} has the causes {tests}, `octet` with {with_octet}; its contract has {causes}'
         other = [word for word, linked in header.linked.items() if linked == name]
-        if other != ([re.sub(r'_v\d+$', '', name)] if makes else []):
+        plain = re.sub(r'_v\d+$', '', name)
+        if other != ([plain] if plain != name else []):
             yield f'{name} is called by {other or "this name"}'
         if not mangled:
             yield f'{name} is exported without #[no_mangle]'
@@ -315,7 +348,7 @@ def function_faults(header):
 
 def constant_faults(header):
     wanted = {}
-    for name, value in [*causes(), *versions(), *lengths(), *places(), *outcomes()]:
+    for name, value in [*causes(), *versions(), *lengths(), *services(), *places(), *outcomes()]:
         if wanted.setdefault(name, value) != value:
             yield f'POWERLINK_{name} would be {wanted[name]} and {value}'
         if name not in header.constants:

@@ -4,7 +4,8 @@
 //!
 //! Each end does the same in every cycle: it reads what has come, saves what has changed, and only
 //! then sends. The box also takes what is booked and appends it to the journal before it saves, and
-//! saves the journal's length with its state.
+//! saves the journal's length with its state. Both load the house's table of services when they
+//! start.
 use powerlink::*;
 use std::collections::VecDeque;
 use std::fs::{self, File, OpenOptions};
@@ -15,6 +16,13 @@ const HEAD: NodeId = NodeId(7);
 const HEAD_MAC: MacAddress = MacAddress([2, 0, 0, 0, 0, 7]);
 const BOX_MAC: MacAddress = MacAddress([2, 0, 0, 0, 0, 240]);
 const CYCLES: u64 = 80;
+
+/// A service of the house, none of the twelve of DS 301.
+const PRINTED: ServiceId = ServiceId(0xA0);
+
+/// The house's table, as its file has it: that service, and of the twelve only the one of the error
+/// exchange.
+const HOUSE: &[u8] = b"PLS\x01\x00\x02\xA0";
 
 /// A frame is refused, a file fails, or the power goes.
 type Outcome<T> = Result<T, Box<dyn std::error::Error>>;
@@ -103,10 +111,16 @@ impl World {
             u64::from_le_bytes(number.try_into().ok()?),
         ))
     }
+
+    /// A host that starts loads its table, and does not go on where the file is refused.
+    fn services(&self) -> Outcome<Services> {
+        Ok(Services::load(&fs::read(self.folder.join("services"))?)?)
+    }
 }
 
 /// The managing node.
 struct BoxHost {
+    services: Services,
     the_box: Collector,
     journal: File,
     journal_len: u64,
@@ -129,6 +143,7 @@ impl BoxHost {
         journal.set_len(journal_len)?;
         let the_box = Collector::from_bytes(octets);
         Ok(BoxHost {
+            services: world.services()?,
             the_box,
             journal,
             journal_len,
@@ -162,6 +177,7 @@ impl BoxHost {
         the_box.register(HEAD)?;
         world.save("box", the_box.as_bytes(), journal_len)?;
         Ok(BoxHost {
+            services: world.services()?,
             the_box,
             journal,
             journal_len,
@@ -171,11 +187,13 @@ impl BoxHost {
 
     fn cycle(&mut self, world: &mut World, cycle: u64) -> Outcome<()> {
         while let Some(frame) = world.to_box.pop_front() {
-            match self.the_box.read(&frame) {
+            match self.the_box.read(&self.services, &frame) {
                 Ok(outcome) => self.changed |= outcome == CollectorRead::Booked,
-                // A PRes; and what the book has no place for, the head sends again.
+                // A PRes, and an ASnd of the house; what the book has no place for, the head sends
+                // again.
                 Err(Error::NotStatusResponse | Error::BookFull) => {}
-                // On this line nothing else arrives: it would be a mistake. On a real one it is dropped.
+                // On this line nothing else arrives, and no service that the table does not hold:
+                // it would be a mistake. On a real one it is dropped.
                 Err(other) => return Err(other.into()),
             }
         }
@@ -236,19 +254,27 @@ impl BoxHost {
 
 /// The controlled node; `raised` counts the faults that it has accepted.
 struct HeadHost {
+    services: Services,
     head: Reporter,
     raised: u64,
 }
 
 impl HeadHost {
     fn start(world: &mut World) -> Outcome<Self> {
-        if let Some((octets, raised)) = world.load("head") {
-            let head = Reporter::from_bytes(octets);
-            return Ok(HeadHost { head, raised });
-        }
-        let (head, raised) = (Reporter::new(HEAD)?, 0);
-        world.save("head", head.as_bytes(), raised)?;
-        Ok(HeadHost { head, raised })
+        let services = world.services()?;
+        let (head, raised) = match world.load("head") {
+            Some((octets, raised)) => (Reporter::from_bytes(octets), raised),
+            None => {
+                let head = Reporter::new(HEAD)?;
+                world.save("head", head.as_bytes(), 0)?;
+                (head, 0)
+            }
+        };
+        Ok(HeadHost {
+            services,
+            head,
+            raised,
+        })
     }
 
     fn cycle(&mut self, world: &mut World, cycle: u64) -> Outcome<()> {
@@ -258,7 +284,7 @@ impl HeadHost {
         while let Some(frame) = world.to_head.pop_front() {
             self.read(world, &frame)?;
         }
-        Ok(())
+        self.count(world)
     }
 
     fn save(&self, world: &mut World) -> Outcome<()> {
@@ -282,10 +308,10 @@ impl HeadHost {
     }
 
     fn read(&mut self, world: &mut World, frame: &[u8]) -> Outcome<()> {
-        if self.head.read(frame)? == ReporterRead::Closed {
+        if self.head.read(&self.services, frame)? == ReporterRead::Closed {
             self.save(world)?;
         }
-        match deserialize_frame(frame)?.frame {
+        match deserialize_frame(&self.services, frame)?.frame {
             PowerlinkFrame::PReq(preq) if preq.destination == HEAD => self.poll(world),
             PowerlinkFrame::SoA(soa)
                 if soa.target_node_id == HEAD
@@ -310,6 +336,15 @@ impl HeadHost {
         world.send_to_box(&frame[..n])
     }
 
+    /// What the house has beside the exchange: an ASnd with a service of its own.
+    fn count(&self, world: &mut World) -> Outcome<()> {
+        let mn = NodeId(C_ADR_MN_DEF_NODE_ID);
+        let printed = ASndFrame::new(HEAD_MAC, BOX_MAC, mn, HEAD, PRINTED, &[1, 2, 3]);
+        let mut frame = [0; 60];
+        let n = printed.write_frame(&self.services, &mut frame)?;
+        world.send_to_box(&frame[..n])
+    }
+
     /// `answer` may open a batch: that is saved before the box can book it.
     fn answer(&mut self, world: &mut World) -> Outcome<()> {
         let fields = AnswerFields {
@@ -322,7 +357,7 @@ impl HeadHost {
             static_error_bit_field: StaticErrorBitField::default(),
         };
         let mut frame = [0; 132];
-        let n = self.head.answer(&fields, &mut frame)?;
+        let n = self.head.answer(&self.services, &fields, &mut frame)?;
         self.save(world)?;
         world.send_to_box(&frame[..n])
     }
@@ -363,6 +398,7 @@ fn run(world: &mut World) -> Outcome<(u64, u64)> {
 fn main() -> Outcome<()> {
     let folder = std::env::temp_dir().join(format!("host_loop.{}", std::process::id()));
     fs::create_dir(&folder)?;
+    fs::write(folder.join("services"), HOUSE)?;
     let mut world = World {
         number: 1,
         fuse: 0,

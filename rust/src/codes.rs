@@ -86,37 +86,8 @@ codes! {
 }
 
 codes! {
-    /// The services of ASnd frames (EPSG DS 301, Appendix 3.3 and Table 138).
-    pub enum ServiceId or InvalidServiceId {
-        /// `IDENT_RESPONSE`.
-        IdentResponse = 0x01,
-        /// `STATUS_RESPONSE`: the payload is that of a [`StatusResponse`](crate::StatusResponse).
-        StatusResponse = 0x02,
-        /// `NMT_REQUEST`.
-        NmtRequest = 0x03,
-        /// `NMT_COMMAND`.
-        NmtCommand = 0x04,
-        /// `SDO`.
-        Sdo = 0x05,
-        /// `NMTPublishTime`.
-        NMTPublishTime = 0x0B,
-        /// `NMTPublishNMTState`.
-        NMTPublishNMTState = 0x0D,
-        /// `NMTPublishNodeState`.
-        NMTPublishNodeState = 0x0E,
-        /// `NMTPublishNodeList`.
-        NMTPublishNodeList = 0x0F,
-        /// `NMTPublishEmergNew`.
-        NMTPublishEmergNew = 0x10,
-        /// `NMTPublishHeartbeat`.
-        NMTPublishHeartbeat = 0x11,
-        /// `NMTPublishActiveNodes`.
-        NMTPublishActiveNodes = 0x12,
-    }
-}
-
-codes! {
-    /// The services that an SoA requests (EPSG DS 301, Appendix 3.4).
+    /// The services that an SoA requests (EPSG DS 301, Appendix 3.4), whatever the table of
+    /// [`Services`](crate::Services).
     pub enum RequestedServiceId or InvalidRequestedServiceId {
         /// `NO_SERVICE`.
         NoService = 0x00,

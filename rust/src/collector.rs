@@ -3,6 +3,7 @@ use crate::codes::NmtState;
 use crate::ffi;
 use crate::frame::{ErrorEntry, MacAddress, SoAFlags};
 use crate::numbers::broken;
+use crate::services::Services;
 use crate::types::{EPLVersion, NodeId};
 use crate::Error;
 use alloc::boxed::Box;
@@ -71,8 +72,8 @@ impl Collector {
     /// registered (11), a payload under 14 octets (1) or with an unknown state (5), and a new batch
     /// with more entries than the book has free places (12), which the head sends again; one of more
     /// than 64 never finds them. Where it was booked, the state is saved before the next frame leaves.
-    pub fn read(&mut self, buffer: &[u8]) -> Result<CollectorRead, Error> {
-        Ok(match ffi::collector_read(&mut self.0, buffer)? {
+    pub fn read(&mut self, services: &Services, buffer: &[u8]) -> Result<CollectorRead, Error> {
+        Ok(match ffi::collector_read(&mut self.0, services, buffer)? {
             0 => CollectorRead::Known,
             1 => CollectorRead::Booked,
             other => broken("outcome", other.into()),
@@ -106,7 +107,8 @@ impl Collector {
         Ok(ErrorEntry::of(&ffi::collector_take(&mut self.0, id)?))
     }
 
-    /// The octets of the state, to be saved: they are of one [`VERSION`](crate::VERSION) alone.
+    /// The octets of the state, to be saved; [`VERSION`](crate::VERSION) says which are gone on
+    /// from.
     pub fn as_bytes(&self) -> &[u8; COLLECTOR_LEN] {
         &self.0
     }

@@ -18,7 +18,7 @@ pub enum Error {
     InvalidMessageType(u8),
     /// 5: the NMT state is none that is known.
     InvalidNmtState(u8),
-    /// 6: the service of an ASnd is none that is known.
+    /// 6: the service of an ASnd is none that the table of [`Services`](crate::Services) holds.
     InvalidServiceId(u8),
     /// 7: the service that an SoA requests is none that is known.
     InvalidRequestedServiceId(u8),
@@ -46,10 +46,16 @@ pub enum Error {
     UnknownVersion,
     /// 19: the record has the mode of the terminator, or an ID that is not one of 1 to 239.
     RecordInvalid,
+    /// 20: a table of services is under 5 octets, or its mark or its version is another.
+    NotATable,
+    /// 21: the IDs of a table of services are not strictly ascending.
+    NotAscending,
+    /// 22: the IDs of a table of services have no 2, which is StatusResponse.
+    WithoutStatusResponse,
 }
 
 impl Error {
-    /// The number of the cause: 1 to 19.
+    /// The number of the cause: 1 to 22.
     pub fn number(self) -> u8 {
         match self {
             Error::BufferTooShort => 1,
@@ -71,6 +77,9 @@ impl Error {
             Error::NotAJournal => 17,
             Error::UnknownVersion => 18,
             Error::RecordInvalid => 19,
+            Error::NotATable => 20,
+            Error::NotAscending => 21,
+            Error::WithoutStatusResponse => 22,
         }
     }
 
@@ -108,6 +117,9 @@ impl Error {
             17 => Error::NotAJournal,
             18 => Error::UnknownVersion,
             19 => Error::RecordInvalid,
+            20 => Error::NotATable,
+            21 => Error::NotAscending,
+            22 => Error::WithoutStatusResponse,
             _ => panic!("libpowerlink.a answers with {cause}, which is no cause"),
         })
     }
@@ -126,7 +138,7 @@ impl fmt::Display for Error {
             }
             Error::InvalidMessageType(octet) => write!(f, "unknown message type {octet:#04x}"),
             Error::InvalidNmtState(octet) => write!(f, "unknown NMT state {octet:#04x}"),
-            Error::InvalidServiceId(octet) => write!(f, "unknown service {octet:#04x}"),
+            Error::InvalidServiceId(octet) => write!(f, "service {octet:#04x} is not in the table"),
             Error::InvalidRequestedServiceId(octet) => {
                 write!(f, "unknown requested service {octet:#04x}")
             }
@@ -149,6 +161,9 @@ impl fmt::Display for Error {
                     "record has the terminator's mode or a node ID that is not one of 1 to 239"
                 )
             }
+            Error::NotATable => write!(f, "no table of services: under 5 octets, or its mark is not PLS, or its version not 1"),
+            Error::NotAscending => write!(f, "IDs of a table of services are not strictly ascending"),
+            Error::WithoutStatusResponse => write!(f, "table of services has no 2, which is StatusResponse"),
         }
     }
 }

@@ -7,8 +7,9 @@
 //! place of the declared size; borrows see to it that nothing else reaches what is written during a
 //! call. No function keeps a pointer, and none unwinds.
 //!
-//! The two `*_new` are linked by a name with the interface's number, [`VERSION`](crate::VERSION),
-//! so that a program that makes a state does not link with another one.
+//! The two `*_new` are linked by a name with the interface's number, [`VERSION`](crate::VERSION), and
+//! a function whose parameters have changed by one with the number of that change: a program that
+//! calls one of them does not link with an archive that takes others.
 use crate::codes::MessageType;
 use crate::collector::{RequestFields, COLLECTOR_LEN};
 use crate::error::Error;
@@ -17,10 +18,20 @@ use crate::frame::{
     SoAFrame, SocFrame, StaticErrorBitField, StatusFields,
 };
 use crate::reporter::{AnswerFields, REPORTER_LEN};
+use crate::services::{ServiceId, Services, SERVICES_LEN};
 use crate::types::NodeId;
 
 extern "C" {
+    fn powerlink_services_load(
+        file: *const u8,
+        file_len: usize,
+        services: &mut [u8; SERVICES_LEN],
+    ) -> u8;
+    fn powerlink_services_contains(services: &[u8; SERVICES_LEN], id: u8, held: &mut bool) -> u8;
+
+    #[link_name = "powerlink_deserialize_frame_v2"]
     fn powerlink_deserialize_frame(
+        services: &[u8; SERVICES_LEN],
         buffer: *const u8,
         buffer_len: usize,
         values: &mut [u64; 16],
@@ -122,7 +133,9 @@ extern "C" {
         written: &mut usize,
         octet: &mut u8,
     ) -> u8;
+    #[link_name = "powerlink_serialize_asnd_v2"]
     fn powerlink_serialize_asnd(
+        services: &[u8; SERVICES_LEN],
         destination: u8,
         source: u8,
         service: u8,
@@ -239,7 +252,9 @@ extern "C" {
         written: &mut usize,
         octet: &mut u8,
     ) -> u8;
+    #[link_name = "powerlink_new_asnd_v2"]
     fn powerlink_new_asnd(
+        services: &[u8; SERVICES_LEN],
         source_mac: &[u8; 6],
         dest_mac: &[u8; 6],
         target_node: u8,
@@ -253,7 +268,7 @@ extern "C" {
         octet: &mut u8,
     ) -> u8;
 
-    #[link_name = "powerlink_reporter_new_v1"]
+    #[link_name = "powerlink_reporter_new_v2"]
     fn powerlink_reporter_new(state: &mut [u8; REPORTER_LEN], id: u8) -> u8;
     fn powerlink_reporter_raise(
         state: &mut [u8; REPORTER_LEN],
@@ -266,8 +281,10 @@ extern "C" {
         nanoseconds: u32,
         information: u64,
     ) -> u8;
+    #[link_name = "powerlink_reporter_answer_v2"]
     fn powerlink_reporter_answer(
         state: &mut [u8; REPORTER_LEN],
+        services: &[u8; SERVICES_LEN],
         source_mac: &[u8; 6],
         dest_mac: &[u8; 6],
         ec: bool,
@@ -280,8 +297,10 @@ extern "C" {
         written: &mut usize,
         octet: &mut u8,
     ) -> u8;
+    #[link_name = "powerlink_reporter_read_v2"]
     fn powerlink_reporter_read(
         state: &mut [u8; REPORTER_LEN],
+        services: &[u8; SERVICES_LEN],
         buffer: *const u8,
         buffer_len: usize,
         outcome: &mut u8,
@@ -289,11 +308,13 @@ extern "C" {
     ) -> u8;
     fn powerlink_reporter_en(state: &[u8; REPORTER_LEN], en: &mut bool) -> u8;
 
-    #[link_name = "powerlink_collector_new_v1"]
+    #[link_name = "powerlink_collector_new_v2"]
     fn powerlink_collector_new(state: &mut [u8; COLLECTOR_LEN]) -> u8;
     fn powerlink_collector_register(state: &mut [u8; COLLECTOR_LEN], id: u8) -> u8;
+    #[link_name = "powerlink_collector_read_v2"]
     fn powerlink_collector_read(
         state: &mut [u8; COLLECTOR_LEN],
+        services: &[u8; SERVICES_LEN],
         buffer: *const u8,
         buffer_len: usize,
         outcome: &mut u8,
@@ -356,11 +377,34 @@ fn reading<T>(mut value: T, call: impl FnOnce(&mut T, &mut u8) -> u8) -> Result<
     Ok(value)
 }
 
+// Tables of services.
+
+pub fn services_load(file: &[u8]) -> Result<[u8; SERVICES_LEN], Error> {
+    reading([0; SERVICES_LEN], |services, _| unsafe {
+        powerlink_services_load(file.as_ptr(), file.len(), services)
+    })
+}
+
+pub fn services_contains(services: &Services, id: ServiceId) -> bool {
+    let mut held = false;
+    // It refuses nothing: the answer is always 0.
+    unsafe {
+        powerlink_services_contains(services.as_bytes(), id.0, &mut held);
+    }
+    held
+}
+
 // Reading.
 
-pub fn deserialize_frame(buffer: &[u8]) -> Result<[u64; 16], Error> {
+pub fn deserialize_frame(services: &Services, buffer: &[u8]) -> Result<[u64; 16], Error> {
     reading([0; 16], |values, octet| unsafe {
-        powerlink_deserialize_frame(buffer.as_ptr(), buffer.len(), values, octet)
+        powerlink_deserialize_frame(
+            services.as_bytes(),
+            buffer.as_ptr(),
+            buffer.len(),
+            values,
+            octet,
+        )
     })
 }
 
@@ -512,15 +556,17 @@ pub fn serialize_soa(frame: &SoAFrame, target: &mut [u8]) -> Result<usize, Error
 }
 
 pub fn serialize_asnd(
+    services: &Services,
     frame: &ASndFrame,
     payload: &[u8],
     target: &mut [u8],
 ) -> Result<usize, Error> {
     writing(|written, octet| unsafe {
         powerlink_serialize_asnd(
+            services.as_bytes(),
             frame.destination.0,
             frame.source.0,
-            frame.service_id as u8,
+            frame.service_id.0,
             payload.as_ptr(),
             payload.len(),
             target.as_mut_ptr(),
@@ -696,14 +742,19 @@ pub fn new_soa(new: &NewFrame<'_, SoAFrame>, target: &mut [u8]) -> Result<usize,
     })
 }
 
-pub fn new_asnd(new: &NewFrame<'_, ASndFrame>, target: &mut [u8]) -> Result<usize, Error> {
+pub fn new_asnd(
+    services: &Services,
+    new: &NewFrame<'_, ASndFrame>,
+    target: &mut [u8],
+) -> Result<usize, Error> {
     writing(|written, octet| unsafe {
         powerlink_new_asnd(
+            services.as_bytes(),
             &new.eth_header.source_mac.0,
             &new.eth_header.destination_mac.0,
             new.frame.destination.0,
             new.frame.source.0,
-            new.frame.service_id as u8,
+            new.frame.service_id.0,
             new.payload.as_ptr(),
             new.payload.len(),
             target.as_mut_ptr(),
@@ -740,12 +791,14 @@ pub fn reporter_raise(state: &mut [u8; REPORTER_LEN], entry: &ErrorEntry) -> Res
 
 pub fn reporter_answer(
     state: &mut [u8; REPORTER_LEN],
+    services: &Services,
     fields: &AnswerFields,
     target: &mut [u8],
 ) -> Result<usize, Error> {
     writing(|written, octet| unsafe {
         powerlink_reporter_answer(
             state,
+            services.as_bytes(),
             &fields.source_mac.0,
             &fields.dest_mac.0,
             fields.ec_flag,
@@ -762,9 +815,20 @@ pub fn reporter_answer(
 }
 
 /// 0 where the frame is ignored, 1 where its EA closes nothing, 2 where it closes the batch.
-pub fn reporter_read(state: &mut [u8; REPORTER_LEN], buffer: &[u8]) -> Result<u8, Error> {
+pub fn reporter_read(
+    state: &mut [u8; REPORTER_LEN],
+    services: &Services,
+    buffer: &[u8],
+) -> Result<u8, Error> {
     reading(0, |outcome, octet| unsafe {
-        powerlink_reporter_read(state, buffer.as_ptr(), buffer.len(), outcome, octet)
+        powerlink_reporter_read(
+            state,
+            services.as_bytes(),
+            buffer.as_ptr(),
+            buffer.len(),
+            outcome,
+            octet,
+        )
     })
 }
 
@@ -790,9 +854,20 @@ pub fn collector_register(state: &mut [u8; COLLECTOR_LEN], id: NodeId) -> Result
 }
 
 /// 0 where the batch is known, 1 where it is booked.
-pub fn collector_read(state: &mut [u8; COLLECTOR_LEN], buffer: &[u8]) -> Result<u8, Error> {
+pub fn collector_read(
+    state: &mut [u8; COLLECTOR_LEN],
+    services: &Services,
+    buffer: &[u8],
+) -> Result<u8, Error> {
     reading(0, |outcome, octet| unsafe {
-        powerlink_collector_read(state, buffer.as_ptr(), buffer.len(), outcome, octet)
+        powerlink_collector_read(
+            state,
+            services.as_bytes(),
+            buffer.as_ptr(),
+            buffer.len(),
+            outcome,
+            octet,
+        )
     })
 }
 

@@ -30,8 +30,8 @@
 //! #     static_error_bit_field: StaticErrorBitField::default(),
 //! # };
 //! # let mut line = [0; 132];
-//! # let n = head.answer(&fields, &mut line)?;
-//! # the_box.read(&line[..n])?;
+//! # let n = head.answer(&Services::DS301, &fields, &mut line)?;
+//! # the_box.read(&Services::DS301, &line[..n])?;
 //! // What the box has booked of node 7 goes into a journal.
 //! let mut octets = journal::START.to_vec();
 //! while let Ok(entry) = the_box.take(NodeId(7)) {

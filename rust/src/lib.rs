@@ -11,6 +11,10 @@
 //! Ethernet header. Payloads are lent: reading gives a part of the caller's octets, and writing
 //! takes a slice.
 //!
+//! Which services of an ASnd are known, a table says: whatever reads or writes one takes
+//! [`Services`], and refuses with 6 what the table does not hold. [`Services::default`] is the
+//! table of DS 301; [`Services::load`] takes that of a house from a file.
+//!
 //! # The exchange
 //!
 //! A [`Reporter`] is a head's side: entries are raised, and answered batch by batch in
@@ -22,6 +26,7 @@
 //! use powerlink::*;
 //!
 //! # fn main() -> Result<(), Error> {
+//! let services = Services::default();
 //! let mut head = Reporter::new(NodeId(7))?;
 //! let mut the_box = Collector::new();
 //! the_box.register(NodeId(7))?;
@@ -50,9 +55,9 @@
 //!     static_error_bit_field: StaticErrorBitField::default(),
 //! };
 //! let mut line = [0; 132];
-//! let n = head.answer(&fields, &mut line)?;
-//! assert_eq!(the_box.read(&line[..n])?, CollectorRead::Booked);
-//! assert_eq!(the_box.read(&line[..n])?, CollectorRead::Known);
+//! let n = head.answer(&services, &fields, &mut line)?;
+//! assert_eq!(the_box.read(&services, &line[..n])?, CollectorRead::Booked);
+//! assert_eq!(the_box.read(&services, &line[..n])?, CollectorRead::Known);
 //!
 //! // The box's next request acknowledges, and the head closes its batch.
 //! let fields = RequestFields {
@@ -61,7 +66,7 @@
 //!     epl_version: EPLVersion(0x20),
 //! };
 //! let n = the_box.request(NodeId(7), &fields, &mut line)?;
-//! assert_eq!(head.read(&line[..n])?, ReporterRead::Closed);
+//! assert_eq!(head.read(&services, &line[..n])?, ReporterRead::Closed);
 //!
 //! assert_eq!(the_box.take(NodeId(7))?, fault);
 //! assert_eq!(the_box.take(NodeId(7)), Err(Error::NothingBooked));
@@ -93,6 +98,9 @@
 //! behind its first entries these are booked, and the others are lost. A head of another supplier
 //! may send more than the four entries of ours.
 //!
+//! **Tables.** Each call takes any table of [`Services`], another one from call to call if need be:
+//! what is booked and acknowledged does not depend on it, since every table holds StatusResponse.
+//!
 //! **Threads.** Both states are `Send` and `Sync`, and no call has a state of its own: separate
 //! states go on at the same time, and for one state `&mut` is the lock, or asks for one. Where it
 //! is shared, the lock is held until the frame is in its place in the order of sending, from a
@@ -106,7 +114,8 @@
 //! and before any later frame leaves, a head's before the answer itself leaves; whole, by a file
 //! written anew, flushed and renamed. A cycle that reads, answers, saves and then sends does so. A
 //! fault is accepted once the state after its [`Reporter::raise`] is saved. What else happens is
-//! told at [`Reporter`] and [`Collector`]. Saved octets are of one [`VERSION`] alone.
+//! told at [`Reporter`] and [`Collector`]. Saved octets are of one [`VERSION`] alone, unless it is
+//! said there.
 //!
 //! **The journal.** If the state is saved after the journal is written, a power cut between them
 //! lists an entry twice; if before, it loses one. So the journal's length is saved with the state,
@@ -130,11 +139,12 @@
 //! (`crates/powerlink` and what it builds on): that each answers as its definitions in
 //! `crates/*/specs/` say, and that in the exchange no error is lost and none listed twice. **This
 //! wrapper is not proved**, only tested: the declarations of the functions in `src/ffi.rs`, the
-//! conversions between their numbers and the types here, the tables of codes, `new`, and what is
-//! plain Rust. Neither is the compiler that made the archive, nor what the host does.
+//! conversions between their numbers and the types here, the tables of codes, [`Services::DS301`],
+//! `new`, and what is plain Rust. Neither is the compiler that made the archive, nor what the host
+//! does.
 //!
-//! A program that makes a state does not link with an archive of another [`VERSION`]. No call
-//! panics, unless the archive does not keep what its source promises, or there is no memory to
+//! A program that makes a state, or calls a function whose parameters are others there, does not
+//! link with an archive of another [`VERSION`]. No call panics, unless the archive does not keep what its source promises, or there is no memory to
 //! allocate: a [`Collector`] is boxed, and [`StatusFields::serialize`] gathers its entries.
 //!
 //! # For readers of powerlink-rs
@@ -144,11 +154,13 @@
 //! ([`Frame`], [`NewFrame`]) and no more in it; `message_type` goes with the kind;
 //! `StatusResponsePayload` is [`StatusFields`] for writing and [`StatusResponse`] for reading,
 //! with an iterator over the entries. `Codec` and `CodecHelpers` are methods and functions here.
-//! `PRFlag::try_from` and `EntryType::from_u16` cannot fail, and say so; a mode that is none is
-//! [`UnknownMode`], and a node ID [`NodeIdError`], neither of which is an [`Error`].
-//! `MessageType::try_from` fails with an [`Error`], and a slice of another length than an array is
-//! [`Error::BufferTooShort`]. `deserialize_pl_header` gives a [`PlHeader`], and writing a header
-//! answers with a `Result`. Not here are the constants for sizes and for the nodes 253 and 254,
+//! [`ServiceId`] is a number, with constants for the twelve names of the enum there; it is known
+//! where a table holds it, and [`Services::DS301`] holds these twelve. `PRFlag::try_from` and
+//! `EntryType::from_u16` cannot fail, and say so; a mode that is none is [`UnknownMode`], and a
+//! node ID [`NodeIdError`], neither of which is an [`Error`]. `MessageType::try_from` fails with an
+//! [`Error`], and a slice of another length than an array is [`Error::BufferTooShort`].
+//! `deserialize_pl_header` gives a [`PlHeader`], and writing a header answers with a `Result`. Not
+//! here are the constants for sizes and for the nodes 253 and 254,
 //! `TimeOfDay`, `TimeDifference`, `NodeType`, the aliases of basic types, the sums of `NetTime`
 //! and `RelativeTime`, `PayloadSize`, the mapping of PDOs, `from_u8_with_context`, whose context
 //! changes nothing, and what leads to the state machines. Where the behaviour differs is in
@@ -169,16 +181,20 @@ mod frame;
 pub mod journal;
 mod numbers;
 mod reporter;
+mod services;
 mod types;
 
 /// The number of the library's interface. It rises with each change of a function's parameters or
-/// of a state's length; a program that makes a state does not link with another one, and states
-/// that were saved with another one are not gone on from.
-pub const VERSION: u32 = 1;
+/// of a state's length; a program that makes a state, or calls a function that has changed since,
+/// does not link with another one, and states that were saved with another one are not gone on
+/// from, unless it is said here.
+///
+/// Version 2 has tables of [`Services`]. Its states have the octets of version 1: what was saved
+/// there goes on here.
+pub const VERSION: u32 = 2;
 
 pub use codes::{
-    ErrorEntryMode, MessageType, NmtState, PRFlag, RSFlag, RequestedServiceId, ServiceId,
-    UnknownMode,
+    ErrorEntryMode, MessageType, NmtState, PRFlag, RSFlag, RequestedServiceId, UnknownMode,
 };
 pub use collector::{Collector, CollectorRead, RequestFields, COLLECTOR_LEN};
 pub use common::{NetTime, RelativeTime};
@@ -191,6 +207,7 @@ pub use frame::{
     StatusFields, StatusResponse,
 };
 pub use reporter::{AnswerFields, Reporter, ReporterRead, REPORTER_LEN};
+pub use services::{ServiceId, Services, SERVICES_LEN};
 pub use types::{
     EPLVersion, NodeId, NodeIdError, PDOVersion, C_ADR_BROADCAST_NODE_ID, C_ADR_MAX_CN_NODE_ID,
     C_ADR_MN_DEF_NODE_ID, C_DLL_ETHERTYPE_EPL, C_DLL_MULTICAST_ASND, C_DLL_MULTICAST_PRES,

@@ -3,6 +3,7 @@ use crate::codes::{NmtState, PRFlag, RSFlag};
 use crate::ffi;
 use crate::frame::{ErrorEntry, MacAddress, StaticErrorBitField};
 use crate::numbers::broken;
+use crate::services::Services;
 use crate::types::NodeId;
 use crate::Error;
 use core::fmt;
@@ -75,14 +76,22 @@ impl Reporter {
     /// 52 and 20 for each of up to four. Where none is open and entries wait, the first four become
     /// the open batch, and EN flips. A shorter target is refused (1), and then no batch opens. The
     /// state is saved before the answer leaves.
-    pub fn answer(&mut self, fields: &AnswerFields, target: &mut [u8]) -> Result<usize, Error> {
-        ffi::reporter_answer(&mut self.0, fields, target)
+    ///
+    /// The answer is an ASnd, whose writers take a table. Every table holds StatusResponse, so that
+    /// the result is the same for all of them.
+    pub fn answer(
+        &mut self,
+        services: &Services,
+        fields: &AnswerFields,
+        target: &mut [u8],
+    ) -> Result<usize, Error> {
+        ffi::reporter_answer(&mut self.0, services, fields, target)
     }
 
     /// Reads a frame: a PReq to this node or an SoA with it as target, from the managing node,
     /// holds EA. Refuses what [`deserialize_frame`](crate::deserialize_frame) refuses (1 to 7).
-    pub fn read(&mut self, buffer: &[u8]) -> Result<ReporterRead, Error> {
-        Ok(match ffi::reporter_read(&mut self.0, buffer)? {
+    pub fn read(&mut self, services: &Services, buffer: &[u8]) -> Result<ReporterRead, Error> {
+        Ok(match ffi::reporter_read(&mut self.0, services, buffer)? {
             0 => ReporterRead::Ignored,
             1 => ReporterRead::Kept,
             2 => ReporterRead::Closed,
@@ -95,7 +104,8 @@ impl Reporter {
         ffi::reporter_en(&self.0)
     }
 
-    /// The octets of the state, to be saved: they are of one [`VERSION`](crate::VERSION) alone.
+    /// The octets of the state, to be saved; [`VERSION`](crate::VERSION) says which are gone on
+    /// from.
     pub fn as_bytes(&self) -> &[u8; REPORTER_LEN] {
         &self.0
     }

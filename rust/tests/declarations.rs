@@ -1,5 +1,5 @@
 //! The declarations in src/ffi.rs against the library's source, ../crates/powerlink/src: the same
-//! functions, with the same parameters in the same order, and states of the same length.
+//! functions, with the same parameters in the same order, and states and tables of the same length.
 use std::collections::BTreeMap;
 use std::fs;
 use std::path::{Path, PathBuf};
@@ -39,6 +39,8 @@ fn declared(name: &str, kind: &str) -> String {
         "&Reporter" => format!("{name}: &[u8; REPORTER_LEN]"),
         "&mut Collector" => format!("{name}: &mut [u8; COLLECTOR_LEN]"),
         "&Collector" => format!("{name}: &[u8; COLLECTOR_LEN]"),
+        "&mut Services" => format!("{name}: &mut [u8; SERVICES_LEN]"),
+        "&Services" => format!("{name}: &[u8; SERVICES_LEN]"),
         _ => format!("{name}: {kind}"),
     }
 }
@@ -67,17 +69,19 @@ fn source(folder: &Path) -> String {
         .collect()
 }
 
-/// Declarations under the names that they are linked by. Such a name is the function's own and the
-/// interface's number.
+/// Declarations under the names that they are linked by. Such a name is the function's own and an
+/// interface's number: the present one's, or that of the last change of its parameters.
 fn as_linked(declarations: &str) -> String {
     let mut pieces = declarations.split("#[link_name = \"");
     let mut linked = pieces.next().unwrap_or_default().to_string();
     for piece in pieces {
         let (name, rest) = piece.split_once("\"]").expect("a name ends");
-        let own = format!(
-            "fn {}(",
-            name.trim_end_matches(&format!("_v{}", powerlink::VERSION))
+        let (plain, number) = name.rsplit_once("_v").expect("a number ends it");
+        assert!(
+            (2..=powerlink::VERSION).contains(&number.parse().unwrap()),
+            "{name}"
         );
+        let own = format!("fn {plain}(");
         let (_, rest) = rest
             .split_once(&own)
             .unwrap_or_else(|| panic!("{name} is not the name of the function behind it"));
@@ -139,10 +143,10 @@ fn constant(text: &str, name: &str) -> usize {
         .sum()
 }
 
-/// The library writes as many octets of a state as its source says: the states here must have them,
-/// and so must a place for a record.
+/// The library writes as many octets of a state or a table as its source says: those here must have
+/// them, and so must a place for a record.
 #[test]
-fn states_and_records_are_as_long_as_in_the_source() {
+fn states_tables_and_records_are_as_long_as_in_the_source() {
     let Some(crates) = crates() else {
         return;
     };
@@ -152,8 +156,45 @@ fn states_and_records_are_as_long_as_in_the_source() {
     assert_eq!(powerlink::REPORTER_LEN, reporter);
     let collector = constant(&(read("collector") + &entries), "COLLECTOR_LEN");
     assert_eq!(powerlink::COLLECTOR_LEN, collector);
+    let services = constant(&read("services"), "SERVICES_LEN");
+    assert_eq!(powerlink::SERVICES_LEN, services);
     let record = constant(&(read("journal_records") + &entries), "JOURNAL_RECORD_LEN");
     assert_eq!(powerlink::journal::RECORD_LEN, record);
+}
+
+/// The constants of a text, by name and octet, that stand between `kind` and `end`.
+fn octets(text: &str, kind: &str, end: &str) -> Vec<(String, u8)> {
+    let constants = text.split("pub const ").skip(1);
+    let named = constants.filter_map(|line| line.split_once(kind));
+    let found = named.filter(|(name, _)| !name.contains(':'));
+    let parse = |octet: &str| u8::from_str_radix(octet.trim_start_matches("0x"), 16).unwrap();
+    found
+        .map(|(name, rest)| (name.to_string(), parse(rest.split_once(end).unwrap().0)))
+        .collect()
+}
+
+/// The twelve services have the names and numbers of the source, and their table is its table.
+#[test]
+fn services_are_those_of_the_source() {
+    let Some(crates) = crates() else {
+        return;
+    };
+    let source = source(&crates.join("services"));
+    let theirs = octets(&source, ": u8 = ", ";");
+    let ours = include_str!("../src/services.rs");
+    let ours = octets(ours, ": ServiceId = ServiceId(", ")");
+    assert_eq!(ours.len(), 12);
+    assert_eq!(ours, theirs);
+
+    let (_, table) = source.split_once("const DS301: Services = [").unwrap();
+    let (table, _) = table.split_once(']').unwrap();
+    let table: Vec<u8> = table
+        .split(',')
+        .map(str::trim)
+        .filter(|octet| !octet.is_empty())
+        .map(|octet| octet.parse().unwrap())
+        .collect();
+    assert_eq!(powerlink::Services::DS301.as_bytes()[..], table);
 }
 
 /// Header and crate are of one version: what is saved by a program in C, one in Rust goes on from.

@@ -11,6 +11,7 @@ static const uint8_t to[POWERLINK_MAC_LEN] = {0x02, 0xA1, 0xB2, 0xC3, 0xD4, 0xE5
 static const uint8_t to_soc[POWERLINK_MAC_LEN] = POWERLINK_MULTICAST_SOC;
 static const uint8_t to_pres[POWERLINK_MAC_LEN] = POWERLINK_MULTICAST_PRES;
 static const uint8_t to_soa[POWERLINK_MAC_LEN] = POWERLINK_MULTICAST_SOA;
+static const uint8_t services[POWERLINK_SERVICES_LEN] = POWERLINK_DS301_SERVICES;
 static const uint8_t payload[40] = {1, 2, 3, 4, 5, 6, 7, 8, 9, 10};
 static uint8_t octet = 0xEE;
 
@@ -45,8 +46,8 @@ static uint8_t whole(uint8_t kind, uint8_t *target, size_t len, size_t *written)
         return powerlink_new_soa(from, POWERLINK_OPERATIONAL, true, false, POWERLINK_STATUS_REQUEST, 7, 0x20, target, len,
             written, &octet);
     default:
-        return powerlink_new_asnd(from, to, POWERLINK_BROADCAST_NODE, 7, POWERLINK_SDO, payload, sizeof payload, target, len,
-            written, &octet);
+        return powerlink_new_asnd(services, from, to, POWERLINK_BROADCAST_NODE, 7, POWERLINK_SDO, payload, sizeof payload,
+            target, len, written, &octet);
     }
 }
 
@@ -65,8 +66,8 @@ static uint8_t section(uint8_t kind, uint8_t *target, size_t len, size_t *writte
         return powerlink_serialize_soa(POWERLINK_BROADCAST_NODE, POWERLINK_MN_NODE, POWERLINK_OPERATIONAL, true, false,
             POWERLINK_STATUS_REQUEST, 7, 0x20, target, len, written, &octet);
     default:
-        return powerlink_serialize_asnd(POWERLINK_BROADCAST_NODE, 7, POWERLINK_SDO, payload, sizeof payload, target, len,
-            written, &octet);
+        return powerlink_serialize_asnd(services, POWERLINK_BROADCAST_NODE, 7, POWERLINK_SDO, payload, sizeof payload, target,
+            len, written, &octet);
     }
 }
 

@@ -41,7 +41,8 @@ static void head_answers(unsigned entries, uint16_t first, unsigned en)
 
     answered = answer();
     want("the answer's length", answered.len, entries == 0 ? 60 : 52 + 20 * entries);
-    want("reading the answer", powerlink_deserialize_frame(answered.octets, answered.len, frame, &octet), POWERLINK_DONE);
+    want("reading the answer", powerlink_deserialize_frame(services, answered.octets, answered.len, frame, &octet),
+        POWERLINK_DONE);
     want("message type", frame[POWERLINK_MESSAGE_TYPE], POWERLINK_ASND);
     want("destination", frame[POWERLINK_DESTINATION], ALL);
     want("source", frame[POWERLINK_SOURCE], HEAD);
@@ -67,7 +68,8 @@ static void box_requests(unsigned ea)
 
     requested = request();
     want("the request's length", requested.len, POWERLINK_REQUEST_LEN);
-    want("reading the request", powerlink_deserialize_frame(requested.octets, requested.len, frame, &octet), POWERLINK_DONE);
+    want("reading the request", powerlink_deserialize_frame(services, requested.octets, requested.len, frame, &octet),
+        POWERLINK_DONE);
     want("message type", frame[POWERLINK_MESSAGE_TYPE], POWERLINK_SOA);
     want("source", frame[POWERLINK_SOURCE], MN);
     want("EA", frame[POWERLINK_SOA_EA], ea);
@@ -115,11 +117,13 @@ static void refused_by_the_exchange(void)
 
     /* The box takes no request for an answer, and the head no answer for a request. */
     want("the box reading a request",
-        powerlink_collector_read(box, requested.octets, requested.len, &outcome, &octet), POWERLINK_NOT_STATUS_RESPONSE);
-    want("reading a cut frame", powerlink_reporter_read(head, requested.octets, 13, &outcome, &octet), POWERLINK_TOO_SHORT);
+        powerlink_collector_read(box, services, requested.octets, requested.len, &outcome, &octet),
+        POWERLINK_NOT_STATUS_RESPONSE);
+    want("reading a cut frame", powerlink_reporter_read(head, services, requested.octets, 13, &outcome, &octet),
+        POWERLINK_TOO_SHORT);
     want("the outcome", outcome, 0xEE);
     want("the head reading an answer",
-        powerlink_reporter_read(head, answered.octets, answered.len, &outcome, &octet), POWERLINK_DONE);
+        powerlink_reporter_read(head, services, answered.octets, answered.len, &outcome, &octet), POWERLINK_DONE);
     want("the outcome", outcome, POWERLINK_IGNORED);
     want("the octet", octet, 0xEE);
 }
@@ -169,7 +173,8 @@ static void refused_by_writers(void)
     want("a short request", powerlink_collector_request(box, HEAD, box_mac, 1, 0x20, small, sizeof small, &written, &octet),
         POWERLINK_TOO_SHORT);
     want("a short answer",
-        powerlink_reporter_answer(head, head_mac, box_mac, false, 0, 0, 1, field, small, sizeof small, &written, &octet),
+        powerlink_reporter_answer(
+            head, services, head_mac, box_mac, false, 0, 0, 1, field, small, sizeof small, &written, &octet),
         POWERLINK_TOO_SHORT);
     want("a section without its state",
         powerlink_serialize_pres(ALL, HEAD, 1, false, false, false, 0, 0, 0, 0, field, 0, small, 45, &written, &octet),
@@ -179,7 +184,8 @@ static void refused_by_writers(void)
         powerlink_serialize_pres(ALL, HEAD, 1, false, false, false, 0, 0, 0, 0, field, 0, small, 46, &written, &octet),
         POWERLINK_UNKNOWN_STATE);
     want("the octet", octet, 1);
-    want("service 6", powerlink_serialize_asnd(ALL, HEAD, 6, field, 0, small, 46, &written, &octet), POWERLINK_UNKNOWN_SERVICE);
+    want("service 6", powerlink_serialize_asnd(services, ALL, HEAD, 6, field, 0, small, 46, &written, &octet),
+        POWERLINK_UNKNOWN_SERVICE);
     want("the octet", octet, 6);
     want("requested service 9", powerlink_serialize_soa(ALL, MN, 0, false, false, 9, HEAD, 0, small, 46, &written, &octet),
         POWERLINK_UNKNOWN_REQUEST);

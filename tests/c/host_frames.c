@@ -92,8 +92,8 @@ static void status_of_the_host(void)
             &octet),
         POWERLINK_DONE);
     want("ASnd",
-        powerlink_new_asnd(head_mac, box_mac, ALL, HEAD, POWERLINK_STATUS_RESPONSE, payload, len, f.octets, sizeof f.octets,
-            &f.len, &octet),
+        powerlink_new_asnd(services, head_mac, box_mac, ALL, HEAD, POWERLINK_STATUS_RESPONSE, payload, len, f.octets,
+            sizeof f.octets, &f.len, &octet),
         POWERLINK_DONE);
     box_reads(f, POWERLINK_BOOKED);
     raise_entry(1);

@@ -4,7 +4,8 @@
  *     host_loop FOLDER
  *
  * Each end does the same in every cycle: it reads what has come, saves what has changed, and only then sends. The box also
- * takes what is booked and appends it to the journal before it saves, and saves the journal's length with its state. */
+ * takes what is booked and appends it to the journal before it saves, and saves the journal's length with its state. Both
+ * load the house's table of services when they start. */
 #define _POSIX_C_SOURCE 200809L
 #include "powerlink.h"
 #include "want.h"
@@ -12,7 +13,7 @@
 #include <setjmp.h>
 #include <unistd.h>
 
-enum { HEAD = 7, CYCLES = 80, LINE_LEN = 16, JOURNAL_VERSION = 1 };
+enum { HEAD = 7, CYCLES = 80, LINE_LEN = 16, JOURNAL_VERSION = 1, PRINTED = 0xA0 };
 
 static const uint8_t head_mac[POWERLINK_MAC_LEN] = {0x02, 0, 0, 0, 0, HEAD};
 static const uint8_t box_mac[POWERLINK_MAC_LEN] = {0x02, 0, 0, 0, 0, POWERLINK_MN_NODE};
@@ -98,7 +99,24 @@ static bool load(const char *name, void *octets, size_t len)
     return true;
 }
 
+/* ---- The table of services */
+
+/* That of the house: PRINTED, which is none of the twelve of DS 301, and of these only the one of the error exchange. */
+static const uint8_t house[] = {'P', 'L', 'S', 1, 0, POWERLINK_STATUS_RESPONSE, PRINTED};
+
+/* A host that starts loads its table, and does not go on where the file is refused. */
+static void load_services(uint8_t services[POWERLINK_SERVICES_LEN])
+{
+    uint8_t octets[5 + POWERLINK_SERVICES_LEN + 1]; /* the longest table, and one octet that no table has */
+    int file = open("services", O_RDONLY);
+    ssize_t len = read(file, octets, sizeof octets);
+    want("reading", len >= 0 && close(file) == 0, true);
+    want("a table of services", powerlink_services_load(octets, (size_t)len, services), POWERLINK_DONE);
+}
+
 /* ---- The box */
+
+static uint8_t box_services[POWERLINK_SERVICES_LEN];
 
 /* What it saves, in one file. */
 static struct {
@@ -139,6 +157,7 @@ static void box_starts(void)
     if (journal >= 0)
         close(journal);
     journal = open("journal", O_RDWR | O_CREAT | O_APPEND, 0666);
+    load_services(box_services);
     if (!load("box", &box, sizeof box))
         new_box();
     want("cutting", ftruncate(journal, (off_t)box.journal_len) == 0, true);
@@ -148,9 +167,10 @@ static void box_starts(void)
 static void box_reads(const struct frame *f)
 {
     uint8_t outcome = POWERLINK_KNOWN, octet;
-    uint8_t cause = powerlink_collector_read(box.state, f->octets, f->len, &outcome, &octet);
-    /* A PRes is no StatusResponse; what the book has no place for, the head sends again. On this line nothing else
-     * arrives: it would be a mistake. On a real one it is dropped. */
+    uint8_t cause = powerlink_collector_read(box.state, box_services, f->octets, f->len, &outcome, &octet);
+    /* A PRes is no StatusResponse, and neither is an ASnd of the house; what the book has no place for, the head sends
+     * again. On this line nothing else arrives, and no service that the table does not hold: it would be a mistake. On a
+     * real one it is dropped. */
     if (cause != POWERLINK_NOT_STATUS_RESPONSE && cause != POWERLINK_BOOK_FULL)
         want("the box's reading", cause, POWERLINK_DONE);
     changed = changed || outcome == POWERLINK_BOOKED;
@@ -217,6 +237,8 @@ static void box_cycle(uint64_t cycle)
 
 /* ---- The head */
 
+static uint8_t head_services[POWERLINK_SERVICES_LEN];
+
 /* What it saves, in one file: how many faults it has raised must not get ahead of its state, nor fall behind. */
 static struct {
     uint8_t state[POWERLINK_REPORTER_LEN];
@@ -225,6 +247,7 @@ static struct {
 
 static void head_starts(void)
 {
+    load_services(head_services);
     if (load("head", &head, sizeof head))
         return;
     want("a new head", powerlink_reporter_new(head.state, HEAD), POWERLINK_DONE);
@@ -258,6 +281,19 @@ static void head_is_polled(void)
     send_frame(&to_box, &f);
 }
 
+/* What the house has beside the exchange: an ASnd with a service of its own. */
+static void head_counts(void)
+{
+    static const uint8_t printed[] = {1, 2, 3};
+    struct frame f;
+    uint8_t octet;
+    want("an ASnd of the house",
+        powerlink_new_asnd(head_services, head_mac, box_mac, POWERLINK_MN_NODE, HEAD, PRINTED, printed, sizeof printed,
+            f.octets, sizeof f.octets, &f.len, &octet),
+        POWERLINK_DONE);
+    send_frame(&to_box, &f);
+}
+
 /* Answer may open a batch: that is saved before the box can book it. */
 static void head_answers(void)
 {
@@ -266,8 +302,8 @@ static void head_answers(void)
     struct frame f;
     uint8_t octet;
     want("Answer",
-        powerlink_reporter_answer(head.state, head_mac, dest_mac, false, 0, 0, POWERLINK_OPERATIONAL, field, f.octets,
-            sizeof f.octets, &f.len, &octet),
+        powerlink_reporter_answer(head.state, head_services, head_mac, dest_mac, false, 0, 0, POWERLINK_OPERATIONAL, field,
+            f.octets, sizeof f.octets, &f.len, &octet),
         POWERLINK_DONE);
     save("head", &head, sizeof head);
     send_frame(&to_box, &f);
@@ -277,10 +313,11 @@ static void head_reads(const struct frame *f)
 {
     uint64_t v[POWERLINK_FRAME_VALUES];
     uint8_t outcome, octet;
-    want("the head's reading", powerlink_reporter_read(head.state, f->octets, f->len, &outcome, &octet), POWERLINK_DONE);
+    want("the head's reading", powerlink_reporter_read(head.state, head_services, f->octets, f->len, &outcome, &octet),
+        POWERLINK_DONE);
     if (outcome == POWERLINK_CLOSED)
         save("head", &head, sizeof head);
-    want("reading", powerlink_deserialize_frame(f->octets, f->len, v, &octet), POWERLINK_DONE);
+    want("reading", powerlink_deserialize_frame(head_services, f->octets, f->len, v, &octet), POWERLINK_DONE);
     if (v[POWERLINK_MESSAGE_TYPE] == POWERLINK_PREQ && v[POWERLINK_DESTINATION] == HEAD)
         head_is_polled();
     if (v[POWERLINK_MESSAGE_TYPE] == POWERLINK_SOA && v[POWERLINK_SOA_TARGET] == HEAD &&
@@ -295,6 +332,7 @@ static void head_cycle(uint64_t cycle)
         head_raises();
     while (receive_frame(&to_head, &f))
         head_reads(&f);
+    head_counts();
 }
 
 /* ---- Both */
@@ -334,6 +372,7 @@ int main(int argc, char **argv)
     static uint64_t cycle;
     static unsigned cuts;
     want("a folder", argc == 2 && chdir(argv[1]) == 0, true);
+    save("services", house, sizeof house);
     box_starts();
     head_starts();
     /* When the line has become a good one, what is left needs at most as many exchanges as there are entries. */

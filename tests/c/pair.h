@@ -14,6 +14,9 @@ static const uint8_t field[POWERLINK_FIELD_LEN] = {1, 2, 3, 4, 5, 6, 7, 8};
 static uint8_t head[POWERLINK_REPORTER_LEN];
 static uint8_t box[POWERLINK_COLLECTOR_LEN];
 
+/* The table of both, unless a program loads another. */
+static uint8_t services[POWERLINK_SERVICES_LEN] = POWERLINK_DS301_SERVICES;
+
 /* A frame on the line. The longest is an answer with four entries. */
 struct frame {
     uint8_t octets[POWERLINK_ANSWER_MAX];
@@ -50,7 +53,7 @@ static inline struct frame answer(void)
     struct frame f;
     uint8_t octet;
     want("Answer",
-        powerlink_reporter_answer(head, head_mac, box_mac, false, 7, 9, POWERLINK_OPERATIONAL, field, f.octets,
+        powerlink_reporter_answer(head, services, head_mac, box_mac, false, 7, 9, POWERLINK_OPERATIONAL, field, f.octets,
             sizeof f.octets, &f.len, &octet),
         POWERLINK_DONE);
     return f;
@@ -59,7 +62,7 @@ static inline struct frame answer(void)
 static inline void box_reads(struct frame f, uint8_t outcome)
 {
     uint8_t octet, is = 0xEE;
-    want("the box's reading", powerlink_collector_read(box, f.octets, f.len, &is, &octet), POWERLINK_DONE);
+    want("the box's reading", powerlink_collector_read(box, services, f.octets, f.len, &is, &octet), POWERLINK_DONE);
     want("the box's outcome", is, outcome);
 }
 
@@ -77,7 +80,7 @@ static inline struct frame request(void)
 static inline void head_reads(struct frame f, uint8_t outcome)
 {
     uint8_t octet, is = 0xEE;
-    want("the head's reading", powerlink_reporter_read(head, f.octets, f.len, &is, &octet), POWERLINK_DONE);
+    want("the head's reading", powerlink_reporter_read(head, services, f.octets, f.len, &is, &octet), POWERLINK_DONE);
     want("the head's outcome", is, outcome);
 }
 

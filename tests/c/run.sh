@@ -51,25 +51,26 @@ elif nm -u "$lib" | grep ' U ' | grep -v -e ' memset$' -e ' memmove$' -e ' memcp
     exit 1
 fi
 
-# A header of another version than the archive's does not link.
+# A header of another version than the archive's does not link: of the first one, each call that has changed since.
 mkdir "$out/other"
-sed 's/_new_v1$/_new_v0/' include/powerlink.h > "$out/other/powerlink.h"
-for end in collector reporter; do
-    printf '%s\n' '#include "powerlink.h"' 'static void (*volatile made)(void);' \
-        "int main(void) { made = (void (*)(void))powerlink_${end}_new; return made == 0; }" > "$out/pair.c"
+sed 's/^\(#define powerlink_[a-z_]*_new .*\)_v[0-9]*$/\1_v1/; s/^\(#define powerlink_[a-z_]* .*\)_v[2-9][0-9]*$/\1/' include/powerlink.h > "$out/other/powerlink.h"
+for call in $(sed -n 's/^#define \(powerlink_[a-z_]*\) powerlink_.*_v[0-9]*$/\1/p' include/powerlink.h); do
+    printf '%s\n' '#include "powerlink.h"' 'static void (*volatile called)(void);' \
+        "int main(void) { called = (void (*)(void))$call; return called == 0; }" > "$out/pair.c"
     cc -std=c99 -Iinclude "$out/pair.c" "$lib" -o "$out/pair"
     if cc -std=c99 "-I$out/other" "$out/pair.c" "$lib" -o "$out/pair" 2> "$out/undefined"; then
-        echo "tests/c: powerlink_${end}_new of another version links"
+        echo "tests/c: $call of another version links"
         exit 1
     fi
-    grep -q "powerlink_${end}_new_v0" "$out/undefined"
+    grep -q "$call" "$out/undefined"
 done
 echo 'a header of another version does not link'
 
-for program in calls host_frames restarts host_loop any_header journal; do
+for program in calls services host_frames restarts host_loop any_header journal; do
     cc -std=c99 $warned "tests/c/$program.c" "$lib" -o "$out/$program"
 done
 "$out/calls"
+"$out/services"
 "$out/host_frames"
 "$out/restarts"
 mkdir "$out/host"

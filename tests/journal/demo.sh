@@ -53,8 +53,8 @@ fi
 (
     trap '' XFSZ
     ulimit -f 8
-    "$demo" "$dir/cut" 2>"$dir/errors" | cat >"$dir/out"
-)
+    "$demo" "$dir/cut" 2>"$dir/errors"
+) | cat >"$dir/out"
 says 'a disk that fills' 'demo: cannot write the journal\n'
 cmp "$dir/out" crates/demo/stdout
 "$demo" a b >"$dir/out" 2>"$dir/errors"

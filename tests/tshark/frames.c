@@ -24,6 +24,7 @@ static const uint8_t mac_b[POWERLINK_MAC_LEN] = {0x02, 0xA1, 0xB2, 0xC3, 0xD4, 0
 static const uint8_t states[] = {STATES(CODE)};
 static const char *const state_names[] = {STATES(NAME)};
 static const uint8_t services[] = {1, 2, 3, 4, 5, 0x0B, 0x0D, 0x0E, 0x0F, 0x10, 0x11, 0x12};
+static const uint8_t table[POWERLINK_SERVICES_LEN] = POWERLINK_DS301_SERVICES; /* which holds these */
 static const uint8_t requested[] = {0, 1, 2, 3, 0xFF};
 static const uint8_t nodes[] = {0, 1, 2, 7, 100, 127, 128, 239, 240, 241, 253, 254, 255};
 static const uint8_t versions[] = {0x00, 0x01, 0x0F, 0x10, 0x15, 0x20, 0x23, 0x7F, 0x80, 0xF0, 0xFF};
@@ -155,7 +156,7 @@ static void emit(const char *remark, uint64_t *v)
     size_t i;
     bool status;
 
-    want("reading", powerlink_deserialize_frame(frame, frame_len, v, &octet), POWERLINK_DONE);
+    want("reading", powerlink_deserialize_frame(table, frame, frame_len, v, &octet), POWERLINK_DONE);
     want("reading the Ethernet header", powerlink_deserialize_eth_header(frame, frame_len, to, from, &ether_type),
         POWERLINK_DONE);
     number++;
@@ -328,7 +329,9 @@ static void asnd(uint8_t node, uint8_t source, uint8_t service, size_t len)
     uint64_t values[] = {service};
     fresh();
     want("new_asnd",
-        powerlink_new_asnd(mac_a, mac_b, node, source, service, content, len, frame, sizeof frame, &frame_len, &octet), 0);
+        powerlink_new_asnd(
+            table, mac_a, mac_b, node, source, service, content, len, frame, sizeof frame, &frame_len, &octet),
+        0);
     said(POWERLINK_ASND, node, source, 1, values);
 }
 
@@ -338,7 +341,9 @@ static void asnd_section(uint8_t destination, uint8_t source, uint8_t service, s
     fresh();
     header(mac_b);
     want("serialize_asnd",
-        powerlink_serialize_asnd(destination, source, service, content, len, frame + ETH, MAX - ETH, &frame_len, &octet), 0);
+        powerlink_serialize_asnd(
+            table, destination, source, service, content, len, frame + ETH, MAX - ETH, &frame_len, &octet),
+        0);
     frame_len += ETH;
     said(POWERLINK_ASND, destination, source, 1, values);
 }
@@ -386,7 +391,9 @@ static void status(bool en, bool ec, uint8_t pr, uint8_t rs, uint8_t state, cons
     want("error field", memcmp(field, read, sizeof read) != 0, 0);
     fresh();
     want("new_asnd",
-        powerlink_new_asnd(mac_a, mac_b, ALL, 7, STATUS_RESPONSE, payload, len, frame, sizeof frame, &frame_len, &octet), 0);
+        powerlink_new_asnd(
+            table, mac_a, mac_b, ALL, 7, STATUS_RESPONSE, payload, len, frame, sizeof frame, &frame_len, &octet),
+        0);
     said(POWERLINK_ASND, ALL, 7, 1, values);
 }
 
@@ -607,18 +614,18 @@ static void all_signaling(void)
                 0);
         fresh();
         want("answer",
-            powerlink_reporter_answer(reporter, mac_a, mac_b, i & 1, (uint8_t)i, (uint8_t)i, POWERLINK_OPERATIONAL, field,
-                frame, sizeof frame, &frame_len, &octet),
+            powerlink_reporter_answer(reporter, table, mac_a, mac_b, i & 1, (uint8_t)i, (uint8_t)i, POWERLINK_OPERATIONAL,
+                field, frame, sizeof frame, &frame_len, &octet),
             0);
         emit("", v);
-        want("the box's reading", powerlink_collector_read(collector, frame, frame_len, &outcome, &octet), 0);
+        want("the box's reading", powerlink_collector_read(collector, table, frame, frame_len, &outcome, &octet), 0);
         fresh();
         want("request",
             powerlink_collector_request(collector, 11, mac_b, POWERLINK_OPERATIONAL, 0x20, frame, sizeof frame, &frame_len,
                 &octet),
             0);
         emit("", v);
-        want("the head's reading", powerlink_reporter_read(reporter, frame, frame_len, &outcome, &octet), 0);
+        want("the head's reading", powerlink_reporter_read(reporter, table, frame, frame_len, &outcome, &octet), 0);
     }
 }
 

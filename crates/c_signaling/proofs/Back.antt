@@ -7,7 +7,7 @@ use mathlib.Core.List.{List, [], _∷_, _++_}
 use native.Mathlib.Omega.{arith}
 use lib.ListN.{length, getD}
 use lib.Dec.{eqb, leb}
-use Rattle.types.specs.Causes.{Cause, row}
+use Rattle.types.specs.Causes.{Cause}
 use Rattle.types.specs.Codes.{pick}
 use Rattle.types.specs.Modes.{modeCode, modeOf}
 use Rattle.types.specs.PollFlags.{priorityCode}
@@ -18,7 +18,7 @@ use Rattle.types.proofs.ReadBack.{priority-known}
 use Rattle.types.specs.declared.states.NmtState.{NmtState}
 use Rattle.types.specs.declared.states.NmtStateAnswer.the-variants as state
 use Rattle.types.proofs.ReadBack.{codes-read-back}
-use Rattle.section.specs.Write.{writeAnswer, writeCause}
+use Rattle.section.specs.Write.{writeAnswer, writeCause, octets}
 use Rattle.section.specs.declared.WriteAnswer.{WriteAnswer}
 use Rattle.section.specs.declared.WriteAnswer.the-variants as write
 use Rattle.error_entry.specs.declared.ErrorEntry.{ErrorEntry}
@@ -31,6 +31,7 @@ use Rattle.reporter.specs.declared.AnswerFields.{AnswerFields}
 use Rattle.reporter.specs.declared.NewAnswer.{NewAnswer}
 use Rattle.reporter.specs.declared.RaiseAnswer.{RaiseAnswer}
 use Rattle.reporter.specs.declared.ReadAnswer.{ReadAnswer}
+use Rattle.reporter.proofs.AnyTable.{any-table, answer-writes}
 use Rattle.collector.specs.Calls as collector
 use Rattle.collector.specs.Layout.{accountOf}
 use Rattle.collector.specs.Rules as rules
@@ -40,8 +41,7 @@ use Rattle.collector.specs.declared.RequestAnswer.{RequestAnswer}
 use Rattle.collector.specs.declared.RequestFields.{RequestFields}
 use Rattle.collector.specs.declared.TakeAnswer.{TakeAnswer}
 use Rattle.c_values.specs.Answers.{lengthAfter, octetAfter, octetTold, valuesTold, RowTold}
-use Rattle.powerlink.specs.Reporting.{answerFields, answerWriting}
-use Rattle.powerlink.specs.Writing.{octets}
+use Rattle.powerlink.specs.Reporting.{answerFields, answerGiven}
 use Rattle.signaling.specs.Calls as signaling
 use Rattle.signaling.specs.Calls.{Origin, Event, raised, answered, headRead, registered, boxRead, requested, taken, World, Step, Run}
 use Rattle.c_signaling.specs.Calls.{Site, worldOf, CStep, raises, answers, headReads, registers, boxReads, requests, takes, hosts, CRun, fresh, call, StepsAreCalls}
@@ -129,46 +129,47 @@ module _ (i : ℕ) (s : Site) where
         same = rw (q, raise-number r);
       }
 
-  answer-back : (f : AnswerFields) (r : WriteAnswer) (after t t′ : List ℕ) → reporter.Answers f r (s .head) after t t′
+  answer-back : (services : List ℕ) (f : AnswerFields) (r : WriteAnswer) (after t t′ : List ℕ) → reporter.Answers services f r (s .head) after t t′
       → Comes i s (byHead after (answered r t′ ∷ []))
-  answer-back f r after t t′ c =
+  answer-back services f r after t t′ c =
       let k = f .«nmt_state» in
       let n = writeCause r .number in
       let m = lengthAfter r 0 in
       let q : stateOf (stateCode k) ≡ state.Known k = codes-read-back .states k in
       let b = fields-back f (c .sizes) in
       let bs = answerFrame f (opened (headOf (s .head))) in
-      let w : answerWriting (fieldsOf f) (stateCode k) (headOf (s .head)) ≡ octets bs =
-      rw q (ap (λ (g : AnswerFields). octets (answerFrame g (opened (headOf (s .head))))) b) in
-      let a = c .writes .answer in
+      let w : answerGiven services (fieldsOf f) (stateCode k) (headOf (s .head)) ≡ octets bs =
+      rw (q, b) (any-table .answer services f (opened (headOf (s .head)))) in
+      let y = answer-writes services f r (s .head) after t t′ c in
+      let a = y .answer in
       record {
         made = reporterAnswer (stateCode k) n t′ m;
         site = record { head = after; box = s .box; log = reporterAnswer (stateCode k) n t′ m ∷ s .log };
-        step = answers (f .«source_mac» .0) (f .«dest_mac» .0) (f .«ec_flag») (priorityCode (f .pr)) (f .rs .0)
+        step = answers services (f .«source_mac» .0) (f .«dest_mac» .0) (f .«ec_flag») (priorityCode (f .pr)) (f .rs .0)
             (fieldBytes (f .«static_error_bit_field»)) (stateCode k) n after t t′ 0 m 0 0
             (record {
               writes = record {
                 cause = ap (λ (x : WriteAnswer). writeCause x .number) a ∙ rw w;
-                target = c .writes .holds ∙ rw w;
+                target = y .holds ∙ rw w;
                 written = ap (λ (x : WriteAnswer). lengthAfter x 0) a ∙ rw w;
                 octet = kept-octet bs t ∙ rw w;
               };
-              answers = rw (q, b) (rw a at c);
+              answers = rw (q, b) (rw (c .writes .answer) at c);
             });
         same = rw (q, a, write-number bs t 0);
       }
 
-  read-back : (from : Origin) (bs : List ℕ) (r : ReadAnswer) (after : List ℕ)
-      → signaling.Delivered 240 from bs (signaling.tally i (events (s .log)) .requests)
-      → reporter.Reads bs r (s .head) after
-      → Comes i s (byHead after (headRead from bs r ∷ []))
-  read-back from bs r after d c =
+  read-back : (services : List ℕ) (from : Origin) (bs : List ℕ) (r : ReadAnswer) (after : List ℕ)
+      → signaling.Delivered services 240 from bs (signaling.tally i (events (s .log)) .requests)
+      → reporter.Reads services bs r (s .head) after
+      → Comes i s (byHead after (headRead services from bs r ∷ []))
+  read-back services from bs r after d c =
       let y = readCause r in
-      let p = reporterRead from bs (y .number) (value y) (octetTold y 0) in
+      let p = reporterRead services from bs (y .number) (value y) (octetTold y 0) in
       record {
         made = p;
         site = record { head = after; box = s .box; log = p ∷ s .log };
-        step = headReads from bs (y .number) 0 (value y) 0 (octetTold y 0) after d
+        step = headReads services from bs (y .number) 0 (value y) 0 (octetTold y 0) after d
             (record { told = row-told y _ (ap readCause (c .answer)); reads = rw (c .answer) at c });
         same = rw (read-row r (y .number) 0 (value y) 0 (octetTold y 0) (row-told y y refl));
       }
@@ -185,17 +186,17 @@ module _ (i : ℕ) (s : Site) where
         same = rw (register-number r);
       }
 
-  box-back : (from : Origin) (bs : List ℕ) (r : BoxReadAnswer) (after : List ℕ)
-      → signaling.Delivered i from bs (signaling.tally i (events (s .log)) .answers)
-      → collector.Reads bs r (s .box) after
-      → Comes i s (byBox after (boxRead from bs r ∷ []))
-  box-back from bs r after d c =
+  box-back : (services : List ℕ) (from : Origin) (bs : List ℕ) (r : BoxReadAnswer) (after : List ℕ)
+      → signaling.Delivered services i from bs (signaling.tally i (events (s .log)) .answers)
+      → collector.Reads services bs r (s .box) after
+      → Comes i s (byBox after (boxRead services from bs r ∷ []))
+  box-back services from bs r after d c =
       let y = rules.readCause r in
-      let p = collectorRead from bs (y .number) (value y) (octetTold y 0) in
+      let p = collectorRead services from bs (y .number) (value y) (octetTold y 0) in
       record {
         made = p;
         site = record { head = s .head; box = after; log = p ∷ s .log };
-        step = boxReads from bs (y .number) 0 (value y) 0 (octetTold y 0) after d
+        step = boxReads services from bs (y .number) 0 (value y) 0 (octetTold y 0) after d
             (record { told = row-told y _ (ap rules.readCause (c .answer)); reads = rw (c .answer) at c });
         same = rw (box-row r (y .number) 0 (value y) 0 (octetTold y 0) (row-told y y refl));
       }
@@ -237,10 +238,10 @@ module _ (i : ℕ) (s : Site) where
 
 comes : {i : ℕ} {s : Site} {x : Event} {v : World} → Step i (worldOf s) x v → Comes i s v
 comes {i} {s} (signaling.raise e r after c) = raise-back i s e r after c
-comes {i} {s} (signaling.answer f r after t t′ c) = answer-back i s f r after t t′ c
-comes {i} {s} (signaling.headReads from bs r after d c) = read-back i s from bs r after d c
+comes {i} {s} (signaling.answer services f r after t t′ c) = answer-back i s services f r after t t′ c
+comes {i} {s} (signaling.headReads services from bs r after d c) = read-back i s services from bs r after d c
 comes {i} {s} (signaling.register j r after c) = register-back i s j r after c
-comes {i} {s} (signaling.boxReads from bs r after d c) = box-back i s from bs r after d c
+comes {i} {s} (signaling.boxReads services from bs r after d c) = box-back i s services from bs r after d c
 comes {i} {s} (signaling.request j f r t t′ c) = request-back i s j f r t t′ c
 comes {i} {s} (signaling.takes j r after c) = take-back i s j r after c
 comes {i} {s} (signaling.hosts bs told) =

@@ -8,7 +8,6 @@ use mathlib.Core.Option.{Option}
 use lib.ListN.{length}
 use lib.Dec.{eqb, leb}
 use borrow.Author.Tests.{eqb-true, eqb-false}
-use Rattle.types.specs.Causes.{row}
 use Rattle.types.specs.Codes.{pick}
 use Rattle.types.specs.Modes.{modeOf}
 use Rattle.types.specs.States.{stateOf}
@@ -17,6 +16,7 @@ use Rattle.types.specs.declared.error_mode.ErrorEntryModeAnswer.the-variants as
 use Rattle.types.specs.declared.states.NmtState.{NmtState}
 use Rattle.types.specs.declared.states.NmtStateAnswer.{NmtStateAnswer}
 use Rattle.types.specs.declared.states.NmtStateAnswer.the-variants as state
+use Rattle.section.specs.Write.{Coded}
 use Rattle.section.specs.declared.WriteAnswer.the-variants as write
 use Rattle.error_entry.specs.declared.ErrorEntry.{ErrorEntry}
 use Rattle.reporter.specs.declared.RaiseAnswer.the-variants.{EntryInvalid, QueueFull}
@@ -29,7 +29,7 @@ use Rattle.collector.specs.declared.RequestAnswer.the-variants as requesting
 use Rattle.collector.specs.declared.RequestFields.{RequestFields}
 use Rattle.c_values.specs.Answers.{RowTold}
 use Rattle.powerlink.specs.Collecting.{requestBy, requestFields}
-use Rattle.powerlink.specs.Writing.{Coded, stated, WritesCoded}
+use Rattle.powerlink.specs.Writing.{stated, WritesCoded}
 use Rattle.signaling.specs.Calls.{Origin, sent, foreign, Event, raised, answered, requested, Log, World, Step}
 use Rattle.signaling.specs.Exchanges.{Quiet, AnswerAgain, RequestAgain, NoRepeat, Quietly, still, next, again, Exchange, Exchanges, done, more, Found}
 use Rattle.signaling.proofs.Facts.{either}
@@ -60,8 +60,8 @@ module _ {i : ℕ} {w v : World} where
   request-written j f (state.Known m) p t t′ n n′ o o′ c s = the-step s
 
 answer-0 : {i s n : ℕ} {t : List ℕ} {w v : Site} → CStep i w (reporterAnswer s 0 t n) v → Step i (worldOf w) (answered (write.Written n) t) (worldOf v)
-answer-0 {w} (calls.answers from to ec pr rs field s r after t t′ n n′ o o′ k) =
-    answer-written (stateOf s) _ _ t t′ n n′ o o′ (k .writes) (called {w = w} (calls.answers from to ec pr rs field s 0 after t t′ n n′ o o′ k))
+answer-0 {w} (calls.answers services from to ec pr rs field s r after t t′ n n′ o o′ k) =
+    answer-written (stateOf s) _ _ t t′ n n′ o o′ (k .writes) (called {w = w} (calls.answers services from to ec pr rs field s 0 after t t′ n n′ o o′ k))
 
 request-0 : {i j s n : ℕ} {t : List ℕ} {w v : Site} → CStep i w (collectorRequest j s 0 t n) v
     → Step i (worldOf w) (requested j (requesting.Written n) t) (worldOf v)
@@ -97,10 +97,10 @@ module _ (i : ℕ) where
   quiet-events : (x : Call) → CQuiet x → Each (Quiet i) (eventsOf x)
   quiet-events (reporterRaise g r) h = raise-quiet g (modeOf (g .mode)) r h
   quiet-events (reporterAnswer s r t n) h = answer-quiet (stateOf s) r t n
-  quiet-events (reporterRead from bs r k o) h = (tt, tt)
+  quiet-events (reporterRead services from bs r k o) h = (tt, tt)
   quiet-events (collectorRegister j r) h = (tt, tt)
-  quiet-events (collectorRead (sent p) bs r k o) h = absurd h
-  quiet-events (collectorRead foreign bs r k o) h = (tt, tt)
+  quiet-events (collectorRead services (sent p) bs r k o) h = absurd h
+  quiet-events (collectorRead services foreign bs r k o) h = (tt, tt)
   quiet-events (collectorRequest j s r t n) h = request-quiet j (stateOf s) r t n
   quiet-events (collectorTake j r vs) h = (tt, tt)
   quiet-events (hostSends bs) h = (tt, tt)
@@ -126,10 +126,10 @@ none-again : (x : Call) → CNoRepeat x → Each NoRepeat (eventsOf x)
 none-again x k = absurd k
 
 answer-again : (p : ℕ) (bs : List ℕ) (x : Call) → CAnswerAgain p bs x → Each (AnswerAgain p bs) (eventsOf x)
-answer-again p bs x k = rw (k .3) ((_, refl), tt)
+answer-again p bs x k = rw (k .4) ((_, _, refl), tt)
 
 request-again : (q : ℕ) (bs : List ℕ) (x : Call) → CRequestAgain q bs x → Each (RequestAgain q bs) (eventsOf x)
-request-again q bs x k = rw (k .3) ((_, refl), tt)
+request-again q bs x k = rw (k .4) ((_, _, refl), tt)
 
 -- ---- exchanges
 
@@ -144,6 +144,7 @@ exchange x =
       quiet₁ = quietly none-again (x .quiet₁);
       p = x .p;
       answerRead = x .answerRead;
+      boxServices = x .boxServices;
       boxSays = box.readTold (reading (x .boxNumber) (x .boxOutcome) (x .boxOctet));
       w₃ = worldOf (x .w₃);
       boxReads = the-step (called (x .boxReads));
@@ -158,6 +159,7 @@ exchange x =
       quiet₃ = quietly none-again (x .quiet₃);
       q = x .q;
       requestRead = x .requestRead;
+      headServices = x .headServices;
       headSays = _;
       w₇ = worldOf (x .w₇);
       headReads = the-step (called (x .headReads));
@@ -173,10 +175,10 @@ exchanges (ex.more l x xs) = more (quietly none-again l) (exchange x) (exchanges
 
 -- ---- 12 is a full book, and no other number is
 
-full-12 : {i r k o : ℕ} {from : Origin} {bs : List ℕ} {w v : Site} → CStep i w (collectorRead from bs r k o) v
+full-12 : {i r k o : ℕ} {services : List ℕ} {from : Origin} {bs : List ℕ} {w v : Site} → CStep i w (collectorRead services from bs r k o) v
     → box.readTold (reading r k o) ≡ BookFull → r ≡ 12
-full-12 {w} (calls.boxReads from bs r k k′ o o′ after d y) e =
-    y .told .cause ∙ ap (λ (a : ReadAnswer). readCause a .number) (sym (box-row (readAnswer bs (boxOf (w .box))) r k k′ o o′ (y .told)) ∙ e)
+full-12 {w} (calls.boxReads services from bs r k k′ o o′ after d y) e =
+    y .told .cause ∙ ap (λ (a : ReadAnswer). readCause a .number) (sym (box-row (readAnswer services bs (boxOf (w .box))) r k k′ o o′ (y .told)) ∙ e)
 
 pub found : {i n : ℕ} {w v : Site} (xs : CExchanges i n w v) → CFound xs → Found (exchanges xs)
 unfolding exchanges exchange

@@ -9,6 +9,7 @@ use Rattle.collector.specs.Layout.{accountOf}
 use Rattle.collector.specs.Rules.{Account, flagsAnswer, flagsCause}
 use Rattle.c_values.specs.Answers.{flagTold}
 use Rattle.signaling.specs.Calls.{eaOf}
+use Rattle.signaling.proofs.Host.{same-ea}
 use Rattle.c_signaling.specs.Calls.{CFlagsTell}
 
 told-ea : (p : Option Account) (a a′ : Bool) → 0 ≡ flagsCause (flagsAnswer p) .number → a′ ≡ flagTold (flagsCause (flagsAnswer p)) 0 a → a′ ≡ eaOf p
@@ -22,7 +23,7 @@ no-ea (some p) n = absurd (omega arith)
 pub c-flags-tell : CFlagsTell
 c-flags-tell =
     record {
-      tells = λ i s bs a a′ e e′ c me ea hears.
-          let same : ea ≡ a′ = cc in same ∙ told-ea (accountOf s i) a a′ (c .cause) (c .ea);
-      unregistered = λ i s bs a a′ e e′ c me ea hears. let same : ea ≡ false = cc in same ∙ no-ea (accountOf s i) (c .cause);
+      tells = λ services i s bs a a′ e e′ c me others ea hears.
+          same-ea services others i bs me hears ∙ told-ea (accountOf s i) a a′ (c .cause) (c .ea);
+      unregistered = λ services i s bs a a′ e e′ c me others ea hears. same-ea services others i bs me hears ∙ no-ea (accountOf s i) (c .cause);
     }

@@ -16,12 +16,13 @@ use Rattle.types.specs.declared.error_mode.ErrorEntryModeAnswer.the-variants as
 use Rattle.types.specs.declared.states.NmtState.{NmtState}
 use Rattle.types.specs.declared.states.NmtStateAnswer.{NmtStateAnswer}
 use Rattle.types.specs.declared.states.NmtStateAnswer.the-variants as state
-use Rattle.section.specs.Write.{writeAnswer}
+use Rattle.section.specs.Write.{codedAnswer}
 use Rattle.reporter.specs.CausesTell.{raiseTold, writeTold}
 use Rattle.reporter.specs.Layout.{headOf}
-use Rattle.reporter.specs.Rules.{newCause, raiseAnswer, opened, answerFrame, answerLength}
+use Rattle.reporter.specs.Rules.{newCause, raiseAnswer, opened, answerFrame, answerWriting, answerLength}
 use Rattle.reporter.specs.declared.AnswerFields.{AnswerFields}
 use Rattle.reporter.specs.declared.NewAnswer.the-variants.{Made, IdOutOfRange}
+use Rattle.reporter.proofs.AnyTable.{any-table}
 use Rattle.collector.specs.CausesTell as box
 use Rattle.collector.specs.Layout.{accountOf, boxOf}
 use Rattle.collector.specs.Rules.{registerAnswer, readAnswer, requestAnswer, requestCause, takeAnswer}
@@ -29,7 +30,7 @@ use Rattle.collector.specs.declared.RequestFields.{RequestFields}
 use Rattle.c_values.specs.Answers.{RowTold}
 use Rattle.powerlink.specs.Collecting.{requestBy, RequestsBy, requestFields}
 use Rattle.powerlink.specs.Reporting.{RaisesBy, AnswersBy, reporterReading, answerFields}
-use Rattle.powerlink.specs.Writing.{octets, stated, WritesCoded}
+use Rattle.powerlink.specs.Writing.{stated, WritesCoded}
 use Rattle.signaling.specs.Calls.{Event, Log, World, Step, raise, answer, headReads, register, boxReads, request, takes, hosts, Run, fresh, call}
 use Rattle.c_signaling.specs.Calls as c
 use Rattle.c_signaling.specs.Calls.{Site, worldOf, CStep, CRun, Translated, nothing, one}
@@ -45,15 +46,16 @@ module _ (i : ℕ) (w : Site) where
       let e : raiseTold (row r []) ≡ a = rw (c .cause) (raise-number a) in
       rw e (one (raise (raisedEntry g m) a after (c .raises)))
 
-  answer-call : (f : NmtState → AnswerFields) (m : NmtStateAnswer) (r : ℕ) (after t t′ : List ℕ) (n n′ o o′ : ℕ)
-      → WritesCoded (stated (answerLength (length (opened (headOf (w .head)) .batch))) m (λ s. octets (answerFrame (f s) (opened (headOf (w .head)))))) r t t′ n n′ o o′
-      → AnswersBy f m (w .head) after t t′
+  answer-call : (services : List ℕ) (f : NmtState → AnswerFields) (m : NmtStateAnswer) (r : ℕ) (after t t′ : List ℕ) (n n′ o o′ : ℕ)
+      → WritesCoded (stated (answerLength (length (opened (headOf (w .head)) .batch))) m (λ s. answerWriting services (f s) (opened (headOf (w .head))))) r t t′ n n′ o o′
+      → AnswersBy services f m (w .head) after t t′
       → Translated i (worldOf w) (answerEvents m r t′ n′) (record { head = after; box = w .box; log = answerEvents m r t′ n′ ++ events (w .log) })
-  answer-call f (state.Unknown b) r after t t′ n n′ o o′ c d = rw d nothing
-  answer-call f (state.Known k) r after t t′ n n′ o o′ c d =
-      let bs = answerFrame (f k) (opened (headOf (w .head))) in
-      let e : writeTold (row r (n′ ∷ [])) ≡ writeAnswer bs t = rw (c .cause, c .written) (write-number bs t n) in
-      rw e (one (answer (f k) (writeAnswer bs t) after t t′ d))
+  answer-call services f (state.Unknown b) r after t t′ n n′ o o′ c d = rw d nothing
+  answer-call services f (state.Known k) r after t t′ n n′ o o′ c d =
+      let h = opened (headOf (w .head)) in
+      let a = codedAnswer (answerWriting services (f k) h) t in
+      let e : writeTold (row r (n′ ∷ [])) ≡ a = rw (c .cause, c .written, any-table .answer services (f k) h) (write-number (answerFrame (f k) h) t n) in
+      rw e (one (answer services (f k) a after t t′ d))
 
   request-call : (j : ℕ) (f : NmtState → RequestFields) (m : NmtStateAnswer) (r : ℕ) (t t′ : List ℕ) (n n′ o o′ : ℕ)
       → RowTold (requestCause (requestBy j f m t (accountOf (w .box) j))) r n n′ o o′
@@ -67,17 +69,18 @@ module _ (i : ℕ) (w : Site) where
 
 pub called : {i : ℕ} {w v : Site} {x : Call} → CStep i w x v → Translated i (worldOf w) (eventsOf x) (worldOf v)
 called {i} {w} (c.raises g r after k) = raise-call i w g (modeOf (g .mode)) r after k
-called {i} {w} (c.answers from to ec pr rs field state r after t t′ n n′ o o′ k) =
-    answer-call i w (answerFields from to ec pr rs field) (stateOf state) r after t t′ n n′ o o′ (k .writes) (k .answers)
-called {i} {w} (c.headReads from bs r k k′ o o′ after d y) =
-    rw (read-row (reporterReading bs (w .head)) r k k′ o o′ (y .told)) (one (headReads from bs (reporterReading bs (w .head)) after d (y .reads)))
+called {i} {w} (c.answers services from to ec pr rs field state r after t t′ n n′ o o′ k) =
+    answer-call i w services (answerFields from to ec pr rs field) (stateOf state) r after t t′ n n′ o o′ (k .writes) (k .answers)
+called {i} {w} (c.headReads services from bs r k k′ o o′ after d y) =
+    let a = reporterReading services bs (w .head) in
+    rw (read-row a r k k′ o o′ (y .told)) (one (headReads services from bs a after d (y .reads)))
 called {i} {w} (c.registers j r after y) =
     let a = registerAnswer j (boxOf (w .box)) in
     let e : box.registerTold (row r []) ≡ a = rw (y .cause) (register-number a) in
     rw e (one (register j a after (y .registers)))
-called {i} {w} (c.boxReads from bs r k k′ o o′ after d y) =
-    let a = readAnswer bs (boxOf (w .box)) in
-    rw (box-row a r k k′ o o′ (y .told)) (one (boxReads from bs a after d (y .reads)))
+called {i} {w} (c.boxReads services from bs r k k′ o o′ after d y) =
+    let a = readAnswer services bs (boxOf (w .box)) in
+    rw (box-row a r k k′ o o′ (y .told)) (one (boxReads services from bs a after d (y .reads)))
 called {i} {w} (c.requests j from version state r t t′ n n′ o o′ y) =
     request-call i w j (requestFields from version) (stateOf state) r t t′ n n′ o o′ (y .told) (y .requests)
 called {i} {w} (c.takes j r after v v′ y) =

@@ -16,7 +16,7 @@ use Rattle.types.specs.declared.hal.PowerlinkError.{PowerlinkError}
 use Rattle.types.specs.declared.states.NmtState.{NmtState}
 use Rattle.types.specs.declared.states.NmtStateAnswer.{NmtStateAnswer}
 use Rattle.types.specs.declared.states.NmtStateAnswer.the-variants as state
-use Rattle.section.specs.Write.{writeCause}
+use Rattle.section.specs.Write.{writeCause, Coded, codedAnswer}
 use Rattle.section.specs.declared.WriteAnswer.the-variants as write
 use Rattle.types.specs.Causes.{errorTold}
 use Rattle.error_entry.specs.Values.{entryTold}
@@ -30,7 +30,7 @@ use Rattle.collector.specs.declared.RequestFields.{RequestFields}
 use Rattle.collector.specs.declared.TakeAnswer.the-variants as taking
 use Rattle.powerlink.specs.Collecting.{requestBy, requestFields}
 use Rattle.powerlink.specs.Reporting.{RaisesBy}
-use Rattle.powerlink.specs.Writing.{Coded, stated, codedAnswer}
+use Rattle.powerlink.specs.Writing.{stated}
 use Rattle.signaling.specs.Calls.{accepted, handedOut, answersSent, requestsSent, ifTaken, ifAnswered, ifRequested, Log}
 use Rattle.c_signaling.specs.Calls as c
 use Rattle.c_signaling.specs.Calls.{Site, CStep, CRun, seenIn, CallsAreSteps}
@@ -104,11 +104,11 @@ module _ (i : ℕ) (l : Log) where
 
 adds : {i : ℕ} {w v : Site} {x : Call} → CStep i w x v → seenIn i (eventsOf x ++ events (w .log)) ≡ seenWith i x (seenIn i (events (w .log)))
 adds {i} {w} (c.raises g r after k) = raise-seen i (events (w .log)) g (modeOf (g .mode)) r (w .head) after k
-adds {i} {w} (c.answers from to ec pr rs field s r after t t′ n n′ o o′ k) =
+adds {i} {w} (c.answers services from to ec pr rs field s r after t t′ n n′ o o′ k) =
     answer-seen i (events (w .log)) (stateOf s) _ _ r t t′ n′ (k .writes .cause)
-adds (c.headReads from bs r k k′ o o′ after d y) = refl
+adds (c.headReads services from bs r k k′ o o′ after d y) = refl
 adds (c.registers j r after y) = refl
-adds (c.boxReads from bs r k k′ o o′ after d y) = refl
+adds (c.boxReads services from bs r k k′ o o′ after d y) = refl
 adds {i} {w} (c.requests j from version s r t t′ n n′ o o′ k) =
     request-seen i (events (w .log)) j (requestFields from version) (stateOf s) (accountOf (w .box) j) r t t′ n′ (k .told .cause)
 adds {i} {w} (c.takes j r after v v′ y) = take-seen i (events (w .log)) (eqb j i) r v′
@@ -118,10 +118,10 @@ adds (c.hosts bs told) = refl
 
 grows : {i : ℕ} {w v : Site} {x : Call} → CStep i w x v → v .log ≡ x ∷ w .log
 grows (c.raises g r after k) = refl
-grows (c.answers from to ec pr rs field s r after t t′ n n′ o o′ k) = refl
-grows (c.headReads from bs r k k′ o o′ after d y) = refl
+grows (c.answers services from to ec pr rs field s r after t t′ n n′ o o′ k) = refl
+grows (c.headReads services from bs r k k′ o o′ after d y) = refl
 grows (c.registers j r after y) = refl
-grows (c.boxReads from bs r k k′ o o′ after d y) = refl
+grows (c.boxReads services from bs r k k′ o o′ after d y) = refl
 grows (c.requests j from version s r t t′ n n′ o o′ k) = refl
 grows (c.takes j r after v v′ y) = refl
 grows (c.hosts bs told) = refl

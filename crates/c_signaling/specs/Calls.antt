@@ -33,19 +33,19 @@ pub data CStep (i : ℕ) (w : Site) : Call → Site → Type 0 where
   raises : (g : Raising) (r : ℕ) (after : List ℕ)
       → ReporterRaises (g .status) (g .queue) (g .mode) (g .profile) (g .code) (g .stamp) (g .information) r (w .head) after
       → CStep i w (reporterRaise g r) (record { head = after; box = w .box; log = reporterRaise g r ∷ w .log })
-  answers : (from to : List ℕ) (ec : Bool) (pr rs : ℕ) (field : List ℕ) (state r : ℕ) (after t t′ : List ℕ) (n n′ o o′ : ℕ)
-      → ReporterAnswers (answerFields from to ec pr rs field) state r (w .head) after t t′ n n′ o o′
+  answers : (services from to : List ℕ) (ec : Bool) (pr rs : ℕ) (field : List ℕ) (state r : ℕ) (after t t′ : List ℕ) (n n′ o o′ : ℕ)
+      → ReporterAnswers services (answerFields from to ec pr rs field) state r (w .head) after t t′ n n′ o o′
       → CStep i w (reporterAnswer state r t′ n′) (record { head = after; box = w .box; log = reporterAnswer state r t′ n′ ∷ w .log })
-  headReads : (from : Origin) (bs : List ℕ) (r k k′ o o′ : ℕ) (after : List ℕ)
-      → Delivered managingNode from bs (tally i (events (w .log)) .requests)
-      → ReporterReads bs r (w .head) after k k′ o o′
-      → CStep i w (reporterRead from bs r k′ o′) (record { head = after; box = w .box; log = reporterRead from bs r k′ o′ ∷ w .log })
+  headReads : (services : List ℕ) (from : Origin) (bs : List ℕ) (r k k′ o o′ : ℕ) (after : List ℕ)
+      → Delivered services managingNode from bs (tally i (events (w .log)) .requests)
+      → ReporterReads services bs r (w .head) after k k′ o o′
+      → CStep i w (reporterRead services from bs r k′ o′) (record { head = after; box = w .box; log = reporterRead services from bs r k′ o′ ∷ w .log })
   registers : (j r : ℕ) (after : List ℕ) → CollectorRegisters j r (w .box) after
       → CStep i w (collectorRegister j r) (record { head = w .head; box = after; log = collectorRegister j r ∷ w .log })
-  boxReads : (from : Origin) (bs : List ℕ) (r k k′ o o′ : ℕ) (after : List ℕ)
-      → Delivered i from bs (tally i (events (w .log)) .answers)
-      → CollectorReads bs r (w .box) after k k′ o o′
-      → CStep i w (collectorRead from bs r k′ o′) (record { head = w .head; box = after; log = collectorRead from bs r k′ o′ ∷ w .log })
+  boxReads : (services : List ℕ) (from : Origin) (bs : List ℕ) (r k k′ o o′ : ℕ) (after : List ℕ)
+      → Delivered services i from bs (tally i (events (w .log)) .answers)
+      → CollectorReads services bs r (w .box) after k k′ o o′
+      → CStep i w (collectorRead services from bs r k′ o′) (record { head = w .head; box = after; log = collectorRead services from bs r k′ o′ ∷ w .log })
   requests : (j : ℕ) (from : List ℕ) (version state r : ℕ) (t t′ : List ℕ) (n n′ o o′ : ℕ)
       → CollectorRequests j (requestFields from version) state r (w .box) t t′ n n′ o o′
       → CStep i w (collectorRequest j state r t′ n′) (record { head = w .head; box = w .box; log = collectorRequest j state r t′ n′ ∷ w .log })
@@ -110,7 +110,9 @@ pub record CDemand3 : Type 0 where
 
 pub record CFlagsTell : Type 0 where
   -- a frame with the EA that `powerlink_collector_flags` told is one that the host may send
-  pub tells : (i : ℕ) (s bs : List ℕ) (a a′ e e′ : Bool) → CollectorFlags i 0 s a a′ e e′ → eaTold i bs ≡ heard.Ea a′ → Tells i s bs
+  pub tells : (services : List ℕ) (i : ℕ) (s bs : List ℕ) (a a′ e e′ : Bool) → CollectorFlags i 0 s a a′ e e′
+      → eaTold services i bs ≡ heard.Ea a′ → Tells i s bs
   -- and where it answered 11, one with EA 0
-  pub unregistered : (i : ℕ) (s bs : List ℕ) (a a′ e e′ : Bool) → CollectorFlags i 11 s a a′ e e′ → eaTold i bs ≡ heard.Ea false
+  pub unregistered : (services : List ℕ) (i : ℕ) (s bs : List ℕ) (a a′ e e′ : Bool) → CollectorFlags i 11 s a a′ e e′
+      → eaTold services i bs ≡ heard.Ea false
       → Tells i s bs

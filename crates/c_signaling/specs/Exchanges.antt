@@ -17,20 +17,21 @@ use Rattle.c_signaling.specs.Log.{Call, reporterRaise, reporterAnswer, r
 abbrev pub CQuiet : Call → Type 0
 CQuiet (reporterRaise g r) = r ≡ 0 → ⊥
 CQuiet (reporterAnswer s r t n) = Unit {0}
-CQuiet (reporterRead from bs r k o) = Unit {0}
+CQuiet (reporterRead services from bs r k o) = Unit {0}
 CQuiet (collectorRegister j r) = Unit {0}
-CQuiet (collectorRead (sent p) bs r k o) = ⊥
-CQuiet (collectorRead foreign bs r k o) = Unit {0}
+CQuiet (collectorRead services (sent p) bs r k o) = ⊥
+CQuiet (collectorRead services foreign bs r k o) = Unit {0}
 CQuiet (collectorRequest j s r t n) = Unit {0}
 CQuiet (collectorTake j r vs) = Unit {0}
 CQuiet (hostSends bs) = Unit {0}
 
--- "On the line a repeat arrives before any later frame of the same sender": the frame that was read last is read once more
+-- "On the line a repeat arrives before any later frame of the same sender": the frame that was read last is read once more,
+-- under whichever table
 abbrev pub CAnswerAgain : ℕ → List ℕ → Call → Type 0
-CAnswerAgain p bs x = (r : ℕ) × (k : ℕ) × (o : ℕ) × (x ≡ collectorRead (sent p) bs r k o)
+CAnswerAgain p bs x = (services : List ℕ) × (r : ℕ) × (k : ℕ) × (o : ℕ) × (x ≡ collectorRead services (sent p) bs r k o)
 
 abbrev pub CRequestAgain : ℕ → List ℕ → Call → Type 0
-CRequestAgain q bs x = (r : ℕ) × (k : ℕ) × (o : ℕ) × (x ≡ reporterRead (sent q) bs r k o)
+CRequestAgain q bs x = (services : List ℕ) × (r : ℕ) × (k : ℕ) × (o : ℕ) × (x ≡ reporterRead services (sent q) bs r k o)
 
 abbrev pub CNoRepeat : Call → Type 0
 CNoRepeat x = ⊥
@@ -53,11 +54,12 @@ pub record CExchange (i : ℕ) (w v : Site) : Type 0 where
   pub quiet₁ : CQuietly i CNoRepeat w₁ w₂
   pub p : ℕ
   pub answerRead : List ℕ
+  pub boxServices : List ℕ
   pub boxNumber : ℕ
   pub boxOutcome : ℕ
   pub boxOctet : ℕ
   pub w₃ : Site
-  pub boxReads : CStep i w₂ (collectorRead (sent p) answerRead boxNumber boxOutcome boxOctet) w₃
+  pub boxReads : CStep i w₂ (collectorRead boxServices (sent p) answerRead boxNumber boxOutcome boxOctet) w₃
   pub newAnswer : length (answersSent i (events (w .log))) ≤ p
   pub w₄ : Site
   pub quiet₂ : CQuietly i (CAnswerAgain p answerRead) w₃ w₄
@@ -70,14 +72,15 @@ pub record CExchange (i : ℕ) (w v : Site) : Type 0 where
   pub quiet₃ : CQuietly i CNoRepeat w₅ w₆
   pub q : ℕ
   pub requestRead : List ℕ
+  pub headServices : List ℕ
   pub headNumber : ℕ
   pub headOutcome : ℕ
   pub headOctet : ℕ
   pub w₇ : Site
-  pub headReads : CStep i w₆ (reporterRead (sent q) requestRead headNumber headOutcome headOctet) w₇
+  pub headReads : CStep i w₆ (reporterRead headServices (sent q) requestRead headNumber headOutcome headOctet) w₇
   pub newRequest : length (requestsSent i (events (w₄ .log))) ≤ q
   pub ea : Bool
-  pub mine : eaTold i requestRead ≡ heard.Ea ea
+  pub mine : eaTold headServices i requestRead ≡ heard.Ea ea
   pub quiet₄ : CQuietly i (CRequestAgain q requestRead) w₇ v
 
 -- n exchanges, with quiet calls before, between and behind them

@@ -38,9 +38,9 @@ pub record Raising : Type 0 where
 pub data Call : Type 0 where
   reporterRaise : Raising → (number : ℕ) → Call
   reporterAnswer : (state number : ℕ) (target : List ℕ) (written : ℕ) → Call
-  reporterRead : Origin → (frame : List ℕ) (number outcome octet : ℕ) → Call
+  reporterRead : (services : List ℕ) → Origin → (frame : List ℕ) (number outcome octet : ℕ) → Call
   collectorRegister : (node number : ℕ) → Call
-  collectorRead : Origin → (frame : List ℕ) (number outcome octet : ℕ) → Call
+  collectorRead : (services : List ℕ) → Origin → (frame : List ℕ) (number outcome octet : ℕ) → Call
   collectorRequest : (node state number : ℕ) (target : List ℕ) (written : ℕ) → Call
   collectorTake : (node number : ℕ) (values : List ℕ) → Call
   -- no call: a frame that the box's host sends
@@ -88,9 +88,9 @@ seenWith i (reporterAnswer state r t n) s =
       answersSent = ifZero r (s .answersSent ++ (take n t ∷ [])) (s .answersSent);
       requestsSent = s .requestsSent;
     }
-seenWith i (reporterRead from bs r k o) s = s
+seenWith i (reporterRead services from bs r k o) s = s
 seenWith i (collectorRegister j r) s = s
-seenWith i (collectorRead from bs r k o) s = s
+seenWith i (collectorRead services from bs r k o) s = s
 seenWith i (collectorRequest j state r t n) s =
     record {
       accepted = s .accepted;
@@ -141,9 +141,9 @@ reading r k o = row r (pick (eqb r 0) k o ∷ [])
 abbrev pub eventsOf : Call → Log
 eventsOf (reporterRaise g r) = raiseEvents g (modeOf (g .mode)) r
 eventsOf (reporterAnswer s r t n) = answerEvents (stateOf s) r t n
-eventsOf (reporterRead from bs r k o) = headRead from bs (readTold (reading r k o)) ∷ []
+eventsOf (reporterRead services from bs r k o) = headRead services from bs (readTold (reading r k o)) ∷ []
 eventsOf (collectorRegister j r) = registered j (box.registerTold (row r [])) ∷ []
-eventsOf (collectorRead from bs r k o) = boxRead from bs (box.readTold (reading r k o)) ∷ []
+eventsOf (collectorRead services from bs r k o) = boxRead services from bs (box.readTold (reading r k o)) ∷ []
 eventsOf (collectorRequest j s r t n) = requestEvents j (stateOf s) r t n
 eventsOf (collectorTake j r vs) = taken j (box.takeTold (row r vs)) ∷ []
 eventsOf (hostSends bs) = hosted bs ∷ []

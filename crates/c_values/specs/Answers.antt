@@ -5,11 +5,10 @@ use mathlib.Core.Bool.{Bool}
 use mathlib.Core.Path.{_≡_}
 use mathlib.Core.List.{List}
 use lib.ListN.{getD}
-use lib.Dec.{eqb, leb}
+use lib.Dec.{eqb}
 use Rattle.types.specs.Causes.{Cause, causeOf}
-use Rattle.types.specs.Codes.{pick, need}
+use Rattle.types.specs.Codes.{pick}
 use Rattle.types.specs.declared.hal.PowerlinkError.{PowerlinkError}
-use Rattle.types.specs.declared.hal.PowerlinkError.the-variants.{BufferTooShort}
 use Rattle.section.specs.declared.WriteAnswer.{WriteAnswer}
 use Rattle.section.specs.declared.WriteAnswer.the-variants.{Written, Refused}
 use Rattle.error_entry.specs.Values.{flagIn}
@@ -26,11 +25,6 @@ errorOctet e before = getD (causeOf e .returned) 0 before
 abbrev pub octetAfter : WriteAnswer → ℕ → ℕ
 octetAfter (Written n) before = before
 octetAfter (Refused e) before = errorOctet e before
-
--- a code that names nothing, where n octets would go into len: cause 1 is tested first, so a target that is too short is 1
--- whatever the codes are
-abbrev pub unnamedAnswer : ℕ → PowerlinkError → ℕ → WriteAnswer
-unnamedAnswer n e len = need (leb n len) (Refused BufferTooShort) (Refused e)
 
 -- ---- what a row of 01's table leaves: its values where the number is 0, its octet where it is another; else what stood there before
 

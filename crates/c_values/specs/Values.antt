@@ -6,7 +6,6 @@ use mathlib.Core.List.{List, [], _∷_}
 use Rattle.types.specs.Messages.{messageCode}
 use Rattle.types.specs.PollFlags.{priorityCode}
 use Rattle.types.specs.RequestedServices.{requestedCode}
-use Rattle.types.specs.Services.{serviceCode}
 use Rattle.types.specs.States.{stateCode}
 use Rattle.types.specs.declared.common.NetTime.{NetTime}
 use Rattle.types.specs.declared.error_mode.ErrorEntryMode.{ErrorEntryMode}
@@ -53,7 +52,7 @@ soaNumbers f p =
 -- 5 service
 abbrev pub asndNumbers : ASndFrame → PayloadPlace → List ℕ
 asndNumbers f p =
-    messageCode message.ASnd ∷ f .destination .0 ∷ f .source .0 ∷ p .start ∷ p .len ∷ serviceCode (f .«service_id»)
+    messageCode message.ASnd ∷ f .destination .0 ∷ f .source .0 ∷ p .start ∷ p .len ∷ f .«service_id» .0
     ∷ 0 ∷ 0 ∷ 0 ∷ 0 ∷ 0 ∷ 0 ∷ 0 ∷ 0 ∷ 0 ∷ 0 ∷ []
 
 abbrev pub frameNumbers : PowerlinkFrame → PayloadPlace → List ℕ

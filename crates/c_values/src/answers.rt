@@ -2,8 +2,8 @@
 ghost use mathlib.Core.Path.{_≡_};
 ghost use Prim.Native.Nat.{max};
 ghost use Rattle.types.specs.Causes.{causeNumber};
-ghost use Rattle.section.specs.Write.{writeCause};
-ghost use Rattle.c_values.specs.Answers.{lengthAfter, errorOctet, octetAfter, unnamedAnswer};
+ghost use Rattle.section.specs.Write.{writeCause, unnamedAnswer};
+ghost use Rattle.c_values.specs.Answers.{lengthAfter, errorOctet, octetAfter};
 use section::WriteAnswer;
 use types::causes::TOO_SHORT;
 use types::causes::UNKNOWN_MESSAGE;
@@ -20,6 +20,21 @@ pub fn written_or(answer: WriteAnswer, written: &mut usize) -> u8
             0
         }
         WriteAnswer::Refused(e) => e.number(),
+    }
+}
+
+// The same of a writer that also refuses codes: the octet where 01's table returns one.
+pub fn told(answer: WriteAnswer, written: &mut usize, octet: &mut u8) -> u8
+    ensures { λ r. ⌜ r ≡ writeCause answer .number ⌝ }
+    ensures { λ _. ⌜ now (written .exit) ≡ lengthAfter answer (now (written .entry)) ⌝ }
+    ensures { λ _. ⌜ now (octet .exit) ≡ octetAfter answer (now (octet .entry)) ⌝ }
+{
+    match answer {
+        WriteAnswer::Written(len) => {
+            *written = len;
+            0
+        }
+        WriteAnswer::Refused(e) => refusal(e, octet),
     }
 }
 

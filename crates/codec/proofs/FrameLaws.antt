@@ -52,7 +52,7 @@ module _ (f : List ℕ) where
       frame-read s r k es er = rw (le-leb 14 (length f) long, ← ew, eq-eqb w ethertypeEPL epl, lt-ltb 14 (length f) k, ← es) er
 
 -- an answer that is what reading gives has the row of what it is
-pub frame-told : (f : List ℕ) (r : FrameAnswer) → r ≡ readFrame f → ReadsFrame f r
-frame-told f r e = record { answer = e; good = λ x q. ap frameCause (e ∙ q); refused = λ x q. ap frameCause (e ∙ q) }
+pub frame-told : (services f : List ℕ) (r : FrameAnswer) → r ≡ readFrame services f → ReadsFrame services f r
+frame-told services f r e = record { answer = e; good = λ x q. ap frameCause (e ∙ q); refused = λ x q. ap frameCause (e ∙ q) }
 
 pub ruleset frame-laws = (needs, frame-other, frame-empty, frame-read)

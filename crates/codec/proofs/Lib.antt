@@ -1,4 +1,5 @@
 pub mod ASndLaws
+pub mod AnyTable
 pub mod CausesTell
 pub mod FrameLaws
 pub mod HeaderLaws

@@ -1,4 +1,4 @@
--- Reading a frame, from its Ethernet header on (EPSG DS 301, 4.6.1; IEEE 802.3, 3.1.1).
+-- Reading a frame, from its Ethernet header on (EPSG DS 301, 4.6.1; IEEE 802.3, 3.1.1), under a table of services, by which ASnd is read.
 -- Assumes nothing.
 use Prim.Native.Nat.{ℕ}
 use mathlib.Core.Path.{_≡_}
@@ -53,25 +53,25 @@ kindOf f =
 
 -- ---- then the rules of the kind
 
-abbrev pub byKind : MessageType → List ℕ → FrameAnswer
-byKind message.SoC s = readSoC s
-byKind message.PReq s = readPReq s
-byKind message.PRes s = readPRes s
-byKind message.SoA s = readSoA s
-byKind message.ASnd s = readASnd s
+abbrev pub byKind : List ℕ → MessageType → List ℕ → FrameAnswer
+byKind services message.SoC s = readSoC s
+byKind services message.PReq s = readPReq s
+byKind services message.PRes s = readPRes s
+byKind services message.SoA s = readSoA s
+byKind services message.ASnd s = readASnd services s
 
 -- what the section s is, after the tests before
-abbrev pub kindAnswer : KindAnswer → List ℕ → FrameAnswer
-kindAnswer (kind.Refused e) s = Refused e
-kindAnswer (kind.Kind k) s = byKind k s
+abbrev pub kindAnswer : List ℕ → KindAnswer → List ℕ → FrameAnswer
+kindAnswer services (kind.Refused e) s = Refused e
+kindAnswer services (kind.Kind k) s = byKind services k s
 
 -- a section by itself: its message type, then the rules of its kind
-unfoldable pub readSection : List ℕ → FrameAnswer
-readSection s = kindAnswer (kindIn s) s
+unfoldable pub readSection : List ℕ → List ℕ → FrameAnswer
+readSection services s = kindAnswer services (kindIn s) s
 
 -- a frame: the tests before those of its kind, then the kind's rules of what stands behind the Ethernet header
-unfoldable pub readFrame : List ℕ → FrameAnswer
-readFrame f = kindAnswer (kindOf f) (drop ethLength f)
+unfoldable pub readFrame : List ℕ → List ℕ → FrameAnswer
+readFrame services f = kindAnswer services (kindOf f) (drop ethLength f)
 
 -- ---- the payload's place, and what a reading promises
 
@@ -91,9 +91,13 @@ placeOf (Refused e) s = place 0 0
 placeOf (Frame f) s = placeInFrame f s
 
 -- beside a refusal stands the header that the octets give, those past the end counting as 0, and no payload
-unfoldable pub deserializeFrame : List ℕ → DeserializedFrame
-deserializeFrame f =
-    record { «eth_header» = ethHeaderOf f; answer = readFrame f; «payload_place» = placeOf (readFrame f) (drop ethLength f) }
+unfoldable pub deserializeFrame : List ℕ → List ℕ → DeserializedFrame
+deserializeFrame services f =
+    record {
+      «eth_header» = ethHeaderOf f;
+      answer = readFrame services f;
+      «payload_place» = placeOf (readFrame services f) (drop ethLength f);
+    }
 
 -- the octets at a place; what would lie past the end is left out
 abbrev pub payloadOf : PayloadPlace → List ℕ → List ℕ
@@ -105,12 +109,12 @@ frameCause (Frame f) = row 0 []
 frameCause (Refused e) = causeOf e
 
 -- r is what reading the octets f answers, with 01's number: 0 for a frame, and else that of the error, with what is returned
-pub record ReadsFrame (f : List ℕ) (r : FrameAnswer) : Type 0 where
-  pub answer : r ≡ readFrame f
-  pub good : (x : PowerlinkFrame) → readFrame f ≡ Frame x → frameCause r ≡ row 0 []
-  pub refused : (e : PowerlinkError) → readFrame f ≡ Refused e → frameCause r ≡ causeOf e
+pub record ReadsFrame (services f : List ℕ) (r : FrameAnswer) : Type 0 where
+  pub answer : r ≡ readFrame services f
+  pub good : (x : PowerlinkFrame) → readFrame services f ≡ Frame x → frameCause r ≡ row 0 []
+  pub refused : (e : PowerlinkError) → readFrame services f ≡ Refused e → frameCause r ≡ causeOf e
 
 -- the same, with the Ethernet header and the payload's place
-pub record Reads (f : List ℕ) (r : DeserializedFrame) : Type 0 where
-  pub read : r ≡ deserializeFrame f
-  pub frame : ReadsFrame f (r .answer)
+pub record Reads (services f : List ℕ) (r : DeserializedFrame) : Type 0 where
+  pub read : r ≡ deserializeFrame services f
+  pub frame : ReadsFrame services f (r .answer)

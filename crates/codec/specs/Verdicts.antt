@@ -57,6 +57,6 @@ soaAnswer (soa.NoState b) s = Refused (InvalidNmtState b)
 soaAnswer (soa.NoService b) s = Refused (InvalidRequestedServiceId b)
 
 abbrev pub asndAnswer : ASndVerdict → List ℕ → FrameAnswer
-asndAnswer (asnd.Read service) s = Frame (ASnd (asndOf s service))
+asndAnswer asnd.Read s = Frame (ASnd (asndOf s))
 asndAnswer asnd.TooShort s = Refused BufferTooShort
 asndAnswer (asnd.NoService b) s = Refused (InvalidServiceId b)

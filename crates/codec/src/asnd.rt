@@ -11,51 +11,51 @@ use octets::slices::byte_at;
 use octets::slices::tail;
 use octets::slices::trimmed_len;
 use section::MIN_SECTION;
+use services::ServiceId;
+use services::table::Services;
+use services::table::contains;
 use types::NodeId;
 use types::hal::PowerlinkError;
-use types::service::ServiceId;
-use types::service::ServiceIdAnswer;
 
-// What the tests of a section come to: the codes and the size that its fields are read with, or why it is refused.
+// What the tests of a section come to: it is read, or why it is refused.
 pub enum ASndVerdict {
-    Read(ServiceId),
+    Read,
     TooShort,
     NoService(u8),
 }
 
-pub fn judge(s: &[u8]) -> ASndVerdict
-    ensures { λ r. ⌜ asndAnswer r (now (s .entry)) ≡ readASnd (now (s .entry)) ⌝ }
+pub fn judge(services: &Services, s: &[u8]) -> ASndVerdict
+    ensures { λ r. ⌜ asndAnswer r (now (s .entry)) ≡ readASnd (now (services .entry)) (now (s .entry)) ⌝ }
 {
     if s.len() < FIELDS_LEN {
         return ASndVerdict::TooShort;
     }
-    match ServiceId::from_u8(s[SERVICE_AT]) {
-        ServiceIdAnswer::Unknown(b) => ASndVerdict::NoService(b),
-        ServiceIdAnswer::Known(service) => ASndVerdict::Read(service),
+    let service = s[SERVICE_AT];
+    if !contains(services, service) {
+        return ASndVerdict::NoService(service);
     }
+    ASndVerdict::Read
 }
 
 // The frame, or why it is refused.
-pub(crate) fn deserialize(s: &[u8]) -> FrameAnswer
-    ensures { λ r. ⌜ r ≡ readASnd (now (s .entry)) ⌝ }
+pub(crate) fn deserialize(services: &Services, s: &[u8]) -> FrameAnswer
+    ensures { λ r. ⌜ r ≡ readASnd (now (services .entry)) (now (s .entry)) ⌝ }
 {
-    match judge(s) {
-        ASndVerdict::Read(service) => {
-            FrameAnswer::Frame(PowerlinkFrame::ASnd(fields(s, service)))
-        }
+    match judge(services, s) {
+        ASndVerdict::Read => FrameAnswer::Frame(PowerlinkFrame::ASnd(fields(s))),
         ASndVerdict::TooShort => FrameAnswer::Refused(PowerlinkError::BufferTooShort),
         ASndVerdict::NoService(b) => FrameAnswer::Refused(PowerlinkError::InvalidServiceId(b)),
     }
 }
 
 // The fields of a section; octets past its end count as 0.
-pub fn fields(s: &[u8], service_id: ServiceId) -> ASndFrame
-    ensures { λ r. ⌜ r ≡ asndOf (now (s .entry)) «service_id» ⌝ }
+pub fn fields(s: &[u8]) -> ASndFrame
+    ensures { λ r. ⌜ r ≡ asndOf (now (s .entry)) ⌝ }
 {
     ASndFrame {
         destination: NodeId(byte_at(s, 1)),
         source: NodeId(byte_at(s, 2)),
-        service_id,
+        service_id: ServiceId(byte_at(s, SERVICE_AT)),
     }
 }
 

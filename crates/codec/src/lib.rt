@@ -19,6 +19,7 @@ use octets::big_endian::get_u16_be;
 use octets::slices::byte_at;
 use octets::slices::front;
 use octets::slices::tail;
+use services::table::Services;
 use types::C_DLL_ETHERTYPE_EPL;
 use types::basic::ETH_LEN;
 use types::basic::EthernetHeader;
@@ -61,12 +62,12 @@ impl DeserializedFrame {
     }
 }
 
-// Reads a frame, from its Ethernet header on.
-pub fn deserialize_frame(buffer: &[u8]) -> DeserializedFrame
-    ensures { λ r. ⌜ Reads (now (buffer .entry)) r ⌝ }
+// Reads a frame, from its Ethernet header on; an ASnd is read where the table holds its service.
+pub fn deserialize_frame(services: &Services, buffer: &[u8]) -> DeserializedFrame
+    ensures { λ r. ⌜ Reads (now (services .entry)) (now (buffer .entry)) r ⌝ }
 {
     if ETH_LEN <= buffer.len() {
-        let answer = read_frame(buffer);
+        let answer = read_frame(services, buffer);
         let payload_place = place_of(answer, tail(buffer, ETH_LEN));
         return DeserializedFrame {
             eth_header: whole_header(buffer),
@@ -92,12 +93,12 @@ pub fn payload(place: PayloadPlace, buffer: &[u8]) -> &[u8]
 }
 
 // The frame, or why it is refused: for a caller that wants neither header nor payload.
-pub fn read_frame(buffer: &[u8]) -> FrameAnswer
-    ensures { λ r. ⌜ ReadsFrame (now (buffer .entry)) r ⌝ }
+pub fn read_frame(services: &Services, buffer: &[u8]) -> FrameAnswer
+    ensures { λ r. ⌜ ReadsFrame (now (services .entry)) (now (buffer .entry)) r ⌝ }
 {
     match kind_of(buffer) {
         KindAnswer::Refused(e) => FrameAnswer::Refused(e),
-        KindAnswer::Kind(kind) => read_kind(kind, tail(buffer, ETH_LEN)),
+        KindAnswer::Kind(kind) => read_kind(services, kind, tail(buffer, ETH_LEN)),
     }
 }
 
@@ -139,15 +140,15 @@ fn kind_in(s: &[u8]) -> KindAnswer
 }
 
 // The section `s` of a frame of a kind.
-fn read_kind(kind: MessageType, s: &[u8]) -> FrameAnswer
-    ensures { λ r. ⌜ r ≡ byKind kind (now (s .entry)) ⌝ }
+fn read_kind(services: &Services, kind: MessageType, s: &[u8]) -> FrameAnswer
+    ensures { λ r. ⌜ r ≡ byKind (now (services .entry)) kind (now (s .entry)) ⌝ }
 {
     match kind {
         MessageType::SoC => soc::deserialize(s),
         MessageType::PReq => preq::deserialize(s),
         MessageType::PRes => pres::deserialize(s),
         MessageType::SoA => soa::deserialize(s),
-        MessageType::ASnd => asnd::deserialize(s),
+        MessageType::ASnd => asnd::deserialize(services, s),
     }
 }
 

@@ -16,6 +16,7 @@ use frame::IntoSoA;
 use frame::IntoSoc;
 use frame::PowerlinkFrame;
 use section::MIN_SECTION;
+use services::ds301::DS301;
 use types::basic::EthernetHeader;
 use types::hal::PowerlinkError;
 
@@ -68,7 +69,7 @@ fn kinds(f: PowerlinkFrame) {
 // The section that was read, written again.
 fn again(f: PowerlinkFrame, payload: &[u8]) {
     let mut target = [FILL; SPACE];
-    let answer = f.serialize(payload, &mut target);
+    let answer = f.serialize(&DS301, payload, &mut target);
     written(answer, &target);
 }
 
@@ -90,7 +91,7 @@ fn header(h: EthernetHeader) {
 // of a frame, whether it is a SoC, PReq, PRes, SoA, ASnd, or else 01's number and the octet with it; the payload. Then a line for a
 // frame's section.
 fn frame(bytes: &[u8]) {
-    let read = deserialize_frame(bytes);
+    let read = deserialize_frame(&DS301, bytes);
     let answer = read.answer;
     let place = read.payload_place;
     let data = payload(place, bytes);

@@ -1,5 +1,19 @@
 // What each code table makes of an octet: nothing where it does not know it, and else the code that is written for the
 // value, with the value's place in the list of names.
+use services::IDENT_RESPONSE;
+use services::NMT_COMMAND;
+use services::NMT_PUBLISH_ACTIVE_NODES;
+use services::NMT_PUBLISH_EMERG_NEW;
+use services::NMT_PUBLISH_HEARTBEAT;
+use services::NMT_PUBLISH_NMT_STATE;
+use services::NMT_PUBLISH_NODE_LIST;
+use services::NMT_PUBLISH_NODE_STATE;
+use services::NMT_PUBLISH_TIME;
+use services::NMT_REQUEST;
+use services::SDO;
+use services::STATUS_RESPONSE;
+use services::ds301::DS301;
+use services::table::contains;
 use types::error_mode::ErrorEntryMode;
 use types::error_mode::ErrorEntryModeAnswer;
 use types::message_type::MessageType;
@@ -7,8 +21,6 @@ use types::message_type::MessageTypeAnswer;
 use types::poll_flags::PRFlag;
 use types::requested_service::RequestedServiceId;
 use types::requested_service::RequestedServiceIdAnswer;
-use types::service::ServiceId;
-use types::service::ServiceIdAnswer;
 use types::states::NmtState;
 use types::states::NmtStateAnswer;
 
@@ -58,28 +70,27 @@ pub fn state(b: u8) -> Listed {
     }
 }
 
+// Under the table of the twelve; a service's code is the octet itself.
 pub fn service(b: u8) -> Listed {
-    let ServiceIdAnswer::Known(value) = ServiceId::from_u8(b) else {
+    if !contains(&DS301, b) {
         return Listed::Nothing;
-    };
-    let place = match value {
-        ServiceId::IdentResponse => 1,
-        ServiceId::StatusResponse => 2,
-        ServiceId::NmtRequest => 3,
-        ServiceId::NmtCommand => 4,
-        ServiceId::Sdo => 5,
-        ServiceId::NMTPublishTime => 6,
-        ServiceId::NMTPublishNMTState => 7,
-        ServiceId::NMTPublishNodeState => 8,
-        ServiceId::NMTPublishNodeList => 9,
-        ServiceId::NMTPublishEmergNew => 10,
-        ServiceId::NMTPublishHeartbeat => 11,
-        ServiceId::NMTPublishActiveNodes => 12,
-    };
-    Listed::Value {
-        code: value.to_u8(),
-        place,
     }
+    let place = match b {
+        IDENT_RESPONSE => 1,
+        STATUS_RESPONSE => 2,
+        NMT_REQUEST => 3,
+        NMT_COMMAND => 4,
+        SDO => 5,
+        NMT_PUBLISH_TIME => 6,
+        NMT_PUBLISH_NMT_STATE => 7,
+        NMT_PUBLISH_NODE_STATE => 8,
+        NMT_PUBLISH_NODE_LIST => 9,
+        NMT_PUBLISH_EMERG_NEW => 10,
+        NMT_PUBLISH_HEARTBEAT => 11,
+        NMT_PUBLISH_ACTIVE_NODES => 12,
+        _ => 0,
+    };
+    Listed::Value { code: b, place }
 }
 
 pub fn requested_service(b: u8) -> Listed {

@@ -72,14 +72,14 @@ booking (heard.Refused e) said b q = unchanged b
 booking heard.Other said b q = unchanged b
 booking (heard.Status source) said b q = put-alike b (source .0) _ (known-place said (b .accounts (source .0)) q)
 
-reading : (f : List ℕ) (b : Box) (r : ReadAnswer) → r ≡ readAnswer f b → Alike (afterResponse r f b) b
+reading : (services f : List ℕ) (b : Box) (r : ReadAnswer) → r ≡ readAnswer services f b → Alike (afterResponse services r f b) b
 unfolding readAnswer
-reading f b Booked e = booking (responseIn f) (statusIn f) b e
-reading f b Known e = unchanged b
-reading f b (Refused x) e = unchanged b
-reading f b NotStatusResponse e = unchanged b
-reading f b NotRegistered e = unchanged b
-reading f b BookFull e = unchanged b
+reading services f b Booked e = booking (responseIn services f) (statusIn f) b e
+reading services f b Known e = unchanged b
+reading services f b (Refused x) e = unchanged b
+reading services f b NotStatusResponse e = unchanged b
+reading services f b NotRegistered e = unchanged b
+reading services f b BookFull e = unchanged b
 
 -- ---- Take
 
@@ -141,8 +141,8 @@ after (fresh s f) =
     alike (boxOf s) _ (same-alike _ _ (f .box)) (record { ids = []; are = λ i. refl; once = tt; range = tt; four = refl })
 after (registers {s} i r t run c) =
     alike (boxOf t) _ (same-alike _ _ (c .box)) (registering (i .0) (boxOf s) r (c .answer) (after run))
-after (reads {s} f r t run c) =
-    alike (boxOf t) _ (same-alike _ _ (c .box)) (alike _ (boxOf s) (reading f (boxOf s) r (c .answer)) (after run))
+after (reads {s} services f r t run c) =
+    alike (boxOf t) _ (same-alike _ _ (c .box)) (alike _ (boxOf s) (reading services f (boxOf s) r (c .answer)) (after run))
 after (takes {s} i r t run c) =
     alike (boxOf t) _ (same-alike _ _ (c .box)) (alike _ (boxOf s) (handing (i .0) (boxOf s) r (c .answer)) (after run))
 

@@ -3,13 +3,15 @@
 use Prim.Native.Nat.{ℕ, _≤_, _<_}
 use mathlib.Core.Path.{_≡_, refl, ap, _∙_}
 use mathlib.Core.Bool.{Bool}
-use mathlib.Core.List.{List, []}
+use mathlib.Core.List.{List, [], _++_}
 use lib.ListN.{length}
 use Rattle.octets.proofs.NumberBack.{Octets}
 use Rattle.types.specs.declared.NodeId.{NodeId}
 use Rattle.types.specs.declared.hal.PowerlinkError.{PowerlinkError}
-use Rattle.section.specs.Write.{writeAnswer, overwritten, Writes}
+use Rattle.types.specs.Header.{ethBytes}
+use Rattle.section.specs.Write.{padded, writeAnswer, overwritten, Writes}
 use Rattle.section.specs.declared.WriteAnswer.{WriteAnswer}
+use Rattle.control.specs.SoA.{soaBytes, soaSection}
 use Rattle.control.specs.declared.soa.NewSoAFrame.{NewSoAFrame}
 use Rattle.frame.specs.Write.{frameBytes}
 use Rattle.frame.specs.declared.PowerlinkFrame.the-variants.{SoA}
@@ -51,9 +53,10 @@ takes i r s after size a b =
 
 -- ---- read
 
-pub reads : (s : List ℕ) → length s ≡ collectorLength → (f : List ℕ) → Octets f → (r : ReadAnswer) (after : List ℕ) → r ≡ readAnswer f (boxOf s)
-    → after ≡ responseBytes r f s → Reads f r s after
-reads s size f octets r after a b = record { answer = a; cause = ap readCause a; box = rw (b, a) (read-means s size f octets); bytes = b }
+pub reads : (services s : List ℕ) → length s ≡ collectorLength → (f : List ℕ) → Octets f → (r : ReadAnswer) (after : List ℕ)
+    → r ≡ readAnswer services f (boxOf s) → after ≡ responseBytes services r f s → Reads services f r s after
+reads services s size f octets r after a b =
+    record { answer = a; cause = ap readCause a; box = rw (b, a) (read-means s size services f octets); bytes = b }
 
 module _ (s : List ℕ) (source : ℕ) (payload : List ℕ) where
   pub status-unknown : heads ≤ slotOf s source → ReadsStatus source payload NotRegistered s s
@@ -72,24 +75,25 @@ module _ (s : List ℕ) (source : ℕ) (payload : List ℕ) where
           bytes = b .bytes ∙ rw (at, ap enIn is);
         }
 
-module _ (s f : List ℕ) where
-  pub reads-refused : (e : PowerlinkError) → heard.Refused e ≡ responseIn f → Reads f (Refused e) s s
+module _ (services s f : List ℕ) where
+  pub reads-refused : (e : PowerlinkError) → heard.Refused e ≡ responseIn services f → Reads services f (Refused e) s s
   unfolding readAnswer
   reads-refused e is =
-      let a : Refused e ≡ readAnswer f (boxOf s) = rw (← is) in
+      let a : Refused e ≡ readAnswer services f (boxOf s) = rw (← is) in
       record { answer = a; cause = ap readCause a; box = same-box (boxOf s); bytes = refl }
 
-  pub reads-other : heard.Other ≡ responseIn f → Reads f NotStatusResponse s s
+  pub reads-other : heard.Other ≡ responseIn services f → Reads services f NotStatusResponse s s
   unfolding readAnswer
   reads-other is =
-      let a : NotStatusResponse ≡ readAnswer f (boxOf s) = rw (← is) in
+      let a : NotStatusResponse ≡ readAnswer services f (boxOf s) = rw (← is) in
       record { answer = a; cause = ap readCause a; box = same-box (boxOf s); bytes = refl }
 
-  pub reads-status : length s ≡ collectorLength → Octets f → (source : NodeId) → heard.Status source ≡ responseIn f
-      → (payload : List ℕ) → payload ≡ statusPayload f → (r : ReadAnswer) (after : List ℕ) → ReadsStatus (source .0) payload r s after → Reads f r s after
+  pub reads-status : length s ≡ collectorLength → Octets f → (source : NodeId) → heard.Status source ≡ responseIn services f
+      → (payload : List ℕ) → payload ≡ statusPayload f → (r : ReadAnswer) (after : List ℕ) → ReadsStatus (source .0) payload r s after
+      → Reads services f r s after
   unfolding readAnswer
   reads-status size octets source is payload from r after b =
-      reads s size f octets r after
+      reads services s size f octets r after
       (rw (← is) (b .answer ∙ ap (λ (p : List ℕ). accountAnswer (saidIn p) (accountOf s (source .0))) from))
       (b .bytes ∙ rw (from, ← is))
 
@@ -97,9 +101,9 @@ module _ (s f : List ℕ) where
 
 -- the answer and the octets of writing the SoA that `new` makes
 module _ (i : ℕ) (f : RequestFields) (ea : Bool) (soa : NewSoAFrame) (made : soa ≡ requestSoA i f ea) (r : WriteAnswer) (target after : List ℕ) where
-  pub request-writes : Writes (frameBytes (soa .«eth_header») (SoA (soa .frame)) []) r target after
+  pub request-writes : Writes (ethBytes (soa .«eth_header») ++ padded (soaBytes (soa .frame) ++ [])) r target after
       → (asRequest r ≡ requestWritten (requestFrame i f ea) target) × (after ≡ overwritten (requestFrame i f ea) target)
-  unfolding requestFrame
+  unfolding requestFrame frameBytes soaSection
   request-writes w =
       let e : frameBytes (soa .«eth_header») (SoA (soa .frame)) [] ≡ requestFrame i f ea =
       ap (λ (x : NewSoAFrame). frameBytes (x .«eth_header») (SoA (x .frame)) []) made in

@@ -1,4 +1,5 @@
 pub mod AnswerLaws
+pub mod AnyTable
 pub mod BatchLaws
 pub mod BlockLaws
 pub mod BookLaws

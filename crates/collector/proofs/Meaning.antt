@@ -175,16 +175,16 @@ module _ (s : List ℕ) (size : length s ≡ collectorLength) (payload : List �
       booked-means s i known size payload octets (room-for s i known size payload octets (readFields payload) (rw (place-some s i known) at q)))
       (le-or-lt heads (slotOf s i))
 
-module _ (s : List ℕ) (size : length s ≡ collectorLength) (f : List ℕ) (octets : Octets f) where
+module _ (s : List ℕ) (size : length s ≡ collectorLength) (services f : List ℕ) (octets : Octets f) where
   payload-octets : Octets (statusPayload f)
   payload-octets i = rw (getD-drop 18 f i 0) (octets (18 + i))
 
-  pub read-means : Same (boxOf (responseBytes (readAnswer f (boxOf s)) f s)) (afterResponse (readAnswer f (boxOf s)) f (boxOf s))
+  pub read-means : Same (boxOf (responseBytes services (readAnswer services f (boxOf s)) f s)) (afterResponse services (readAnswer services f (boxOf s)) f (boxOf s))
   unfolding readAnswer
-  read-means = go (readAnswer f (boxOf s)) refl
+  read-means = go (readAnswer services f (boxOf s)) refl
     where
-      go : (r : ReadAnswer) → readAnswer f (boxOf s) ≡ r → Same (boxOf (responseBytes r f s)) (afterResponse r f (boxOf s))
-      go Booked q = booking-means s size (statusPayload f) payload-octets (responseIn f) q
+      go : (r : ReadAnswer) → readAnswer services f (boxOf s) ≡ r → Same (boxOf (responseBytes services r f s)) (afterResponse services r f (boxOf s))
+      go Booked q = booking-means s size (statusPayload f) payload-octets (responseIn services f) q
       go Known q = same-box (boxOf s)
       go (Refused e) q = same-box (boxOf s)
       go NotStatusResponse q = same-box (boxOf s)
@@ -196,13 +196,13 @@ booking-length (heard.Refused e) said s = refl
 booking-length heard.Other said s = refl
 booking-length (heard.Status source) said s = booked-length s (slotOf s (source .0)) (enIn (said .fields)) (said .entries)
 
-pub read-length : (r : ReadAnswer) (f s : List ℕ) → length (responseBytes r f s) ≡ length s
-read-length Booked f s = booking-length (responseIn f) (statusIn f) s
-read-length Known f s = refl
-read-length (Refused e) f s = refl
-read-length NotStatusResponse f s = refl
-read-length NotRegistered f s = refl
-read-length BookFull f s = refl
+pub read-length : (services : List ℕ) (r : ReadAnswer) (f s : List ℕ) → length (responseBytes services r f s) ≡ length s
+read-length services Booked f s = booking-length (responseIn services f) (statusIn f) s
+read-length services Known f s = refl
+read-length services (Refused e) f s = refl
+read-length services NotStatusResponse f s = refl
+read-length services NotRegistered f s = refl
+read-length services BookFull f s = refl
 
 -- ---- request
 

@@ -20,7 +20,7 @@ use Rattle.collector.specs.declared.TakeAnswer.{TakeAnswer}
 pub data BoxRun : List ℕ → Type 0 where
   fresh : (s : List ℕ) → Fresh s → BoxRun s
   registers : {s : List ℕ} (i : NodeId) (r : RegisterAnswer) (after : List ℕ) → BoxRun s → Registers i r s after → BoxRun after
-  reads : {s : List ℕ} (frame : List ℕ) (r : ReadAnswer) (after : List ℕ) → BoxRun s → Reads frame r s after → BoxRun after
+  reads : {s : List ℕ} (services frame : List ℕ) (r : ReadAnswer) (after : List ℕ) → BoxRun s → Reads services frame r s after → BoxRun after
   takes : {s : List ℕ} (i : NodeId) (r : TakeAnswer) (after : List ℕ) → BoxRun s → Takes i r s after → BoxRun after
 
 abbrev pub isIn : ℕ → List ℕ → Bool

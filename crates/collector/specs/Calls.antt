@@ -28,11 +28,11 @@ pub record Registers (i : NodeId) (r : RegisterAnswer) (state after : List ℕ) 
   pub box : Same (boxOf after) (afterRegister r (i .0) (boxOf state))
   pub bytes : after ≡ registerBytes r (i .0) state
 
-pub record Reads (frame : List ℕ) (r : ReadAnswer) (state after : List ℕ) : Type 0 where
-  pub answer : r ≡ readAnswer frame (boxOf state)
-  pub cause : readCause r ≡ readCause (readAnswer frame (boxOf state))
-  pub box : Same (boxOf after) (afterResponse r frame (boxOf state))
-  pub bytes : after ≡ responseBytes r frame state
+pub record Reads (services frame : List ℕ) (r : ReadAnswer) (state after : List ℕ) : Type 0 where
+  pub answer : r ≡ readAnswer services frame (boxOf state)
+  pub cause : readCause r ≡ readCause (readAnswer services frame (boxOf state))
+  pub box : Same (boxOf after) (afterResponse services r frame (boxOf state))
+  pub bytes : after ≡ responseBytes services r frame state
 
 -- the state is lent to be read: it stays
 pub record Flags (i : NodeId) (r : FlagsAnswer) (state : List ℕ) : Type 0 where

@@ -134,8 +134,8 @@ bookingBytes (heard.Refused e) said s = s
 bookingBytes heard.Other said s = s
 bookingBytes (heard.Status source) said s = bookedBytes s (slotOf s (source .0)) (enIn (said .fields)) (said .entries)
 
-abbrev pub responseBytes : ReadAnswer → List ℕ → List ℕ → List ℕ
-responseBytes r f s = whenBooked r (bookingBytes (responseIn f) (statusIn f) s) s
+abbrev pub responseBytes : List ℕ → ReadAnswer → List ℕ → List ℕ → List ℕ
+responseBytes services r f s = whenBooked r (bookingBytes (responseIn services f) (statusIn f) s) s
 
 -- the book's start moves past its first record
 unfoldable pub takenBytes : List ℕ → ℕ → List ℕ

@@ -13,8 +13,8 @@ use Rattle.types.specs.Codes.{pick, need}
 use Rattle.types.specs.Nodes.{isCnNodeId}
 use Rattle.types.specs.declared.NodeId.{NodeId}
 use Rattle.types.specs.declared.requested_service.RequestedServiceId.the-variants.{StatusRequest}
-use Rattle.types.specs.declared.service.ServiceId.{ServiceId}
-use Rattle.types.specs.declared.service.ServiceId.the-variants as service
+use Rattle.services.specs.Ids.{statusResponse}
+use Rattle.services.specs.declared.ServiceId.{ServiceId}
 use Rattle.section.specs.Write.{writeAnswer, overwritten}
 use Rattle.section.specs.declared.WriteAnswer.{WriteAnswer}
 use Rattle.section.specs.declared.WriteAnswer.the-variants as write
@@ -122,19 +122,9 @@ afterRegister r i b =
 
 -- ---- reading a frame
 
+-- service 2, whatever the table
 abbrev pub responseOfService : ServiceId → NodeId → Heard
-responseOfService service.IdentResponse source = heard.Other
-responseOfService service.StatusResponse source = heard.Status source
-responseOfService service.NmtRequest source = heard.Other
-responseOfService service.NmtCommand source = heard.Other
-responseOfService service.Sdo source = heard.Other
-responseOfService service.NMTPublishTime source = heard.Other
-responseOfService service.NMTPublishNMTState source = heard.Other
-responseOfService service.NMTPublishNodeState source = heard.Other
-responseOfService service.NMTPublishNodeList source = heard.Other
-responseOfService service.NMTPublishEmergNew source = heard.Other
-responseOfService service.NMTPublishHeartbeat source = heard.Other
-responseOfService service.NMTPublishActiveNodes source = heard.Other
+responseOfService s source = pick (eqb (s .0) statusResponse) (heard.Status source) heard.Other
 
 abbrev pub responseInFrame : PowerlinkFrame → Heard
 responseInFrame (Soc f) = heard.Other
@@ -147,9 +137,10 @@ abbrev pub responseInAnswer : FrameAnswer → Heard
 responseInAnswer (frame.Refused e) = heard.Refused e
 responseInAnswer (frame.Frame f) = responseInFrame f
 
--- what the box wants in the octets of a frame: whose StatusResponse it is, that it is another frame, or why they cannot be read ..
-abbrev pub responseIn : List ℕ → Heard
-responseIn f = responseInAnswer (readFrame f)
+-- what the box wants in the octets of a frame: whose StatusResponse it is, that it is another frame, or why they cannot be read under a
+-- table ..
+abbrev pub responseIn : List ℕ → List ℕ → Heard
+responseIn services f = responseInAnswer (readFrame services f)
 
 -- "the box reads it from section byte 4, untrimmed"
 abbrev pub statusPayload : List ℕ → List ℕ
@@ -192,8 +183,8 @@ responseAnswer (heard.Refused e) said b = Refused e
 responseAnswer heard.Other said b = NotStatusResponse
 responseAnswer (heard.Status source) said b = accountAnswer said (b .accounts (source .0))
 
-unfoldable pub readAnswer : List ℕ → Box → ReadAnswer
-readAnswer f b = responseAnswer (responseIn f) (statusIn f) b
+unfoldable pub readAnswer : List ℕ → List ℕ → Box → ReadAnswer
+readAnswer services f b = responseAnswer (responseIn services f) (statusIn f) b
 
 -- 01's number for each case; behind 0 what C tells: 0 known, 1 booked
 abbrev pub readCause : ReadAnswer → Cause
@@ -223,8 +214,8 @@ afterBooking heard.Other said b = b
 afterBooking (heard.Status source) said b = withAccount (source .0) (bookedAccount said (b .accounts (source .0))) b
 
 -- only what is booked changes anything
-abbrev pub afterResponse : ReadAnswer → List ℕ → Box → Box
-afterResponse r f b = whenBooked r (afterBooking (responseIn f) (statusIn f) b) b
+abbrev pub afterResponse : List ℕ → ReadAnswer → List ℕ → Box → Box
+afterResponse services r f b = whenBooked r (afterBooking (responseIn services f) (statusIn f) b) b
 
 -- ---- the flags
 

@@ -6,9 +6,8 @@ use crate::RequestAnswer;
 use crate::RequestFields;
 use control::soa::SoAFlags;
 use control::soa::SoAFrame;
-use frame::PowerlinkFrame;
-use frame::write::serialize_frame;
 use section::WriteAnswer;
+use section::write_behind;
 use types::NodeId;
 use types::requested_service::RequestedServiceId;
 
@@ -30,8 +29,9 @@ pub(crate) fn write_request(
         id,
         fields.epl_version,
     );
+    let eth_header = soa.eth_header;
     let frame = soa.frame;
-    match serialize_frame(soa.eth_header, PowerlinkFrame::SoA(frame), b"", target) {
+    match write_behind(&eth_header.to_bytes(), &frame.to_bytes(), b"", target) {
         WriteAnswer::Written(n) => RequestAnswer::Written(n),
         WriteAnswer::Refused(e) => RequestAnswer::Refused(e),
     }

@@ -24,6 +24,7 @@ use reading::Heard;
 use reading::hear;
 use reading::read_status;
 use records::ENTRY_LEN;
+use services::table::Services;
 use state::NODES;
 use state::count;
 use state::ea;
@@ -149,10 +150,10 @@ pub fn is_registered(state: &Collector, id: NodeId) -> bool
 }
 
 // Reads a frame: the batch of a registered node's StatusResponse goes into its book, whole, unless it is there already.
-pub fn read(state: &mut Collector, buffer: &[u8]) -> ReadAnswer
-    ensures { λ r. ⌜ Reads (now (buffer .entry)) r (now (state .entry)) (now (state .exit)) ⌝ }
+pub fn read(state: &mut Collector, services: &Services, buffer: &[u8]) -> ReadAnswer
+    ensures { λ r. ⌜ Reads (now (services .entry)) (now (buffer .entry)) r (now (state .entry)) (now (state .exit)) ⌝ }
 {
-    match hear(buffer) {
+    match hear(services, buffer) {
         Heard::Refused(e) => ReadAnswer::Refused(e),
         Heard::Other => ReadAnswer::NotStatusResponse,
         // The payload from octet 4 of the section on, untrimmed: an answer without entries ends in zeros.

@@ -18,11 +18,12 @@ use crate::state::slot;
 use codec::FrameAnswer;
 use codec::read_frame;
 use frame::PowerlinkFrame;
+use services::STATUS_RESPONSE;
+use services::table::Services;
 use status_response::fields::StatusAnswer;
 use status_response::fields::read_fields;
 use types::NodeId;
 use types::hal::PowerlinkError;
-use types::service::ServiceId;
 
 // What a frame is to the managing node.
 pub enum Heard {
@@ -32,22 +33,21 @@ pub enum Heard {
 }
 
 // A StatusResponse with its source, another frame, or none.
-pub(crate) fn hear(buffer: &[u8]) -> Heard
-    ensures { λ r. ⌜ r ≡ responseIn (now (buffer .entry)) ⌝ }
+pub(crate) fn hear(services: &Services, buffer: &[u8]) -> Heard
+    ensures { λ r. ⌜ r ≡ responseIn (now (services .entry)) (now (buffer .entry)) ⌝ }
 {
-    let frame = match read_frame(buffer) {
+    let frame = match read_frame(services, buffer) {
         FrameAnswer::Refused(e) => return Heard::Refused(e),
         FrameAnswer::Frame(f) => f,
     };
     let PowerlinkFrame::ASnd(f) = frame else {
         return Heard::Other;
     };
-    let service = f.service_id;
-    let source = f.source;
-    match service {
-        ServiceId::StatusResponse => Heard::Status(source),
-        _ => Heard::Other,
+    if f.service_id.0 != STATUS_RESPONSE {
+        return Heard::Other;
     }
+    let source = f.source;
+    Heard::Status(source)
 }
 
 // Reads the StatusResponse of the node `source`.

@@ -1,17 +1,22 @@
 // Asynchronous Send (EPSG DS 301, 4.6.1.1.6).
 ghost use mathlib.Core.Path.{_≡_};
+ghost use mathlib.Core.List.{_++_};
 ghost use Rattle.types.specs.Addresses.{multicastASnd};
-ghost use Rattle.section.specs.Write.{Writes};
-ghost use Rattle.control.specs.ASnd.{newASnd, asndBytes, asndSection};
+ghost use Rattle.section.specs.Write.{Serializes};
+ghost use Rattle.control.specs.ASnd.{newASnd, asndBytes, asndSection, served};
 use section::WriteAnswer;
-use section::write_section;
+use section::fits;
+use section::write_behind;
+use services::ServiceId;
+use services::table::Services;
+use services::table::contains;
 use types::C_DLL_MULTICAST_ASND;
 use types::NodeId;
 use types::basic::ETH_LEN;
 use types::basic::EthernetHeader;
 use types::basic::MacAddress;
+use types::hal::PowerlinkError;
 use types::message_type::MessageType;
-use types::service::ServiceId;
 
 // How many octets stand in front of the payload, in its section and in its frame.
 pub const FIELDS_LEN: usize = 4;
@@ -70,19 +75,38 @@ impl ASndFrame {
     pub fn to_bytes(self) -> [u8; FIELDS_LEN]
         ensures { λ r. ⌜ r ≡ asndBytes self ⌝ }
     {
-        let service = self.service_id;
         [
             MessageType::ASnd.to_u8(),
             self.destination.0,
             self.source.0,
-            service.to_u8(),
+            self.service_id.0,
         ]
     }
 
-    // Writes the section with its payload, if it fits.
-    pub fn serialize(self, payload: &[u8], target: &mut [u8]) -> WriteAnswer
-        ensures { λ r. ⌜ Writes (asndSection self (now (payload .entry))) r (now (target .entry)) (now (target .exit)) ⌝ }
+    // Writes the section with its payload, if it fits and the table holds its service.
+    pub fn serialize(self, services: &Services, payload: &[u8], target: &mut [u8]) -> WriteAnswer
+        ensures { λ r. ⌜ Serializes (served (now (services .entry)) (self .«service_id») (asndSection self (now (payload .entry)))) r (now (target .entry)) (now (target .exit)) ⌝ }
     {
-        write_section(&self.to_bytes(), payload, target)
+        self.serialize_behind(services, b"", payload, target)
+    }
+
+    // Writes the octets `front` and behind them such a section, if both fit.
+    pub fn serialize_behind(
+        self,
+        services: &Services,
+        front: &[u8],
+        payload: &[u8],
+        target: &mut [u8],
+    ) -> WriteAnswer
+        ensures { λ r. ⌜ Serializes (served (now (services .entry)) (self .«service_id») (now (front .entry) ++ asndSection self (now (payload .entry)))) r (now (target .entry)) (now (target .exit)) ⌝ }
+    {
+        let service = self.service_id.0;
+        if contains(services, service) {
+            return write_behind(front, &self.to_bytes(), payload, target);
+        }
+        if !fits(front.len(), FIELDS_LEN + payload.len(), target.len()) {
+            return WriteAnswer::Refused(PowerlinkError::BufferTooShort);
+        }
+        WriteAnswer::Refused(PowerlinkError::InvalidServiceId(service))
     }
 }

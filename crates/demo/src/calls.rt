@@ -3,6 +3,7 @@ use crate::World;
 use crate::entries::entry;
 use crate::fields::answer_fields;
 use crate::fields::request_fields;
+use crate::house;
 use crate::outcome;
 use crate::target::FILL;
 use crate::target::ROOM;
@@ -41,12 +42,21 @@ pub fn raise_many(mut w: World, n: u64) -> World {
     w
 }
 
+// Loads a table of the lines to check, in place of the one that the calls go by.
+pub fn load(mut w: World, n: u64) -> World {
+    let got = outcome::of_load(house::load_numbered(&mut w.services, n));
+    w.got = got;
+    w
+}
+
 // The head's answer into a target of `room` octets; `some` goes into its fields.
 pub fn answer(mut w: World, room: usize, some: u8) -> World {
     let head = w.head;
+    let services = w.services;
     let mut space = [FILL; ROOM];
     let target = target_in(&mut space, room);
-    let got = reporter::answer(&mut w.state, answer_fields(head.id, some), target);
+    let fields = answer_fields(head.id, some);
+    let got = reporter::answer(&mut w.state, &services, fields, target);
     w.has_written(space, outcome::of_writing(got))
 }
 
@@ -54,7 +64,8 @@ pub fn answer(mut w: World, room: usize, some: u8) -> World {
 pub fn box_reads(mut w: World) -> World {
     let octets = w.octets;
     let len = w.len;
-    let got = collector::read(&mut w.at_box, written(&octets, len));
+    let services = w.services;
+    let got = collector::read(&mut w.at_box, &services, written(&octets, len));
     w.got = outcome::of_box_reading(got);
     w
 }
@@ -63,7 +74,8 @@ pub fn box_reads(mut w: World) -> World {
 pub fn head_reads(mut w: World) -> World {
     let octets = w.octets;
     let len = w.len;
-    let got = reporter::read(&mut w.state, written(&octets, len));
+    let services = w.services;
+    let got = reporter::read(&mut w.state, &services, written(&octets, len));
     w.got = outcome::of_head_reading(got);
     w
 }

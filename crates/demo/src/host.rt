@@ -3,10 +3,13 @@
 use crate::World;
 use crate::fields::EPL_VERSION;
 use crate::fields::station;
+use crate::house::SERVICE;
 use crate::outcome::of_writing;
 use crate::target::FILL;
 use crate::target::ROOM;
+use crate::target::target_in;
 use collector::FlagsAnswer;
+use control::asnd::ASndFrame;
 use control::soa::SoAFlags;
 use control::soa::SoAFrame;
 use frame::PowerlinkFrame;
@@ -15,6 +18,7 @@ use poll::preq::PReqFlags;
 use poll::preq::PReqFrame;
 use poll::pres::PResFlags;
 use poll::pres::PResFrame;
+use services::ServiceId;
 use types::EPLVersion;
 use types::NodeId;
 use types::basic::EthernetHeader;
@@ -24,11 +28,27 @@ use types::poll_flags::RSFlag;
 use types::requested_service::RequestedServiceId;
 use types::states::NmtState;
 
-// Writes a frame without payload.
-fn writes(w: World, eth_header: EthernetHeader, f: PowerlinkFrame) -> World {
+// Writes a frame without payload into a target of `room` octets.
+fn writes(w: World, eth_header: EthernetHeader, f: PowerlinkFrame, room: usize) -> World {
     let mut space = [FILL; ROOM];
-    let got = serialize_frame(eth_header, f, b"", &mut space);
+    let target = target_in(&mut space, room);
+    let got = serialize_frame(&w.services, eth_header, f, b"", target);
     w.has_written(space, of_writing(got))
+}
+
+// An ASnd of a service of the house's own to the head whose turn it is.
+pub fn asnd(w: World, room: usize) -> World {
+    let head = w.head;
+    let made = ASndFrame::new(
+        station(240),
+        station(head.id),
+        NodeId(head.id),
+        NodeId(240),
+        ServiceId(SERVICE),
+    );
+    let eth_header = made.eth_header;
+    let f = made.frame;
+    writes(w, eth_header, PowerlinkFrame::ASnd(f), room)
 }
 
 pub fn preq(w: World, id: u8, ea: bool) -> World {
@@ -47,7 +67,7 @@ pub fn preq(w: World, id: u8, ea: bool) -> World {
     );
     let eth_header = made.eth_header;
     let f = made.frame;
-    writes(w, eth_header, PowerlinkFrame::PReq(f))
+    writes(w, eth_header, PowerlinkFrame::PReq(f), ROOM)
 }
 
 fn ident_request(w: World, id: u8, flags: SoAFlags) -> World {
@@ -61,7 +81,7 @@ fn ident_request(w: World, id: u8, flags: SoAFlags) -> World {
     );
     let eth_header = made.eth_header;
     let f = made.frame;
-    writes(w, eth_header, PowerlinkFrame::SoA(f))
+    writes(w, eth_header, PowerlinkFrame::SoA(f), ROOM)
 }
 
 // What the box says of a head; nothing is told to one that is not registered.
@@ -105,5 +125,5 @@ pub fn pres(w: World) -> World {
     );
     let eth_header = made.eth_header;
     let f = made.frame;
-    writes(w, eth_header, PowerlinkFrame::PRes(f))
+    writes(w, eth_header, PowerlinkFrame::PRes(f), ROOM)
 }

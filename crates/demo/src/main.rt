@@ -1,9 +1,10 @@
-// The error exchange of one box and five heads, on a line that drops, delays and repeats. First 01's lines to check, one
-// by one. Then the simulation: after every call, each entry that a head accepted has to be in one place and only once.
+// The error exchange of one box and five heads, on a line that drops, delays and repeats. First the lines to check, one by
+// one. Then the simulation: after every call, each entry that a head accepted has to be in one place and only once.
 //
-// Heads 7, 120 and 239 are ours and registered; 21 is ours and is not; 200 is another supplier's. The managing node's host
-// sends frames of its own between the box's requests. The run has no input and is the same each time, so what it writes is
-// compared with what is stored. With the name of a file, what the box hands out is written there as a journal.
+// Heads 7, 120 and 239 are ours and registered; 21 is ours and is not; 200 is another supplier's. Heads 21 and 239 are under a
+// house's table of services, the others under the twelve of DS 301. The managing node's host sends frames of its own between
+// the box's requests. The run has no input and is the same each time, so what it writes is compared with what is stored. With
+// the name of a file, what the box hands out is written there as a journal.
 mod account;
 mod calls;
 mod check;
@@ -13,12 +14,14 @@ mod expected;
 mod fields;
 mod foreign;
 mod host;
+mod house;
 mod journal;
 mod line;
 mod lines;
 mod odd;
 mod outcome;
 mod progress;
+mod script;
 mod simulate;
 mod sums;
 mod table;
@@ -33,6 +36,7 @@ use octets::slices::front;
 use outcome::DONE;
 use reporter::REPORTER_LEN;
 use reporter::Reporter;
+use services::table::Services;
 use target::FILL;
 use target::ROOM;
 use target::Space;
@@ -80,6 +84,8 @@ pub struct World {
     // The head whose turn it is: its account, and its state, for which another supplier's has no use.
     pub head: Head,
     pub state: Reporter,
+    // The table of services that the turn's calls go by, at the head and at the box: the head's.
+    pub services: Services,
     pub at_box: Collector,
     // The last frames of each sender.
     pub line: [Frame; 48],
@@ -91,7 +97,7 @@ pub struct World {
     // Calls, and the refusals among them by cause.
     pub calls: u64,
     pub causes: [u64; 20],
-    // How often something does not hold that 01 says of a call, or of the calls so far.
+    // How often something does not hold that 01 or 02 says of a call, or of the calls so far.
     pub faults: u64,
     // Frames that the managing node sent, in one row: the box's requests, and those that its host sent by itself.
     pub sent: u64,
@@ -138,6 +144,7 @@ fn fresh(journal: i32) -> World {
     World {
         head,
         state,
+        services: house::twelve(),
         at_box: [0u8; COLLECTOR_LEN],
         line: [frame; 48],
         octets: [FILL; ROOM],
@@ -190,7 +197,8 @@ fn demo(journal: i32) {
     say(b"lines to check: the cause of a refusal, a length, or what a call came to\n");
     let scene = start(lines::all(fresh(journal)));
     say(
-        b"the simulation: entries, then answers on their way to the box; head 200 is another supplier's, with batches of 6\n",
+        b"the simulation: entries, then answers on their way to the box; head 200 is another supplier's, with batches of 6\n\
+        every second head, 21 and 239, is under the house's table of services, the others under the twelve of DS 301\n",
     );
     let shown = table::simulated(simulated(scene));
     say(b"the line is good from here on\n");

@@ -2,6 +2,7 @@
 use crate::World;
 use crate::calls;
 use crate::host;
+use crate::house;
 use crate::line::MANAGING_NODE;
 use crate::outcome::IGNORED;
 use crate::sums::less;
@@ -10,8 +11,12 @@ use crate::target::Space;
 // A node that takes no part in the exchange, 21h.
 const STRANGER: u8 = 33;
 
+// Frames of so many kinds, from 0 on, are given to both ends.
+const BOTH: u64 = 11;
+
 // What changes in a frame, by kind: up to four places and the octets there. Kinds 0 to 6 are refused with cause 1 to 7; 0 and
-// 2 are cut. Then frames of the stranger: as it is, an IdentResponse, a PReq. Then an SoC, and an answer with no state.
+// 2 are cut. Then frames of the stranger: as it is, an IdentResponse, an ASnd of the house's service 20h, a PReq. Then an SoC,
+// and an answer with no state.
 fn changes(kind: u64) -> u64 {
     match kind {
         1 => 0x0C08,
@@ -21,9 +26,10 @@ fn changes(kind: u64) -> u64 {
         6 => 0x0E05_11FD_1409,
         7 => 0x1021,
         8 => 0x1021_0E06_1101,
-        9 => 0x1021_0E03_1600_1700,
-        10 => 0x0E01,
-        11 => 0x1477,
+        9 => 0x1021_0E06_1120,
+        10 => 0x1021_0E03_1600_1700,
+        11 => 0x0E01,
+        12 => 0x1477,
         _ => 0,
     }
 }
@@ -54,8 +60,20 @@ pub fn spoil(mut w: World, kind: u64) -> World {
     w
 }
 
-// What the box makes of a frame of a kind.
-fn box_makes(kind: u64) -> u64 {
+// Whether a head's table lacks the service of a frame of a kind: the house's has no IdentResponse, and the twelve have no 20h.
+fn lacks(number: usize, kind: u64) -> bool {
+    match kind {
+        8 => house::has(number),
+        9 => !house::has(number),
+        _ => false,
+    }
+}
+
+// What the box makes of a frame of a kind, under the table of a head.
+fn box_makes(number: usize, kind: u64) -> u64 {
+    if lacks(number, kind) {
+        return 6;
+    }
     match kind {
         0..=6 => kind + 1,
         7 => 11,
@@ -63,30 +81,41 @@ fn box_makes(kind: u64) -> u64 {
     }
 }
 
+// What the head makes of it.
+fn head_makes(number: usize, kind: u64) -> u64 {
+    if lacks(number, kind) {
+        return 6;
+    }
+    match kind {
+        0..=6 => kind + 1,
+        _ => IGNORED,
+    }
+}
+
 // The box is given damaged octets, a frame of another kind or node, or the head's PRes.
 pub fn to_box(w: World, chance: u64) -> World {
     let head = w.head;
-    let kind = chance % 11;
+    let kind = chance % (BOTH + 1);
     if head.sent == 0 {
         return w;
     }
-    let odd = if kind == 10 {
-        host::pres(w)
-    } else {
+    let odd = if kind < BOTH {
         spoil(w.is_given(head.number, less(head.sent, 1)), kind)
+    } else {
+        host::pres(w)
     };
-    calls::box_reads(odd).comes_to(box_makes(kind))
+    calls::box_reads(odd).comes_to(box_makes(head.number, kind))
 }
 
 // The head is given damaged octets, or a frame of another node.
 pub fn to_head(w: World, chance: u64) -> World {
-    let kind = chance % 10;
+    let head = w.head;
+    let kind = chance % BOTH;
     if w.sent == 0 {
         return w;
     }
     let odd = spoil(w.is_given(MANAGING_NODE, less(w.sent, 1)), kind);
-    let expected = if kind < 7 { kind + 1 } else { IGNORED };
-    calls::head_reads(odd).comes_to(expected)
+    calls::head_reads(odd).comes_to(head_makes(head.number, kind))
 }
 
 // Calls for a node that is not registered, and registering that is refused.

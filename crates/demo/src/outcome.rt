@@ -1,12 +1,13 @@
-// What a call came to, as a number: 01's cause where it was refused, the length where a frame was written.
+// What a call came to, as a number: the cause of 01 or 02 where it was refused, the length where a frame was written.
 use collector::RegisterAnswer;
 use collector::RequestAnswer;
 use collector::TakeAnswer;
 use reporter::NewAnswer;
 use reporter::RaiseAnswer;
 use section::WriteAnswer;
+use services::load::LoadAnswer;
 
-// The call did what it is for: raised, booked, closed, registered, handed out.
+// The call did what it is for: raised, booked, closed, registered, handed out, loaded.
 pub const DONE: u64 = 900;
 
 // The box has booked the batch before.
@@ -37,6 +38,15 @@ pub fn of_writing(answer: WriteAnswer) -> u64 {
     match answer {
         WriteAnswer::Written(len) => len as u64,
         WriteAnswer::Refused(e) => e.number() as u64,
+    }
+}
+
+pub fn of_load(answer: LoadAnswer) -> u64 {
+    match answer {
+        LoadAnswer::Loaded => DONE,
+        LoadAnswer::NotATable => 20,
+        LoadAnswer::NotAscending => 21,
+        LoadAnswer::WithoutStatusResponse => 22,
     }
 }
 

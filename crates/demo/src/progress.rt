@@ -4,6 +4,7 @@ use crate::Head;
 use crate::Node;
 use crate::Scene;
 use crate::World;
+use crate::house;
 use crate::line::place;
 use crate::sums::plus;
 use crate::target::Space;
@@ -70,9 +71,11 @@ impl Scene {
         let node = self.nodes[k];
         let head = node.head;
         let state = node.state;
+        let services = house::table_of(k);
         let mut world = self.world;
         world.head = head;
         world.state = state;
+        world.services = services;
         world
     }
 

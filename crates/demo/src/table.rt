@@ -115,7 +115,7 @@ pub fn verdict(scene: Scene) {
         say(b"every accepted fault is accounted for\n");
     } else {
         tell(
-            b"# times something else than 01 has\nFAULTS ARE MISSING OR DOUBLE\n",
+            b"# times something else than 01 and 02 have\nFAULTS ARE MISSING OR DOUBLE\n",
             [end.faults, 0, 0],
         );
     }

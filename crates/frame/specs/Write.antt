@@ -7,7 +7,8 @@ use Rattle.types.specs.Messages.{messageCode}
 use Rattle.types.specs.declared.NodeId.{NodeId}
 use Rattle.types.specs.declared.basic.EthernetHeader.{EthernetHeader}
 use Rattle.types.specs.declared.message_type.MessageType.{MessageType}
-use Rattle.control.specs.ASnd.{asndSection}
+use Rattle.section.specs.Write.{Coded, octets}
+use Rattle.control.specs.ASnd.{asndSection, served}
 use Rattle.control.specs.SoA.{soaSection}
 use Rattle.control.specs.SoC.{socSection}
 use Rattle.poll.specs.PReq.{preqSection}
@@ -30,3 +31,11 @@ frameSection (ASnd f) payload = asndSection f payload
 -- the Ethernet header, then the section
 unfoldable pub frameBytes : EthernetHeader → PowerlinkFrame → List ℕ → List ℕ
 frameBytes h f payload = ethBytes h ++ frameSection f payload
+
+-- the octets of a frame under a table of services, which ASnd alone has (02, CR 1)
+abbrev pub underTable : List ℕ → PowerlinkFrame → List ℕ → Coded
+underTable services (Soc f) bs = octets bs
+underTable services (PReq f) bs = octets bs
+underTable services (PRes f) bs = octets bs
+underTable services (SoA f) bs = octets bs
+underTable services (ASnd f) bs = served services (f .«service_id») bs

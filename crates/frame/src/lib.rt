@@ -1,8 +1,8 @@
 // The five kinds joined, and writing any of them (powerlink-rs: frame/mod.rs).
 ghost use mathlib.Core.Path.{_≡_};
 ghost use mathlib.Core.List.{_++_};
-ghost use Rattle.section.specs.Write.{Writes};
-ghost use Rattle.frame.specs.Write.{frameSection};
+ghost use Rattle.section.specs.Write.{Serializes};
+ghost use Rattle.frame.specs.Write.{frameSection, underTable};
 ghost use Rattle.frame.specs.Kinds.{intoSoc, intoPReq, intoPRes, intoSoA, intoASnd};
 
 pub mod write;
@@ -14,6 +14,7 @@ use poll::preq::PReqFrame;
 use poll::pres::PResFrame;
 use section::WriteAnswer;
 use section::write_behind;
+use services::table::Services;
 
 pub enum PowerlinkFrame {
     Soc(SocFrame),
@@ -95,28 +96,30 @@ impl PowerlinkFrame {
         IntoASnd::ASnd(f)
     }
 
-    // Writes the section with its payload, if it fits. SoC and SoA have no payload: what is lent as one is left aside.
-    pub fn serialize(self, payload: &[u8], target: &mut [u8]) -> WriteAnswer
-        ensures { λ r. ⌜ Writes (frameSection self (now (payload .entry))) r (now (target .entry)) (now (target .exit)) ⌝ }
+    // Writes the section with its payload, if it fits and the table holds an ASnd's service. SoC and SoA have no payload: what
+    // is lent as one is left aside.
+    pub fn serialize(self, services: &Services, payload: &[u8], target: &mut [u8]) -> WriteAnswer
+        ensures { λ r. ⌜ Serializes (underTable (now (services .entry)) self (frameSection self (now (payload .entry)))) r (now (target .entry)) (now (target .exit)) ⌝ }
     {
-        self.serialize_behind(b"", payload, target)
+        self.serialize_behind(services, b"", payload, target)
     }
 
     // Writes the octets `front` and behind them such a section, if both fit.
     pub(crate) fn serialize_behind(
         self,
+        services: &Services,
         front: &[u8],
         payload: &[u8],
         target: &mut [u8],
     ) -> WriteAnswer
-        ensures { λ r. ⌜ Writes (now (front .entry) ++ frameSection self (now (payload .entry))) r (now (target .entry)) (now (target .exit)) ⌝ }
+        ensures { λ r. ⌜ Serializes (underTable (now (services .entry)) self (now (front .entry) ++ frameSection self (now (payload .entry)))) r (now (target .entry)) (now (target .exit)) ⌝ }
     {
         match self {
             PowerlinkFrame::Soc(f) => write_behind(front, &f.to_bytes(), b"", target),
             PowerlinkFrame::PReq(f) => write_behind(front, &f.to_bytes(), payload, target),
             PowerlinkFrame::PRes(f) => write_behind(front, &f.to_bytes(), payload, target),
             PowerlinkFrame::SoA(f) => write_behind(front, &f.to_bytes(), b"", target),
-            PowerlinkFrame::ASnd(f) => write_behind(front, &f.to_bytes(), payload, target),
+            PowerlinkFrame::ASnd(f) => f.serialize_behind(services, front, payload, target),
         }
     }
 }

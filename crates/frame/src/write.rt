@@ -1,10 +1,11 @@
 // Writing the two headers, and a frame with its Ethernet header in front (powerlink-rs: CodecHelpers).
-ghost use Rattle.section.specs.Write.{Writes};
+ghost use Rattle.section.specs.Write.{Writes, Serializes};
 ghost use Rattle.types.specs.Header.{ethBytes};
-ghost use Rattle.frame.specs.Write.{plHeaderBytes, frameBytes};
+ghost use Rattle.frame.specs.Write.{plHeaderBytes, frameBytes, underTable};
 use crate::PowerlinkFrame;
 use section::WriteAnswer;
 use section::write;
+use services::table::Services;
 use types::NodeId;
 use types::basic::EthernetHeader;
 use types::message_type::MessageType;
@@ -29,14 +30,15 @@ pub fn serialize_pl_header(
     write(&octets, target)
 }
 
-// Writes a whole frame, if it fits: its Ethernet header, its section and its payload.
+// Writes a whole frame, if it fits and the table holds an ASnd's service: its Ethernet header, its section and its payload.
 pub fn serialize_frame(
+    services: &Services,
     eth_header: EthernetHeader,
     frame: PowerlinkFrame,
     payload: &[u8],
     target: &mut [u8],
 ) -> WriteAnswer
-    ensures { λ r. ⌜ Writes (frameBytes «eth_header» frame (now (payload .entry))) r (now (target .entry)) (now (target .exit)) ⌝ }
+    ensures { λ r. ⌜ Serializes (underTable (now (services .entry)) frame (frameBytes «eth_header» frame (now (payload .entry)))) r (now (target .entry)) (now (target .exit)) ⌝ }
 {
-    frame.serialize_behind(&eth_header.to_bytes(), payload, target)
+    frame.serialize_behind(services, &eth_header.to_bytes(), payload, target)
 }

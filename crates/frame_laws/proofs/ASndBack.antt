@@ -1,18 +1,19 @@
--- An ASnd section that is written is read back, and its payload.
+-- An ASnd section that is written is read back under every table that holds its service, and its payload.
 -- Assumes nothing.
 use Prim.Native.Nat.{ℕ, _+_, _-_, _≤_, _<_}
-use mathlib.Core.Path.{_≡_, refl, sym, ap, _∙_}
+use mathlib.Core.Path.{_≡_, sym, _∙_}
+use mathlib.Core.Bool.{true}
 use mathlib.Core.Logic.{⊎-elim}
 use mathlib.Core.List.{List, _++_}
 use native.Mathlib.Omega.{arith}
-use lib.ListN.{length, take, drop, replicate, length-append, length-replicate}
+use lib.ListN.{length, take, drop}
 use lib.Seq.{take-at}
 use borrow.Author.Tests.{le-leb, eq-eqb, ne-eqb}
 use Rattle.octets.specs.Trim.{trimmedLength}
 use Rattle.octets.proofs.Order.{le-or-lt}
 use Rattle.octets.proofs.Trim.{trimmed-padded}
 use Rattle.types.specs.Messages.{messageOf}
-use Rattle.types.proofs.ReadBack.{service-known}
+use Rattle.services.specs.Table.{holds}
 use Rattle.control.specs.ASnd.{asndBytes, asndSection}
 use Rattle.control.specs.declared.asnd.ASndFrame.{ASndFrame}
 use Rattle.section.specs.Write.{padded}
@@ -22,11 +23,12 @@ use Rattle.codec.specs.ASnd.{readASnd, asndPayloadLength}
 use Rattle.codec.specs.Frame.{kindIn, readSection}
 use Rattle.codec.specs.declared.FrameAnswer.the-variants.{Frame}
 
-module _ (f : ASndFrame) (p : List ℕ) where
-  pub asnd-back : readSection (asndSection f p) ≡ Frame (ASnd f)
-  unfolding messageOf kindIn readSection readASnd asndSection padded
-  asnd-back = rw (le-leb 4 (length (asndSection f p)) (omega arith), service-known (f .«service_id»))
+pub asnd-back : (services : List ℕ) (f : ASndFrame) (p : List ℕ) → holds services (f .«service_id» .0) ≡ true
+    → readSection services (asndSection f p) ≡ Frame (ASnd f)
+unfolding messageOf kindIn readSection readASnd asndSection padded
+asnd-back services f p held = rw (le-leb 4 (length (asndSection f p)) (omega arith), held)
 
+module _ (f : ASndFrame) (p : List ℕ) where
   section-length : length (asndSection f p) ≡ 4 + length p + (46 - (4 + length p))
   unfolding asndSection
   section-length = padded-length (asndBytes f) p

@@ -9,10 +9,8 @@ use Rattle.octets.specs.Numbers.{leAt}
 use Rattle.octets.proofs.NumberBack.{number-again}
 use Rattle.types.specs.PollFlags.{pollOctet, priorityAt}
 use Rattle.types.specs.RequestedServices.{requestedCode}
-use Rattle.types.specs.Services.{serviceCode}
 use Rattle.types.specs.States.{stateCode}
 use Rattle.types.specs.declared.requested_service.RequestedServiceId.{RequestedServiceId}
-use Rattle.types.specs.declared.service.ServiceId.{ServiceId}
 use Rattle.types.specs.declared.states.NmtState.{NmtState}
 use Rattle.control.specs.ASnd.{asndBytes}
 use Rattle.control.specs.SoA.{soaFlagBits, soaBytes}
@@ -89,9 +87,8 @@ module _ (s : List ℕ) (o : Octets s) where
         → soaBytes (soaOf s st q) ≡ take 9 s
     soa-again m long es eq c = soa-front m es eq c ∙ elements-are 9 0 s (omega arith)
 
-  asnd-front : (v : ServiceId) → getD s 0 0 % 0x80 ≡ 6 → serviceCode v ≡ getD s 3 0 → PlainASnd s → asndBytes (asndOf s v) ≡ elements 4 0 s
-  asnd-front v m e c = cc (type-is 6 (c .message) m)
+  asnd-front : getD s 0 0 % 0x80 ≡ 6 → PlainASnd s → asndBytes (asndOf s) ≡ elements 4 0 s
+  asnd-front m c = cc (type-is 6 (c .message) m)
 
-  pub asnd-again : (v : ServiceId) → getD s 0 0 % 0x80 ≡ 6 → 4 ≤ length s → serviceCode v ≡ getD s 3 0 → PlainASnd s
-      → asndBytes (asndOf s v) ≡ take 4 s
-  asnd-again v m long e c = asnd-front v m e c ∙ elements-are 4 0 s (omega arith)
+  pub asnd-again : getD s 0 0 % 0x80 ≡ 6 → 4 ≤ length s → PlainASnd s → asndBytes (asndOf s) ≡ take 4 s
+  asnd-again m long c = asnd-front m c ∙ elements-are 4 0 s (omega arith)

@@ -38,16 +38,16 @@ OfPRes s (PRes f) = getD s presPollAt 0 ≡ allSetOctet → AllSet (f .flags .pr
 OfPRes s (SoA f) = Unit
 OfPRes s (ASnd f) = Unit
 
-pres-read : (s : List ℕ) (f : PowerlinkFrame) → readSection s ≡ Frame f → OfPRes s f
+pres-read : (services s : List ℕ) (f : PowerlinkFrame) → readSection services s ≡ Frame f → OfPRes s f
 unfolding presFlagsOf
-pres-read s =
-    by-tests s (OfPRes s)
+pres-read services s =
+    by-tests services s (OfPRes s)
     (record {
       soc = λ _ _. tt;
       preq = λ _ _ _. tt;
       pres = λ _ _ _ _ _ e. read (getD s presPollAt 0) e;
       soa = λ _ _ _ _ _ _. tt;
-      asnd = λ _ _ _ _. tt;
+      asnd = λ _ _ _. tt;
     })
 
 status-read : (s : List ℕ) (f : StatusFields) → readFields s ≡ Status f → getD s statusPollAt 0 ≡ allSetOctet → AllSet (f .pr) (f .rs)
@@ -58,7 +58,7 @@ unfolding presSection padded headBytes statusBytes
 flag-line-holds =
     record {
       presWritten = λ f payload a. written (f .flags .pr) (f .flags .rs) a;
-      presRead = λ s f e. pres-read s (PRes f) e;
+      presRead = λ services s f. pres-read services s (PRes f);
       statusWritten = λ f field es a. written (f .pr) (f .rs) a;
       statusRead = status-read;
     }

@@ -1,6 +1,6 @@
--- What stands behind a header that is written is read as a section, and the header as itself.
+-- What stands behind a header that is written is read as a section, under every table, and the header as itself.
 -- Assumes nothing.
-use Prim.Native.Nat.{ℕ, _+_, _<_}
+use Prim.Native.Nat.{ℕ, _<_}
 use mathlib.Core.Path.{_≡_, _∙_}
 use mathlib.Core.List.{List, _++_}
 use native.Mathlib.Omega.{arith}
@@ -18,13 +18,13 @@ use Rattle.frame_laws.proofs.Elements.{elements, elements-are}
 six : (l : List ℕ) → length l ≡ 6 → elements 6 0 l ≡ l
 six l e = elements-are 6 0 l (omega arith) ∙ take-all 6 l (omega arith)
 
-module _ (h : EthernetHeader) (s : List ℕ) (is : IsHeader h) where
-  pub header-back : ethHeaderOf (ethBytes h ++ s) ≡ h
-  unfolding ethHeaderOf ethBytes beAt
-  header-back =
-      rw (six (h .«destination_mac» .0) (is .destination), six (h .«source_mac» .0) (is .source), is .ethertype)
+header-back : (h : EthernetHeader) (s : List ℕ) → IsHeader h → ethHeaderOf (ethBytes h ++ s) ≡ h
+unfolding ethHeaderOf ethBytes beAt
+header-back h s is =
+    rw (six (h .«destination_mac» .0) (is .destination), six (h .«source_mac» .0) (is .source), is .ethertype)
 
-  pub section-back : 0 < length s → readFrame (ethBytes h ++ s) ≡ readSection s
+module _ (services : List ℕ) (h : EthernetHeader) (s : List ℕ) (is : IsHeader h) where
+  pub section-back : 0 < length s → readFrame services (ethBytes h ++ s) ≡ readSection services s
   unfolding kindOf readFrame readSection ethBytes beAt
   section-back k =
       rw (
@@ -34,6 +34,7 @@ module _ (h : EthernetHeader) (s : List ℕ) (is : IsHeader h) where
       )
 
   pub frame-back : 0 < length s
-      → deserializeFrame (ethBytes h ++ s) ≡ record { «eth_header» = h; answer = readSection s; «payload_place» = placeOf (readSection s) s }
+      → deserializeFrame services (ethBytes h ++ s)
+      ≡ record { «eth_header» = h; answer = readSection services s; «payload_place» = placeOf (readSection services s) s }
   unfolding deserializeFrame ethBytes
-  frame-back k = rw (section-back k, header-back)
+  frame-back k = rw (section-back k, header-back h s is)

@@ -21,4 +21,5 @@ pub mod SoCBack
 pub mod StatusAgain
 pub mod StatusPassed
 pub mod Trimmed
+pub mod Twelve
 pub mod WriteBack

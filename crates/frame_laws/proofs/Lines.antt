@@ -1,14 +1,15 @@
 -- The table of P lines holds: the definitions compute to what each line says.
 -- Assumes nothing.
+use Prim.Native.Nat.{ℕ}
 use mathlib.Core.Path.{_≡_, refl}
-use mathlib.Core.List.{map}
+use mathlib.Core.List.{List, map}
 use Rattle.octets.specs.Numbers.{leAt, beAt}
 use Rattle.types.specs.Header.{ethHeaderOf}
 use Rattle.types.specs.Messages.{messageOf}
 use Rattle.types.specs.PollFlags.{priorityIn}
 use Rattle.types.specs.RequestedServices.{requestedOf}
-use Rattle.types.specs.Services.{serviceOf}
 use Rattle.types.specs.States.{stateOf}
+use Rattle.services.specs.Table.{holds}
 use Rattle.codec.specs.ASnd.{readASnd, asndPayloadLength}
 use Rattle.codec.specs.Frame.{kindIn, kindOf, readFrame, deserializeFrame}
 use Rattle.codec.specs.PReq.{readPReq}
@@ -24,9 +25,9 @@ use Rattle.frame_laws.specs.Lines.{frameOutcome, statusOutcome, TableHol
 use Rattle.frame_laws.specs.StatusLines.{statusLines}
 use Rattle.frame_laws.proofs.FlagLines.{flag-line-holds}
 
-frames-hold : map frameOutcome frameLines ≡ frameLines
-unfolding leAt beAt ethHeaderOf messageOf priorityIn requestedOf serviceOf stateOf readASnd asndPayloadLength kindIn kindOf readFrame deserializeFrame readPReq presFlagsOf readPRes readSoA readSoC
-frames-hold = refl
+frames-hold : (services : List ℕ) → map (frameOutcome services) frameLines ≡ frameLines
+unfolding leAt beAt ethHeaderOf messageOf priorityIn requestedOf stateOf holds readASnd asndPayloadLength kindIn kindOf readFrame deserializeFrame readPReq presFlagsOf readPRes readSoA readSoC
+frames-hold services = refl
 
 statuses-hold : map statusOutcome statusLines ≡ statusLines
 unfolding leAt priorityIn stateOf readFields statusEntries entryTypeOf entryOf modeIn

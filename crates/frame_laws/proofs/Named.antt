@@ -10,14 +10,11 @@ use borrow.Author.Tests.{eqb-true}
 use Rattle.types.specs.Codes.{pick, decoded}
 use Rattle.types.specs.Messages.{messageCode, messages, messageOf}
 use Rattle.types.specs.RequestedServices.{requestedCode, requestedServices, requestedOf}
-use Rattle.types.specs.Services.{serviceCode, services, serviceOf}
 use Rattle.types.specs.States.{stateCode, states, stateOf}
 use Rattle.types.specs.declared.message_type.MessageType.{MessageType}
 use Rattle.types.specs.declared.message_type.MessageTypeAnswer.the-variants as message
 use Rattle.types.specs.declared.requested_service.RequestedServiceId.{RequestedServiceId}
 use Rattle.types.specs.declared.requested_service.RequestedServiceIdAnswer.the-variants as requested
-use Rattle.types.specs.declared.service.ServiceId.{ServiceId}
-use Rattle.types.specs.declared.service.ServiceIdAnswer.the-variants as service
 use Rattle.types.specs.declared.states.NmtState.{NmtState}
 use Rattle.types.specs.declared.states.NmtStateAnswer.the-variants as state
 
@@ -41,11 +38,6 @@ module _ (b : ℕ) where
   pub state-named : (s : NmtState) → stateOf b ≡ state.Known s → stateCode s ≡ b
   unfolding stateOf
   state-named s = code-of stateCode state.Known (state.Unknown b) (λ x y e. cc) (λ x e. let z : _≡_ {A = ℕ} 0 1 = cc in omega arith) b s states
-
-  pub service-named : (v : ServiceId) → serviceOf b ≡ service.Known v → serviceCode v ≡ b
-  unfolding serviceOf
-  service-named v =
-      code-of serviceCode service.Known (service.Unknown b) (λ x y e. cc) (λ x e. let z : _≡_ {A = ℕ} 0 1 = cc in omega arith) b v services
 
   pub requested-named : (q : RequestedServiceId) → requestedOf b ≡ requested.Known q → requestedCode q ≡ b
   unfolding requestedOf

@@ -30,7 +30,7 @@ ea = three _ (two _ refl refl refl refl) (two _ refl refl refl refl)
 rd : Reads3 5 2 0 0 (λ x y z. z)
 rd = three _ (two _ refl refl refl refl) (two _ refl refl refl refl)
 
-module _ (f : PReqFrame) (p : List ℕ) (small : f .«payload_size» < 2 ^ 16) where
+module _ (services : List ℕ) (f : PReqFrame) (p : List ℕ) (small : f .«payload_size» < 2 ^ 16) where
   size : leAt 2 8 (preqSection f p) ≡ f .«payload_size»
   unfolding preqSection padded leAt
   size = bytes-back 2 (f .«payload_size») (omega arith)
@@ -39,7 +39,7 @@ module _ (f : PReqFrame) (p : List ℕ) (small : f .«payload_size» < 2 ^ 16) w
   unfolding preqSection
   left = behind-length (preqBytes f) p refl
 
-  pub preq-back : f .«payload_size» ≤ length (behindFields p) → readSection (preqSection f p) ≡ Frame (PReq f)
+  pub preq-back : f .«payload_size» ≤ length (behindFields p) → readSection services (preqSection f p) ≡ Frame (PReq f)
   unfolding messageOf kindIn readSection readPReq preqSection padded
   preq-back fits =
       rw (
@@ -52,7 +52,7 @@ module _ (f : PReqFrame) (p : List ℕ) (small : f .«payload_size» < 2 ^ 16) w
         rd (f .flags .ms) (f .flags .ea) (f .flags .rd),
       )
 
-  pub preq-cut : length (behindFields p) < f .«payload_size» → readSection (preqSection f p) ≡ Refused BufferTooShort
+  pub preq-cut : length (behindFields p) < f .«payload_size» → readSection services (preqSection f p) ≡ Refused BufferTooShort
   unfolding messageOf kindIn readSection readPReq preqSection padded
   preq-cut lacks =
       rw (

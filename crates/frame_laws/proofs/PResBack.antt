@@ -45,7 +45,7 @@ flags-back g h =
       poll-requests (g .pr) (g .rs .0) h,
     )
 
-module _ (f : PResFrame) (p : List ℕ) (to : f .destination .0 ≡ 255) (small : f .«payload_size» < 2 ^ 16) where
+module _ (services : List ℕ) (f : PResFrame) (p : List ℕ) (to : f .destination .0 ≡ 255) (small : f .«payload_size» < 2 ^ 16) where
   size : leAt 2 8 (presSection f p) ≡ f .«payload_size»
   unfolding presSection padded leAt
   size = bytes-back 2 (f .«payload_size») (omega arith)
@@ -54,7 +54,7 @@ module _ (f : PResFrame) (p : List ℕ) (to : f .destination .0 ≡ 255) (small 
   unfolding presSection
   left = behind-length (presBytes f) p refl
 
-  pub pres-back : f .flags .rs .0 ≤ 7 → f .«payload_size» ≤ length (behindFields p) → readSection (presSection f p) ≡ Frame (PRes f)
+  pub pres-back : f .flags .rs .0 ≤ 7 → f .«payload_size» ≤ length (behindFields p) → readSection services (presSection f p) ≡ Frame (PRes f)
   unfolding messageOf kindIn readSection readPRes presSection padded leAt
   pres-back seven fits =
       rw (
@@ -67,7 +67,7 @@ module _ (f : PResFrame) (p : List ℕ) (to : f .destination .0 ≡ 255) (small 
         flags-back (f .flags) seven,
       )
 
-  pub pres-cut : length (behindFields p) < f .«payload_size» → readSection (presSection f p) ≡ Refused BufferTooShort
+  pub pres-cut : length (behindFields p) < f .«payload_size» → readSection services (presSection f p) ≡ Refused BufferTooShort
   unfolding messageOf kindIn readSection readPRes presSection padded leAt
   pres-cut lacks =
       rw (

@@ -1,4 +1,4 @@
--- What a section that is read has passed: by its kind, the tests of the kind, and the frame that they give.
+-- What a section that is read under a table has passed: by its kind, the tests of the kind, and the frame that they give.
 -- Assumes nothing.
 use Prim.Native.Nat.{ℕ, _-_, _%_, _≤_}
 use mathlib.Core.Path.{_≡_, refl, sym, subst}
@@ -12,10 +12,9 @@ use Rattle.octets.specs.Numbers.{leAt}
 use Rattle.types.specs.Codes.{need}
 use Rattle.types.specs.Messages.{messageCode, messageOf}
 use Rattle.types.specs.RequestedServices.{requestedCode, requestedOf}
-use Rattle.types.specs.Services.{serviceCode, serviceOf}
 use Rattle.types.specs.States.{stateCode, stateOf}
 use Rattle.types.specs.declared.hal.PowerlinkError.{PowerlinkError}
-use Rattle.types.specs.declared.hal.PowerlinkError.the-variants.{BufferTooShort, InvalidPlFrame}
+use Rattle.types.specs.declared.hal.PowerlinkError.the-variants.{BufferTooShort, InvalidPlFrame, InvalidServiceId}
 use Rattle.types.specs.declared.message_type.MessageType.{MessageType}
 use Rattle.types.specs.declared.message_type.MessageType.the-variants as message
 use Rattle.types.specs.declared.message_type.MessageTypeAnswer.{MessageTypeAnswer}
@@ -23,15 +22,13 @@ use Rattle.types.specs.declared.message_type.MessageTypeAnswer.the-variants.{Kn
 use Rattle.types.specs.declared.requested_service.RequestedServiceId.{RequestedServiceId}
 use Rattle.types.specs.declared.requested_service.RequestedServiceIdAnswer.{RequestedServiceIdAnswer}
 use Rattle.types.specs.declared.requested_service.RequestedServiceIdAnswer.the-variants as query
-use Rattle.types.specs.declared.service.ServiceId.{ServiceId}
-use Rattle.types.specs.declared.service.ServiceIdAnswer.{ServiceIdAnswer}
-use Rattle.types.specs.declared.service.ServiceIdAnswer.the-variants as service
 use Rattle.types.specs.declared.states.NmtState.{NmtState}
 use Rattle.types.specs.declared.states.NmtStateAnswer.{NmtStateAnswer}
 use Rattle.types.specs.declared.states.NmtStateAnswer.the-variants as state
+use Rattle.services.specs.Table.{holds}
 use Rattle.frame.specs.declared.PowerlinkFrame.{PowerlinkFrame}
 use Rattle.frame.specs.declared.PowerlinkFrame.the-variants.{Soc, PReq, PRes, SoA, ASnd}
-use Rattle.codec.specs.ASnd.{asndOf, asndByService, readASnd}
+use Rattle.codec.specs.ASnd.{asndOf, readASnd}
 use Rattle.codec.specs.Frame.{kindBy, kindIn, kindAnswer, readSection}
 use Rattle.codec.specs.PReq.{preqOf, readPReq}
 use Rattle.codec.specs.PRes.{presOf, presByState, readPRes}
@@ -41,7 +38,7 @@ use Rattle.codec.specs.declared.FrameAnswer.{FrameAnswer}
 use Rattle.codec.specs.declared.FrameAnswer.the-variants.{Frame, Refused}
 use Rattle.codec.specs.declared.KindAnswer.{KindAnswer}
 use Rattle.codec.specs.declared.KindAnswer.the-variants as kind
-use Rattle.frame_laws.proofs.Named.{message-named, state-named, service-named, requested-named}
+use Rattle.frame_laws.proofs.Named.{message-named, state-named, requested-named}
 
 -- a test in front of a frame that is read was passed
 passed : (t : Bool) (e : PowerlinkError) (next : FrameAnswer) (f : PowerlinkFrame) → need t (Refused e) next ≡ Frame f
@@ -50,12 +47,12 @@ passed true e next f q = (refl, q)
 passed false e next f q = let z : _≡_ {A = ℕ} 0 1 = cc in absurd (omega arith)
 
 -- and one in front of the kind that it is read by
-pub kind-passed : (t : Bool) (e : PowerlinkError) (next : KindAnswer) (s : List ℕ) (f : PowerlinkFrame)
-    → kindAnswer (need t (kind.Refused e) next) s ≡ Frame f → (t ≡ true) × (kindAnswer next s ≡ Frame f)
-kind-passed true e next s f q = (refl, q)
-kind-passed false e next s f q = let z : _≡_ {A = ℕ} 0 1 = cc in absurd (omega arith)
+pub kind-passed : (services : List ℕ) (t : Bool) (e : PowerlinkError) (next : KindAnswer) (s : List ℕ) (f : PowerlinkFrame)
+    → kindAnswer services (need t (kind.Refused e) next) s ≡ Frame f → (t ≡ true) × (kindAnswer services next s ≡ Frame f)
+kind-passed services true e next s f q = (refl, q)
+kind-passed services false e next s f q = let z : _≡_ {A = ℕ} 0 1 = cc in absurd (omega arith)
 
-module _ (s : List ℕ) (P : PowerlinkFrame → Type 0) where
+module _ (services s : List ℕ) (P : PowerlinkFrame → Type 0) where
   -- P of each kind's frame, from the tests that the kind's section passed
   pub record Kinds : Type 0 where
     pub soc : getD s 0 0 % 0x80 ≡ 1 → 22 ≤ length s → P (Soc (socOf s))
@@ -64,7 +61,7 @@ module _ (s : List ℕ) (P : PowerlinkFrame → Type 0) where
         → P (PRes (presOf s st (leAt 2 8 s)))
     pub soa : getD s 0 0 % 0x80 ≡ 5 → 9 ≤ length s → (st : NmtState) → stateCode st ≡ getD s 3 0 → (q : RequestedServiceId)
         → requestedCode q ≡ getD s 6 0 → P (SoA (soaOf s st q))
-    pub asnd : getD s 0 0 % 0x80 ≡ 6 → 4 ≤ length s → (v : ServiceId) → serviceCode v ≡ getD s 3 0 → P (ASnd (asndOf s v))
+    pub asnd : getD s 0 0 % 0x80 ≡ 6 → 4 ≤ length s → holds services (getD s 3 0) ≡ true → P (ASnd (asndOf s))
 
   module _ (k : Kinds) (f : PowerlinkFrame) where
     -- the frame that is read is the one that the kind's rules give
@@ -73,10 +70,6 @@ module _ (s : List ℕ) (P : PowerlinkFrame → Type 0) where
 
     never : (e : PowerlinkError) → Refused e ≡ Frame f → P f
     never e q = let z : _≡_ {A = ℕ} 0 1 = cc in absurd (omega arith)
-
-    by-service : getD s 0 0 % 0x80 ≡ 6 → 4 ≤ length s → (a : ServiceIdAnswer) → serviceOf (getD s 3 0) ≡ a → asndByService s a ≡ Frame f → P f
-    by-service m long (service.Unknown b) q e = never _ e
-    by-service m long (service.Known v) q e = known _ e (k .asnd m long v (service-named (getD s 3 0) v q))
 
     by-request : getD s 0 0 % 0x80 ≡ 5 → 9 ≤ length s → (st : NmtState) → stateCode st ≡ getD s 3 0 → (a : RequestedServiceIdAnswer)
         → requestedOf (getD s 6 0) ≡ a → soaByService s st a ≡ Frame f → P f
@@ -97,7 +90,7 @@ module _ (s : List ℕ) (P : PowerlinkFrame → Type 0) where
     typed : (m : MessageType) → messageOf (getD s 0 0 % 0x80) ≡ Known m → getD s 0 0 % 0x80 ≡ messageCode m
     typed m q = sym (message-named (getD s 0 0 % 0x80) m q)
 
-    by-kind : (a : MessageTypeAnswer) → messageOf (getD s 0 0 % 0x80) ≡ a → kindAnswer (kindBy a) s ≡ Frame f → P f
+    by-kind : (a : MessageTypeAnswer) → messageOf (getD s 0 0 % 0x80) ≡ a → kindAnswer services (kindBy a) s ≡ Frame f → P f
     unfolding readSoC readPReq readPRes readSoA readASnd
     by-kind (Unknown b) q e = never _ e
     by-kind (Known message.SoC) q e =
@@ -116,8 +109,9 @@ module _ (s : List ℕ) (P : PowerlinkFrame → Type 0) where
         soa-by-state (typed _ q) (leb-true 9 (length s) (r .0)) (stateOf (getD s 3 0)) refl (r .1)
     by-kind (Known message.ASnd) q e =
         let r = passed (leb 4 (length s)) BufferTooShort _ f e in
-        by-service (typed _ q) (leb-true 4 (length s) (r .0)) (serviceOf (getD s 3 0)) refl (r .1)
+        let t = passed (holds services (getD s 3 0)) (InvalidServiceId (getD s 3 0)) _ f (r .1) in
+        known _ (t .1) (k .asnd (typed _ q) (leb-true 4 (length s) (r .0)) (t .0))
 
-    pub by-tests : readSection s ≡ Frame f → P f
+    pub by-tests : readSection services s ≡ Frame f → P f
     unfolding kindIn readSection
     by-tests e = by-kind (messageOf (getD s 0 0 % 0x80)) refl e

@@ -91,9 +91,9 @@ module _ (fields p : List ℕ) (n : ℕ) (e : n ≡ length p) where
   payload-padding : (k : ℕ) → length fields ≡ k → PaddedFrom (k + n) (padded (fields ++ p))
   payload-padding k ek = padding (fields ++ p) (k + n) (rw (length-append fields p, ek, e))
 
-pub section-plain : (f : PowerlinkFrame) (p : List ℕ) → Faithful f p → Plain f (frameSection f p)
+pub section-plain : (services : List ℕ) (f : PowerlinkFrame) (p : List ℕ) → Faithful services f p → Plain f (frameSection f p)
 unfolding socSection preqSection presSection soaSection asndSection padded
-section-plain (Soc f) p q =
+section-plain services (Soc f) p q =
     record {
       message = clears typeUnnamed 1 refl;
       octet3 = refl;
@@ -101,7 +101,7 @@ section-plain (Soc f) p q =
       octet5 = refl;
       behind = refl;
     }
-section-plain (PReq f) p q =
+section-plain services (PReq f) p q =
     record {
       message = clears typeUnnamed 3 refl;
       octet3 = refl;
@@ -110,7 +110,7 @@ section-plain (PReq f) p q =
       octet7 = refl;
       behind = payload-padding (preqBytes f) p _ (q .0) 10 refl;
     }
-section-plain (PRes f) p q =
+section-plain services (PRes f) p q =
     record {
       message = clears typeUnnamed 4 refl;
       flags = pres-flags (f .flags .ms) (f .flags .en) (f .flags .rd);
@@ -118,9 +118,9 @@ section-plain (PRes f) p q =
       octet7 = refl;
       behind = payload-padding (presBytes f) p _ (q .1 .1 .0) 10 refl;
     }
-section-plain (SoA f) p q =
+section-plain services (SoA f) p q =
     record { message = clears typeUnnamed 5 refl; flags = soa-flags (f .flags .ea) (f .flags .er); octet5 = refl; behind = refl }
-section-plain (ASnd f) p q = record { message = clears typeUnnamed 6 refl; long = omega (arith, padded-length (asndBytes f) p) }
+section-plain services (ASnd f) p q = record { message = clears typeUnnamed 6 refl; long = omega (arith, padded-length (asndBytes f) p) }
 
 pub status-plain : (f : StatusFields) (field : StaticErrorBitField) (es : List ErrorEntry) → EachInRange es → untilTerminator es ≡ es
     → PlainStatus (statusBytes (headBytes f field) es)

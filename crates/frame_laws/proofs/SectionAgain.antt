@@ -31,15 +31,16 @@ module _ (s fields : List ℕ) (k : ℕ) (e : fields ≡ take k s) where
   with-payload : (n : ℕ) → PaddedFrom (k + n) s → padded (fields ++ take n (drop k s)) ≡ s
   with-payload n p = ap padded (joined k n s fields (take n (drop k s)) e refl) ∙ sym p
 
-pub section-again : (s : List ℕ) (f : PowerlinkFrame) → Octets s → readSection s ≡ Frame f → Plain f s → frameSection f (payloadIn f s) ≡ s
+pub section-again : (services s : List ℕ) (f : PowerlinkFrame) → Octets s → readSection services s ≡ Frame f → Plain f s
+    → frameSection f (payloadIn f s) ≡ s
 unfolding socSection preqSection presSection soaSection asndSection
-section-again s f o =
-    by-tests s (λ g. Plain g s → frameSection g (payloadIn g s) ≡ s)
+section-again services s f o =
+    by-tests services s (λ g. Plain g s → frameSection g (payloadIn g s) ≡ s)
     (record {
       soc = λ m long c. alone s _ 22 (soc-again s o m long c) (c .behind);
       preq = λ m long fits c. with-payload s _ 10 (preq-again s o m long c) (leAt 2 8 s) (c .behind);
       pres = λ m long st e fits c. with-payload s _ 10 (pres-again s o st m long e c) (leAt 2 8 s) (c .behind);
       soa = λ m long st e q eq c. alone s _ 9 (soa-again s o st q m long e eq c) (c .behind);
-      asnd = λ m long v e c. with-payload s _ 4 (asnd-again s o v m long e c) (asndPayloadLength s) (asnd-padding s (omega (arith, c .long)));
+      asnd = λ m long held c. with-payload s _ 4 (asnd-again s o m long c) (asndPayloadLength s) (asnd-padding s (omega (arith, c .long)));
     })
     f

@@ -22,24 +22,26 @@ use Rattle.frame_laws.proofs.HeaderBack.{frame-back}
 use Rattle.frame_laws.proofs.PReqBack.{preq-back, preq-cut, preq-payload}
 use Rattle.frame_laws.proofs.PResBack.{pres-back, pres-cut, pres-payload}
 
-module _ (h : EthernetHeader) (f : PowerlinkFrame) (p s : List ℕ) (is : IsHeader h) (es : frameSection f p ≡ s) (long : 0 < length s) where
+module _ (services : List ℕ) (h : EthernetHeader) (f : PowerlinkFrame) (p s : List ℕ) (is : IsHeader h) (es : frameSection f p ≡ s)
+    (long : 0 < length s) where
   -- from the section: it is not empty, it reads as the frame, and the payload lies at its place
-  pub from-section : (q : List ℕ) → readSection s ≡ Frame f → payloadOf (placeInFrame f s) (ethBytes h ++ s) ≡ q → ReadsAs (frameBytes h f p) h f q
+  pub from-section : (q : List ℕ) → readSection services s ≡ Frame f → payloadOf (placeInFrame f s) (ethBytes h ++ s) ≡ q
+      → ReadsAs services (frameBytes h f p) h f q
   unfolding frameBytes
   from-section q read place =
-      let e : deserializeFrame (frameBytes h f p) ≡ record { «eth_header» = h; answer = Frame f; «payload_place» = placeInFrame f s } =
-      rw es (frame-back h s is long ∙ rw read) in
+      let e : deserializeFrame services (frameBytes h f p) ≡ record { «eth_header» = h; answer = Frame f; «payload_place» = placeInFrame f s } =
+      rw es (frame-back services h s is long ∙ rw read) in
       record { header = rw e; frame = rw e; octets = rw (e, es) place }
 
   -- where what stands behind the fields decides: read with the first n octets of it, or too short
   by-size : (n : ℕ) → payloadOf (placeInFrame f s) (ethBytes h ++ s) ≡ take n (behindFields p)
-      → (n ≤ length (behindFields p) → readSection s ≡ Frame f) → (length (behindFields p) < n → readSection s ≡ Refused BufferTooShort)
-      → SizeReadsBack h f n p
+      → (n ≤ length (behindFields p) → readSection services s ≡ Frame f)
+      → (length (behindFields p) < n → readSection services s ≡ Refused BufferTooShort) → SizeReadsBack services h f n p
   unfolding frameBytes
   by-size n place read cut =
       record {
         enough = λ fits. from-section (take n (behindFields p)) (read (omega arith)) place;
-        tooFew = λ lacks. rw es (frame-back h s is long ∙ rw (cut (omega arith)));
+        tooFew = λ lacks. rw es (frame-back services h s is long ∙ rw (cut (omega arith)));
       }
 
 pub sizes-read-back : SizesReadBack
@@ -47,11 +49,12 @@ unfolding ethBytes preqSection presSection padded
 sizes-read-back =
     record {
       preq =
-          λ h f p is small.
-          by-size h (PReq f) p (preqSection f p) is refl (omega arith) (f .«payload_size»)
-          (ap (take (f .«payload_size»)) (preq-payload f p small)) (preq-back f p small) (preq-cut f p small);
+          λ services h f p is small.
+          by-size services h (PReq f) p (preqSection f p) is refl (omega arith) (f .«payload_size»)
+          (ap (take (f .«payload_size»)) (preq-payload services f p small)) (preq-back services f p small) (preq-cut services f p small);
       pres =
-          λ h f p is to seven small.
-          by-size h (PRes f) p (presSection f p) is refl (omega arith) (f .«payload_size»)
-          (ap (take (f .«payload_size»)) (pres-payload f p to small)) (pres-back f p to small seven) (pres-cut f p to small);
+          λ services h f p is to seven small.
+          by-size services h (PRes f) p (presSection f p) is refl (omega arith) (f .«payload_size»)
+          (ap (take (f .«payload_size»)) (pres-payload services f p to small)) (pres-back services f p to small seven)
+          (pres-cut services f p to small);
     }

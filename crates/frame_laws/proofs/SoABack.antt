@@ -1,6 +1,8 @@
 -- An SoA section that is written is read back.
 -- Assumes nothing.
+use Prim.Native.Nat.{ℕ}
 use mathlib.Core.Path.{_≡_, refl}
+use mathlib.Core.List.{List}
 use Rattle.types.specs.Messages.{messageOf}
 use Rattle.types.proofs.ReadBack.{state-known, requested-known}
 use Rattle.control.specs.SoA.{soaSection}
@@ -18,9 +20,9 @@ ea = two _ refl refl refl refl
 er : Reads2 2 1 1 (λ x y. y)
 er = two _ refl refl refl refl
 
-pub soa-back : (f : SoAFrame) → readSection (soaSection f) ≡ Frame (SoA f)
+pub soa-back : (services : List ℕ) (f : SoAFrame) → readSection services (soaSection f) ≡ Frame (SoA f)
 unfolding messageOf kindIn readSection readSoA soaSection padded
-soa-back f =
+soa-back services f =
     rw (
       state-known (f .«nmt_state»),
       requested-known (f .«req_service_id»),

@@ -1,6 +1,8 @@
 -- A SoC section that is written is read back.
 -- Assumes nothing.
+use Prim.Native.Nat.{ℕ}
 use mathlib.Core.Path.{_≡_, refl}
+use mathlib.Core.List.{List}
 use Rattle.octets.specs.Numbers.{leAt}
 use Rattle.octets.proofs.Le.{bytes-back}
 use Rattle.types.specs.Messages.{messageOf}
@@ -20,9 +22,9 @@ mc = two _ refl refl refl refl
 ps : Reads2 7 6 6 (λ x y. y)
 ps = two _ refl refl refl refl
 
-pub soc-back : (f : SocFrame) → SocInRange f → readSection (socSection f) ≡ Frame (Soc f)
+pub soc-back : (services : List ℕ) (f : SocFrame) → SocInRange f → readSection services (socSection f) ≡ Frame (Soc f)
 unfolding messageOf kindIn readSection readSoC socSection padded leAt
-soc-back f r =
+soc-back services f r =
     rw (
       mc (f .flags .mc) (f .flags .ps),
       ps (f .flags .mc) (f .flags .ps),

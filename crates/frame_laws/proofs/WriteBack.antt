@@ -1,7 +1,7 @@
 -- What is read is written back: sections, frames and StatusResponses.
 -- Assumes nothing.
 use Rattle.frame_laws.specs.WriteBack.{SectionsWriteBack}
-use Rattle.frame_laws.proofs.FrameAgain.{frame-again}
+use Rattle.frame_laws.proofs.FrameAgain.{frame-again, frame-held}
 use Rattle.frame_laws.proofs.Plain.{section-plain, status-plain}
 use Rattle.frame_laws.proofs.SectionAgain.{section-again}
 use Rattle.frame_laws.proofs.StatusAgain.{status-again}
@@ -10,7 +10,8 @@ pub sections-write-back : SectionsWriteBack
 sections-write-back =
     record {
       sections = section-again;
-      frames = λ bytes f o. frame-again bytes o f;
+      frames = frame-again;
+      held = frame-held;
       statuses = status-again;
       plainSections = section-plain;
       plainStatuses = status-plain;

@@ -40,7 +40,7 @@ statusPollAt = 1
 pub record FlagLineHolds : Type 0 where
   pub presWritten : (f : PResFrame) (payload : List ℕ) → AllSet (f .flags .pr) (f .flags .rs)
       → getD (presSection f payload) presPollAt 0 ≡ allSetOctet
-  pub presRead : (s : List ℕ) (f : PResFrame) → readSection s ≡ Frame (PRes f) → getD s presPollAt 0 ≡ allSetOctet
+  pub presRead : (services s : List ℕ) (f : PResFrame) → readSection services s ≡ Frame (PRes f) → getD s presPollAt 0 ≡ allSetOctet
       → AllSet (f .flags .pr) (f .flags .rs)
   pub statusWritten : (f : StatusFields) (field : StaticErrorBitField) (es : List ErrorEntry) → AllSet (f .pr) (f .rs)
       → getD (statusBytes (headBytes f field) es) statusPollAt 0 ≡ allSetOctet

@@ -4,4 +4,5 @@ pub mod Lines
 pub mod ReadBack
 pub mod Sizes
 pub mod StatusLines
+pub mod Twelve
 pub mod WriteBack

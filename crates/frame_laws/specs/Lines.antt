@@ -11,14 +11,14 @@ use Rattle.frame_laws.specs.FlagLines.{FlagLineHolds}
 use Rattle.frame_laws.specs.FrameLines.{FrameLine, frameLines}
 use Rattle.frame_laws.specs.StatusLines.{StatusLine, statusLines}
 
--- what reading the line's bytes gives, in the form of a line
-abbrev pub frameOutcome : FrameLine → FrameLine
-frameOutcome l =
+-- what reading the line's bytes under a table gives, in the form of a line
+abbrev pub frameOutcome : List ℕ → FrameLine → FrameLine
+frameOutcome services l =
     record {
       bytes = l .bytes;
-      number = frameCause (deserializeFrame (l .bytes) .answer) .number;
-      returned = frameCause (deserializeFrame (l .bytes) .answer) .returned;
-      payload = length (payloadOf (deserializeFrame (l .bytes) .«payload_place») (l .bytes));
+      number = frameCause (deserializeFrame services (l .bytes) .answer) .number;
+      returned = frameCause (deserializeFrame services (l .bytes) .answer) .returned;
+      payload = length (payloadOf (deserializeFrame services (l .bytes) .«payload_place») (l .bytes));
     }
 
 -- what reading the line's payload gives, in the form of a line
@@ -32,6 +32,7 @@ statusOutcome l =
     }
 
 pub record TableHolds : Type 0 where
-  pub frames : map frameOutcome frameLines ≡ frameLines
+  -- under every table: the services of these lines are StatusResponse
+  pub frames : (services : List ℕ) → map (frameOutcome services) frameLines ≡ frameLines
   pub statuses : map statusOutcome statusLines ≡ statusLines
   pub flags : FlagLineHolds

@@ -23,14 +23,14 @@ abbrev pub behindFields : List ℕ → List ℕ
 behindFields payload = payload ++ replicate (minSection - (pollFieldsLength + length payload)) 0
 
 -- a frame of the size n: the first n of these octets are read as its payload, or are too few, which is 01's cause 1
-pub record SizeReadsBack (h : EthernetHeader) (f : PowerlinkFrame) (n : ℕ) (payload : List ℕ) : Type 0 where
-  pub enough : n ≤ length (behindFields payload) → ReadsAs (frameBytes h f payload) h f (take n (behindFields payload))
+pub record SizeReadsBack (services : List ℕ) (h : EthernetHeader) (f : PowerlinkFrame) (n : ℕ) (payload : List ℕ) : Type 0 where
+  pub enough : n ≤ length (behindFields payload) → ReadsAs services (frameBytes h f payload) h f (take n (behindFields payload))
   pub tooFew : length (behindFields payload) < n
-      → deserializeFrame (frameBytes h f payload) ≡ record { «eth_header» = h; answer = Refused BufferTooShort; «payload_place» = place 0 0 }
+      → deserializeFrame services (frameBytes h f payload) ≡ record { «eth_header» = h; answer = Refused BufferTooShort; «payload_place» = place 0 0 }
 
 -- the size is a number of 16 bits; PRes goes to node 255, with rs at most 7, as in `Faithful`
 pub record SizesReadBack : Type 0 where
-  pub preq : (h : EthernetHeader) (f : PReqFrame) (payload : List ℕ) → IsHeader h → f .«payload_size» < 2 ^ 16
-      → SizeReadsBack h (PReq f) (f .«payload_size») payload
-  pub pres : (h : EthernetHeader) (f : PResFrame) (payload : List ℕ) → IsHeader h → f .destination .0 ≡ broadcastNode → f .flags .rs .0 ≤ 7
-      → f .«payload_size» < 2 ^ 16 → SizeReadsBack h (PRes f) (f .«payload_size») payload
+  pub preq : (services : List ℕ) (h : EthernetHeader) (f : PReqFrame) (payload : List ℕ) → IsHeader h → f .«payload_size» < 2 ^ 16
+      → SizeReadsBack services h (PReq f) (f .«payload_size») payload
+  pub pres : (services : List ℕ) (h : EthernetHeader) (f : PResFrame) (payload : List ℕ) → IsHeader h → f .destination .0 ≡ broadcastNode → f .flags .rs .0 ≤ 7
+      → f .«payload_size» < 2 ^ 16 → SizeReadsBack services h (PRes f) (f .«payload_size») payload

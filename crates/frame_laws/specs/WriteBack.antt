@@ -8,11 +8,11 @@ use mathlib.Core.List.{List, [], _∷_, _++_}
 use lib.ListN.{length, getD, take, drop, replicate}
 use Rattle.octets.specs.Numbers.{bit}
 use Rattle.types.specs.Header.{ethLength}
-use Rattle.section.specs.Write.{minSection, padded}
+use Rattle.section.specs.Write.{minSection, padded, octets}
 use Rattle.control.specs.SoA.{soaFieldsLength}
 use Rattle.control.specs.SoC.{socFieldsLength}
 use Rattle.poll.specs.Poll.{pollFieldsLength}
-use Rattle.frame.specs.Write.{frameSection, frameBytes}
+use Rattle.frame.specs.Write.{frameSection, frameBytes, underTable}
 use Rattle.frame.specs.declared.PowerlinkFrame.{PowerlinkFrame}
 use Rattle.frame.specs.declared.PowerlinkFrame.the-variants.{Soc, PReq, PRes, SoA, ASnd}
 use Rattle.codec.specs.Frame.{readSection, placeInFrame, deserializeFrame, payloadOf}
@@ -126,12 +126,17 @@ abbrev pub payloadIn : PowerlinkFrame → List ℕ → List ℕ
 payloadIn f s = payloadOf (placeInFrame f s) (replicate ethLength 0 ++ s)
 
 pub record SectionsWriteBack : Type 0 where
-  pub sections : (s : List ℕ) (f : PowerlinkFrame) → Octets s → readSection s ≡ Frame f → Plain f s → frameSection f (payloadIn f s) ≡ s
-  pub frames : (bytes : List ℕ) (f : PowerlinkFrame) → Octets bytes → deserializeFrame bytes .answer ≡ Frame f → Plain f (drop ethLength bytes)
-      → frameBytes (deserializeFrame bytes .«eth_header») f (payloadOf (deserializeFrame bytes .«payload_place») bytes) ≡ bytes
+  pub sections : (services s : List ℕ) (f : PowerlinkFrame) → Octets s → readSection services s ≡ Frame f → Plain f s
+      → frameSection f (payloadIn f s) ≡ s
+  pub frames : (services bytes : List ℕ) (f : PowerlinkFrame) → Octets bytes → deserializeFrame services bytes .answer ≡ Frame f
+      → Plain f (drop ethLength bytes)
+      → frameBytes (deserializeFrame services bytes .«eth_header») f (payloadOf (deserializeFrame services bytes .«payload_place») bytes) ≡ bytes
+  -- under the table that it was read under, no writer refuses it with 6
+  pub held : (services bytes : List ℕ) (f : PowerlinkFrame) → deserializeFrame services bytes .answer ≡ Frame f
+      → (bs : List ℕ) → underTable services f bs ≡ octets bs
   pub statuses : (s : List ℕ) (f : StatusFields) → Octets s → readFields s ≡ Status f → PlainStatus s
       → statusBytes (headBytes f (fieldOf (drop 6 s))) (statusEntries s) ≡ s
   -- and no more is asked than writing gives: whatever reads back is plain where it is written
-  pub plainSections : (f : PowerlinkFrame) (payload : List ℕ) → Faithful f payload → Plain f (frameSection f payload)
+  pub plainSections : (services : List ℕ) (f : PowerlinkFrame) (payload : List ℕ) → Faithful services f payload → Plain f (frameSection f payload)
   pub plainStatuses : (f : StatusFields) (field : StaticErrorBitField) (es : List ErrorEntry) → EachInRange es → untilTerminator es ≡ es
       → PlainStatus (statusBytes (headBytes f field) es)

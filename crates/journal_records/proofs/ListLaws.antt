@@ -10,6 +10,7 @@ use lib.Dec.{eqb}
 use lib.ListN.{length, take, drop, length-drop, List·getD-append}
 use lib.Seq.{take-append-le, drop-append-le}
 use borrow.Author.Tests.{le-leb, lt-leb, eq-eqb, ne-eqb}
+use Rattle.octets.specs.Mark.{isMarked}
 use Rattle.octets.specs.Numbers.{le, leAt}
 use Rattle.types.specs.Codes.{pick, need}
 use Rattle.error_entry.specs.Entry.{entryOf}
@@ -98,7 +99,7 @@ number-front n at s rest h =
 
 module _ (s rest : List ℕ) (long : 5 ≤ length s) where
   pub mark-front : marked (s ++ rest) ≡ marked s
-  unfolding marked
+  unfolding marked isMarked
   mark-front =
       rw (List·getD-append s rest 0 0 (omega arith), List·getD-append s rest 0 1 (omega arith), List·getD-append s rest 0 2 (omega arith))
 

@@ -9,6 +9,7 @@ use native.Mathlib.Omega.{arith}
 use lib.Dec.{leb}
 use lib.ListN.{length, take, drop, length-append}
 use lib.Seq.{take-at, drop-at}
+use Rattle.octets.specs.Mark.{isMarked}
 use Rattle.octets.specs.Numbers.{leAt}
 use Rattle.types.specs.Codes.{need}
 use Rattle.types.specs.Modes.{modeIn}
@@ -87,7 +88,7 @@ start-long : (t : List ℕ) → 5 ≤ length (journalStart ++ t)
 start-long t = rw length-append (omega arith)
 
 example-listed : listing exampleOctets ≡ exampleLines
-unfolding listing layoutOf marked leAt headerLine version1 lines linesIn goodRecord validRecord recordLine entryOf entryTypeOf modeIn digit hex decimal decimalIn
+unfolding listing layoutOf marked isMarked leAt headerLine version1 lines linesIn goodRecord validRecord recordLine entryOf entryTypeOf modeIn digit hex decimal decimalIn
 example-listed = refl
 
 pub records-read-back : RecordsReadBack

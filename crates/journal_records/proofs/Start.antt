@@ -7,6 +7,7 @@ use mathlib.Core.List.{List, [], _∷_}
 use native.Mathlib.Omega.{arith}
 use lib.Dec.{eqb}
 use borrow.Author.Tests.{eqb-true}
+use Rattle.octets.specs.Mark.{isMarked}
 use Rattle.octets.specs.Numbers.{leAt}
 use Rattle.types.specs.Codes.{pick}
 use Rattle.journal_records.specs.Listing.{known, other, version1, layoutOf, marked}
@@ -16,7 +17,7 @@ start-octets : journalStart ≡ 0x50 ∷ 0x4C ∷ 0x42 ∷ 0x01 ∷ 0x00 ∷ []
 start-octets = refl
 
 pub start-mark : (s : List ℕ) → marked (0x50 ∷ 0x4C ∷ 0x42 ∷ s) ≡ true
-unfolding marked
+unfolding marked isMarked
 start-mark s = refl
 
 start-version : (a b c : ℕ) (s : List ℕ) → layoutOf (leAt 2 3 (a ∷ b ∷ c ∷ 0x01 ∷ 0x00 ∷ s)) ≡ known version1
@@ -28,7 +29,7 @@ both true y e = (refl, e)
 both false y e = let z : _≡_ {A = ℕ} 0 1 = cc in let w : ⊥ = omega arith in absurd w
 
 mark-alone : (a b c d e : ℕ) (s : List ℕ) → marked (a ∷ b ∷ c ∷ d ∷ e ∷ s) ≡ true → (a ≡ 0x50) × ((b ≡ 0x4C) × (c ≡ 0x42))
-unfolding marked
+unfolding marked isMarked
 mark-alone a b c d e s m =
     let t = both (eqb a 0x50) (eqb b 0x4C && eqb c 0x42) m in
     let u = both (eqb b 0x4C) (eqb c 0x42) (t .1) in

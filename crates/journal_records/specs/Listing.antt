@@ -5,6 +5,7 @@ use mathlib.Core.Bool.{Bool, _&&_}
 use mathlib.Core.List.{List, [], _∷_, _++_, map}
 use lib.ListN.{length, getD, drop}
 use lib.Dec.{leb, eqb}
+use Rattle.octets.specs.Mark.{isMarked}
 use Rattle.octets.specs.Numbers.{leAt}
 use Rattle.types.specs.Codes.{pick, need}
 use Rattle.types.specs.Modes.{modeCode}
@@ -85,7 +86,7 @@ lines l s = linesIn l (length s) s
 
 -- `PLB`
 unfoldable pub marked : List ℕ → Bool
-marked s = eqb (getD s 0 0) 80 && (eqb (getD s 1 0) 76 && eqb (getD s 2 0) 66)
+marked s = isMarked (0x50 ∷ 0x4C ∷ 0x42 ∷ []) s
 
 -- the header's line and the records', by the layout of the version; 18 for another version
 abbrev pub listedAs : Version → List ℕ → List ℕ

@@ -1,11 +1,9 @@
 // The listing of a journal, part by part: a journal may be longer than any buffer, and a record may lie across two
 // parts. What is not consumed of a part goes in front of the next one.
 ghost use mathlib.Core.Path.{_≡_};
-ghost use Prim.Native.Nat.{_≤_};
 ghost use lib.ListN.{length};
 ghost use Rattle.journal_records.specs.Parts.{Lists, Prints, listCause, answerAfter, told, refusal, headerStep, recordStep, stepOf};
 ghost use Rattle.journal_records.specs.Parts.{later as Parts·later, awaits as Parts·awaits, ended as Parts·ended, stopped as Parts·stopped};
-ghost use Rattle.journal_records.specs.Listing.{marked};
 use crate::JOURNAL_RECORD_LEN;
 use crate::JOURNAL_START_LEN;
 use crate::VERSION;
@@ -14,6 +12,7 @@ use crate::text::put_number;
 use crate::valid;
 use error_entry::ErrorEntry;
 use octets::little_endian::get_u16_le;
+use octets::slices::has_mark;
 use octets::slices::put;
 use octets::slices::tail;
 use types::NodeId;
@@ -175,7 +174,7 @@ fn header(bytes: &[u8], out: &mut [u8]) -> Part
     if bytes.len() < JOURNAL_START_LEN {
         return refuse(ListAnswer::NotAJournal, Phase::Header, out);
     }
-    let mark = has_mark(bytes);
+    let mark = has_mark(bytes, *b"PLB");
     let known = get_u16_le(bytes, 3) == VERSION;
     if !mark {
         return refuse(ListAnswer::NotAJournal, Phase::Header, out);
@@ -190,20 +189,6 @@ fn header(bytes: &[u8], out: &mut [u8]) -> Part
         consumed: JOURNAL_START_LEN,
         written: HEADER_LINE_LEN,
     }
-}
-
-// Whether the first octets are `PLB`.
-fn has_mark(bytes: &[u8]) -> bool
-    requires { ⌜ 5 ≤ length (now bytes) ⌝ }
-    ensures { λ r. ⌜ r ≡ marked (now (bytes .entry)) ⌝ }
-{
-    if bytes[0] != b'P' {
-        return false;
-    }
-    if bytes[1] != b'L' {
-        return false;
-    }
-    bytes[2] == b'B'
 }
 
 // The first record's line.

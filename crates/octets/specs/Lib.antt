@@ -1,3 +1,4 @@
+pub mod Mark
 pub mod Numbers
 pub mod Part
 pub mod ReadBack

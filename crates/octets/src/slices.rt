@@ -3,6 +3,7 @@ ghost use mathlib.Core.Path.{_≡_};
 ghost use Prim.Native.Nat.{_+_, _≤_};
 ghost use lib.ListN.{getD, length, take, drop};
 ghost use lib.Seq.{sets};
+ghost use Rattle.octets.specs.Mark.{isMarked};
 ghost use Rattle.octets.specs.Part.{Part};
 ghost use Rattle.octets.specs.Trim.{trimmedLength, TrimsTo};
 use crate::little_endian::get_u64_le;
@@ -33,6 +34,19 @@ pub fn byte_at(s: &[u8], at: usize) -> u8
     ensures { λ r. ⌜ r ≡ getD (now (s .entry)) at 0 ⌝ }
 {
     if at < s.len() { s[at] } else { 0 }
+}
+
+// Whether the first octets of `s` are those of a file's mark.
+pub fn has_mark(s: &[u8], mark: [u8; 3]) -> bool
+    ensures { λ r. ⌜ r ≡ isMarked mark (now (s .entry)) ⌝ }
+{
+    if byte_at(s, 0) != mark[0] {
+        return false;
+    }
+    if byte_at(s, 1) != mark[1] {
+        return false;
+    }
+    byte_at(s, 2) == mark[2]
 }
 
 // Copies `src` into `dst` from place `at` on; what would lie past the end is dropped.

@@ -12,10 +12,9 @@ use lib.Seq.{drop-at, drop-drop, drop-append-le, length-take-le}
 use borrow.Author.Tests.{le-leb, lt-leb}
 use Rattle.octets.proofs.Order.{le-or-lt}
 use Rattle.types.specs.Causes.{causeNumber}
-use Rattle.types.specs.Codes.{need}
+use Rattle.types.specs.Codes.{pick, need}
 use Rattle.types.specs.Header.{ethBytes}
 use Rattle.types.specs.RequestedServices.{requestedOf}
-use Rattle.types.specs.Services.{serviceOf}
 use Rattle.types.specs.States.{stateOf}
 use Rattle.types.specs.declared.basic.EthernetHeader.{EthernetHeader}
 use Rattle.types.specs.declared.hal.PowerlinkError.{PowerlinkError}
@@ -23,17 +22,15 @@ use Rattle.types.specs.declared.hal.PowerlinkError.the-variants.{BufferTooShort
 use Rattle.types.specs.declared.requested_service.RequestedServiceId.{RequestedServiceId}
 use Rattle.types.specs.declared.requested_service.RequestedServiceIdAnswer.{RequestedServiceIdAnswer}
 use Rattle.types.specs.declared.requested_service.RequestedServiceIdAnswer.the-variants as query
-use Rattle.types.specs.declared.service.ServiceId.{ServiceId}
-use Rattle.types.specs.declared.service.ServiceIdAnswer.{ServiceIdAnswer}
-use Rattle.types.specs.declared.service.ServiceIdAnswer.the-variants as service
 use Rattle.types.specs.declared.states.NmtState.{NmtState}
 use Rattle.types.specs.declared.states.NmtStateAnswer.{NmtStateAnswer}
 use Rattle.types.specs.declared.states.NmtStateAnswer.the-variants as state
-use Rattle.section.specs.Write.{writeAnswer, writeCause, overwritten}
+use Rattle.services.specs.Table.{holds}
+use Rattle.section.specs.Write.{writeAnswer, writeCause, overwritten, Coded, octets, unnamed}
 use Rattle.section.specs.declared.WriteAnswer.the-variants.{Refused}
 use Rattle.frame.specs.Write.{frameBytes}
 use Rattle.powerlink.specs.AnyHeader.{behindHeader, afterSection, afterHeader, targetLeft, lengthTold, TwoCalls, OneCall, AnyHeader, FiveBehindHeader}
-use Rattle.powerlink.specs.Writing.{Coded, octets, unnamed, stated, requested, served, WritesTo, WritesCoded}
+use Rattle.powerlink.specs.Writing.{stated, requested, WritesTo, WritesCoded}
 use Rattle.powerlink.proofs.Writers.{kept-octet, refuses-coded}
 
 -- a call that fits, and one that does not: what it answers, leaves and tells
@@ -186,9 +183,10 @@ module _ (h : EthernetHeader) (n k : ℕ) (more : 14 + n ≡ k) where
   by-request (query.Unknown b) f g e = ap (λ (i : ℕ). unnamed i (InvalidRequestedServiceId b)) more
   by-request (query.Known s) f g e = e s
 
-  by-service : (a : ServiceIdAnswer) (f g : ServiceId → Coded) → ((s : ServiceId) → behindHeader h (f s) ≡ g s) → behindHeader h (served n a f) ≡ served k a g
-  by-service (service.Unknown b) f g e = ap (λ (i : ℕ). unnamed i (InvalidServiceId b)) more
-  by-service (service.Known s) f g e = e s
+by-service : (h : EthernetHeader) (b : Bool) (bs : List ℕ) (e : PowerlinkError)
+    → behindHeader h (pick b (octets bs) (unnamed (length bs) e)) ≡ pick b (octets (ethBytes h ++ bs)) (unnamed (length (ethBytes h ++ bs)) e)
+by-service h true bs e = refl
+by-service h false bs e = ap (λ (i : ℕ). unnamed i e) (sym (length-append (ethBytes h) bs ∙ ap (λ (i : ℕ). i + length bs) (eth-length h)))
 
 five : (h : EthernetHeader) → FiveBehindHeader h
 unfolding frameBytes
@@ -198,7 +196,7 @@ five h =
       preq = λ f payload. refl;
       pres = λ _ _ state _ _ _ payload. by-state h _ _ (omega arith) (stateOf state) _ _ (λ s. refl);
       soa = λ _ _ state _ service _ _. by-state h _ _ refl (stateOf state) _ _ (λ s. by-request h _ _ refl (requestedOf service) _ _ (λ q. refl));
-      asnd = λ _ _ service payload. by-service h _ _ (omega arith) (serviceOf service) _ _ (λ s. refl);
+      asnd = λ services _ _ service payload. by-service h (holds services service) _ _;
     }
 
 pub any-header : AnyHeader

@@ -12,7 +12,7 @@ use Rattle.types.specs.States.{stateOf}
 use Rattle.types.specs.declared.hal.PowerlinkError.the-variants.{BufferTooShort, InvalidNmtState}
 use Rattle.types.specs.declared.states.NmtState.{NmtState}
 use Rattle.types.specs.declared.states.NmtStateAnswer.the-variants as state
-use Rattle.section.specs.Write.{minFrame, writeAnswer, writeCause}
+use Rattle.section.specs.Write.{minFrame, writeAnswer, writeCause, unnamedAnswer}
 use Rattle.section.specs.declared.WriteAnswer.{WriteAnswer}
 use Rattle.section.specs.declared.WriteAnswer.the-variants as write
 use Rattle.collector.specs.Calls.{Registers, Reads, Flags, Requests, Takes}
@@ -24,7 +24,7 @@ use Rattle.collector.specs.declared.RegisterAnswer.{RegisterAnswer}
 use Rattle.collector.specs.declared.RequestAnswer.{RequestAnswer}
 use Rattle.collector.specs.declared.RequestFields.{RequestFields}
 use Rattle.collector.specs.declared.TakeAnswer.{TakeAnswer}
-use Rattle.c_values.specs.Answers.{octetAfter, unnamedAnswer, valuesTold, flagTold, octetTold, RowTold}
+use Rattle.c_values.specs.Answers.{octetAfter, valuesTold, flagTold, octetTold, RowTold}
 use Rattle.powerlink.specs.Collecting.{CollectorRegisters, CollectorReads, CollectorFlags, unasked, CollectorRequests, CollectorTakes}
 use Rattle.powerlink.specs.Given.{node}
 use Rattle.powerlink.proofs.Told.{unnamed-told}
@@ -34,8 +34,9 @@ module _ (s s′ : List ℕ) where
   registers-told i r a w e =
       record { cause = e ∙ ap (λ (x : RegisterAnswer). registerCause x .number) (w .answer); registers = rw (w .answer) at w }
 
-  pub reads-told : (f : List ℕ) (a : ReadAnswer) (r k k′ o o′ : ℕ) → Reads f a s s′ → RowTold (readCause a) r k k′ o o′ → CollectorReads f r s s′ k k′ o o′
-  reads-told f a r k k′ o o′ w t = record { told = rw (w .answer) at t; reads = rw (w .answer) at w }
+  pub reads-told : (services f : List ℕ) (a : ReadAnswer) (r k k′ o o′ : ℕ) → Reads services f a s s′ → RowTold (readCause a) r k k′ o o′
+      → CollectorReads services f r s s′ k k′ o o′
+  reads-told services f a r k k′ o o′ w t = record { told = rw (w .answer) at t; reads = rw (w .answer) at w }
 
   pub takes-told : (i r : ℕ) (v v′ : List ℕ) (a : TakeAnswer) → Takes (node i) a s s′ → r ≡ takeCause a .number → v′ ≡ valuesTold (takeCause a) v
       → CollectorTakes i r s s′ v v′

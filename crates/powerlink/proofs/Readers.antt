@@ -44,13 +44,13 @@ module _ (a : FrameAnswer) (s v : List ℕ) where
   pub section-frame : (v′ : List ℕ) (o : ℕ) (x : PowerlinkFrame) → Frame x ≡ a → v′ ≡ frameNumbers x (placeInFrame x s) → SectionRead a s 0 v v′ o o
   section-frame v′ o x q ev = record { cause = rw (← q); values = rw (← q) ev; octet = rw (← q) }
 
-module _ (f : List ℕ) where
-  pub frame-refused : (v : List ℕ) (r o o′ : ℕ) (e : PowerlinkError) → Refused e ≡ readFrame f → Told e r o o′ → FrameRead f r v v o o′
+module _ (services f : List ℕ) where
+  pub frame-refused : (v : List ℕ) (r o o′ : ℕ) (e : PowerlinkError) → Refused e ≡ readFrame services f → Told e r o o′ → FrameRead services f r v v o o′
   frame-refused v r o o′ e q t = record { cause = rw (← q) (t .0); values = rw (← q); octet = rw (← q) (t .1) }
 
   -- a frame is told as its section is
-  pub frame-section : (a : FrameAnswer) (s : List ℕ) → a ≡ readFrame f → s ≡ drop 14 f → (r : ℕ) (v v′ : List ℕ) (o o′ : ℕ) → SectionRead a s r v v′ o o′
-      → FrameRead f r v v′ o o′
+  pub frame-section : (a : FrameAnswer) (s : List ℕ) → a ≡ readFrame services f → s ≡ drop 14 f → (r : ℕ) (v v′ : List ℕ) (o o′ : ℕ) → SectionRead a s r v v′ o o′
+      → FrameRead services f r v v′ o o′
   unfolding deserializeFrame
   frame-section a s q es r v v′ o o′ w = record { cause = rw (← q) (w .cause); values = rw (← q, ← es) (w .values); octet = rw (← q) (w .octet) }
 

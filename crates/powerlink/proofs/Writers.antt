@@ -15,15 +15,15 @@ use Rattle.types.specs.declared.error_mode.ErrorEntryModeAnswer.{ErrorEntryMode
 use Rattle.types.specs.declared.error_mode.ErrorEntryModeAnswer.the-variants as mode
 use Rattle.types.specs.declared.hal.PowerlinkError.{PowerlinkError}
 use Rattle.types.specs.declared.hal.PowerlinkError.the-variants.{BufferTooShort}
-use Rattle.section.specs.Write.{writeAnswer, writeCause, Writes}
+use Rattle.section.specs.Write.{writeAnswer, writeCause, Writes, Serializes, Coded, octets, unnamed, unnamedAnswer}
 use Rattle.section.specs.declared.WriteAnswer.{WriteAnswer}
 use Rattle.section.specs.declared.WriteAnswer.the-variants.{Written, Refused}
 use Rattle.error_entry.specs.Entry.{entryBytes, entryLength}
 use Rattle.error_entry.specs.declared.ErrorEntry.{ErrorEntry}
 use Rattle.status_response.specs.Given.{WritesWhole, givenFit}
 use Rattle.status_response.specs.Steps.{statusLength}
-use Rattle.c_values.specs.Answers.{lengthAfter, errorOctet, octetAfter, unnamedAnswer}
-use Rattle.powerlink.specs.Writing.{WritesTo, WritesEntry, Coded, octets, unnamed, WritesCoded}
+use Rattle.c_values.specs.Answers.{lengthAfter, errorOctet, octetAfter}
+use Rattle.powerlink.specs.Writing.{WritesTo, WritesEntry, WritesCoded}
 
 -- what `written_or` tells of an answer
 abbrev Told : WriteAnswer → ℕ → ℕ → ℕ → Type 0
@@ -57,6 +57,17 @@ module _ (w : Coded) (t t′ : List ℕ) (r n n′ o : ℕ) where
 
   pub writes-coded : (bs : List ℕ) (a : WriteAnswer) → w ≡ octets bs → Writes bs a t t′ → Told a r n n′ → WritesCoded w r t t′ n n′ o o
   writes-coded bs a ew w′ e = writes-named bs ew (writes-to bs a t t′ r n n′ w′ e)
+
+  -- what `told` tells of an answer
+  pub serializes-coded : (o′ : ℕ) (a : WriteAnswer) → Serializes w a t t′
+      → (r ≡ writeCause a .number) × ((n′ ≡ lengthAfter a n) × (o′ ≡ octetAfter a o)) → WritesCoded w r t t′ n n′ o o′
+  serializes-coded o′ a h e =
+      record {
+        cause = e .0 ∙ ap (λ (x : WriteAnswer). writeCause x .number) (h .answer);
+        target = h .holds;
+        written = e .1 .0 ∙ ap (λ (x : WriteAnswer). lengthAfter x n) (h .answer);
+        octet = e .1 .1 ∙ ap (λ (x : WriteAnswer). octetAfter x o) (h .answer);
+      }
 
 -- what `unnamed` tells, where k octets would be needed
 pub refuses-coded : (w : Coded) (t : List ℕ) (r n o o′ k : ℕ) (e : PowerlinkError) → w ≡ unnamed k e

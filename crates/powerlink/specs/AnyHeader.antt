@@ -10,11 +10,10 @@ use Rattle.types.specs.CauseNumbers.{tooShort}
 use Rattle.types.specs.Codes.{pick}
 use Rattle.types.specs.Header.{ethLength, ethBytes}
 use Rattle.types.specs.RequestedServices.{requestedOf}
-use Rattle.types.specs.Services.{serviceOf}
 use Rattle.types.specs.States.{stateOf}
 use Rattle.types.specs.declared.basic.EthernetHeader.{EthernetHeader}
-use Rattle.section.specs.Write.{minFrame}
-use Rattle.control.specs.ASnd.{asndFieldsLength}
+use Rattle.section.specs.Write.{minFrame, Coded, octets, unnamed}
+use Rattle.control.specs.ASnd.{served}
 use Rattle.control.specs.SoC.{socSection}
 use Rattle.control.specs.declared.soa.SoAFlags.{SoAFlags}
 use Rattle.control.specs.declared.soc.SocFrame.{SocFrame}
@@ -25,7 +24,7 @@ use Rattle.poll.specs.declared.pres.PResFlags.{PResFlags}
 use Rattle.frame.specs.Write.{frameBytes}
 use Rattle.frame.specs.declared.PowerlinkFrame.the-variants.{Soc, PReq, PRes, SoA, ASnd}
 use Rattle.powerlink.specs.Given.{frameNeeds, presGiven, presWriting, soaGiven, soaWriting, asndGiven, asndWriting}
-use Rattle.powerlink.specs.Writing.{Coded, octets, unnamed, stated, requested, served, WritesTo, WritesCoded}
+use Rattle.powerlink.specs.Writing.{stated, requested, WritesTo, WritesCoded}
 
 -- a section behind a header: 14 octets more, or 14 more that are needed where a code names nothing
 abbrev pub behindHeader : EthernetHeader → Coded → Coded
@@ -73,10 +72,9 @@ soaFrame h destination source state flags service target version =
     stated minFrame (stateOf state)
     (λ s. requested minFrame (requestedOf service) (λ q. octets (frameBytes h (SoA (soaGiven destination source s flags q target version)) [])))
 
-abbrev pub asndFrame : EthernetHeader → ℕ → ℕ → ℕ → List ℕ → Coded
-asndFrame h destination source service payload =
-    served (frameNeeds asndFieldsLength payload) (serviceOf service)
-    (λ s. octets (frameBytes h (ASnd (asndGiven destination source s)) payload))
+abbrev pub asndFrame : List ℕ → EthernetHeader → ℕ → ℕ → ℕ → List ℕ → Coded
+asndFrame services h destination source service payload =
+    served services (record { 0 = service }) (frameBytes h (ASnd (asndGiven destination source service)) payload)
 
 pub record FiveBehindHeader (h : EthernetHeader) : Type 0 where
   pub soc : (f : SocFrame) → behindHeader h (octets (socSection f)) ≡ octets (frameBytes h (Soc f) [])
@@ -85,8 +83,8 @@ pub record FiveBehindHeader (h : EthernetHeader) : Type 0 where
       → behindHeader h (presWriting destination source state flags version size payload) ≡ presFrame h destination source state flags version size payload
   pub soa : (destination source state : ℕ) (flags : SoAFlags) (service target version : ℕ)
       → behindHeader h (soaWriting destination source state flags service target version) ≡ soaFrame h destination source state flags service target version
-  pub asnd : (destination source service : ℕ) (payload : List ℕ)
-      → behindHeader h (asndWriting destination source service payload) ≡ asndFrame h destination source service payload
+  pub asnd : (services : List ℕ) (destination source service : ℕ) (payload : List ℕ)
+      → behindHeader h (asndWriting services destination source service payload) ≡ asndFrame services h destination source service payload
 
 pub record AnyHeader : Type 0 where
   pub calls : (h : EthernetHeader) (w : Coded) (t u v : List ℕ) (m r q n n′ k k′ o o′ : ℕ) → TwoCalls h w t u v m r q n n′ k k′ o o′

@@ -12,14 +12,14 @@ use Rattle.types.specs.declared.hal.PowerlinkError.the-variants.{InvalidNmtStat
 use Rattle.types.specs.declared.states.NmtState.{NmtState}
 use Rattle.types.specs.declared.states.NmtStateAnswer.{NmtStateAnswer}
 use Rattle.types.specs.declared.states.NmtStateAnswer.the-variants as state
-use Rattle.section.specs.Write.{minFrame}
+use Rattle.section.specs.Write.{minFrame, unnamedAnswer}
 use Rattle.collector.specs.Calls.{Fresh, Registers, Reads, Flags, Requests, Takes}
 use Rattle.collector.specs.Layout.{boxOf, accountOf}
 use Rattle.collector.specs.Rules.{Account, registerAnswer, registerCause, readAnswer, readCause, flagsAnswer, flagsCause, asRequest, requestAnswer, requestCause, takeAnswer, takeCause}
 use Rattle.collector.specs.declared.RequestAnswer.{RequestAnswer}
 use Rattle.collector.specs.declared.RequestAnswer.the-variants as requesting
 use Rattle.collector.specs.declared.RequestFields.{RequestFields}
-use Rattle.c_values.specs.Answers.{unnamedAnswer, valuesTold, flagTold, RowTold}
+use Rattle.c_values.specs.Answers.{valuesTold, flagTold, RowTold}
 use Rattle.powerlink.specs.Given.{node, mac}
 
 pub record CollectorMakes (r : ℕ) (s′ : List ℕ) : Type 0 where
@@ -30,9 +30,9 @@ pub record CollectorRegisters (i r : ℕ) (s s′ : List ℕ) : Type 0 where
   pub cause : r ≡ registerCause (registerAnswer i (boxOf s)) .number
   pub registers : Registers (node i) (registerAnswer i (boxOf s)) s s′
 
-pub record CollectorReads (f : List ℕ) (r : ℕ) (s s′ : List ℕ) (k k′ o o′ : ℕ) : Type 0 where
-  pub told : RowTold (readCause (readAnswer f (boxOf s))) r k k′ o o′
-  pub reads : Reads f (readAnswer f (boxOf s)) s s′
+pub record CollectorReads (services f : List ℕ) (r : ℕ) (s s′ : List ℕ) (k k′ o o′ : ℕ) : Type 0 where
+  pub told : RowTold (readCause (readAnswer services f (boxOf s))) r k k′ o o′
+  pub reads : Reads services f (readAnswer services f (boxOf s)) s s′
 
 pub record CollectorFlags (i r : ℕ) (s : List ℕ) (a a′ e e′ : Bool) : Type 0 where
   pub cause : r ≡ flagsCause (flagsAnswer (accountOf s i)) .number

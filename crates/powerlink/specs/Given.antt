@@ -11,17 +11,15 @@ use Rattle.types.specs.Messages.{messageOf}
 use Rattle.types.specs.Modes.{modeOf}
 use Rattle.types.specs.PollFlags.{priorityIn}
 use Rattle.types.specs.RequestedServices.{requestedOf}
-use Rattle.types.specs.Services.{serviceOf}
 use Rattle.types.specs.States.{stateOf}
 use Rattle.types.specs.declared.basic.EthernetHeader.{EthernetHeader}
 use Rattle.types.specs.declared.basic.MacAddress.{MacAddress}
 use Rattle.types.specs.declared.common.NetTime.{NetTime}
 use Rattle.types.specs.declared.hal.PowerlinkError.the-variants.{BufferTooShort}
 use Rattle.types.specs.declared.requested_service.RequestedServiceId.{RequestedServiceId}
-use Rattle.types.specs.declared.service.ServiceId.{ServiceId}
 use Rattle.types.specs.declared.states.NmtState.{NmtState}
-use Rattle.section.specs.Write.{minSection, minFrame}
-use Rattle.control.specs.ASnd.{newASnd, asndFieldsLength, asndSection}
+use Rattle.section.specs.Write.{minSection, minFrame, Coded, octets, unnamed}
+use Rattle.control.specs.ASnd.{newASnd, asndSection, served}
 use Rattle.control.specs.SoA.{newSoA, soaSection}
 use Rattle.control.specs.SoC.{newSoC}
 use Rattle.control.specs.declared.asnd.ASndFrame.{ASndFrame}
@@ -51,7 +49,7 @@ use Rattle.status_response.specs.Steps.{statusBytes, statusLength}
 use Rattle.status_response.specs.declared.fields.StatusFields.{StatusFields}
 pub use Rattle.types.specs.Nodes.{node}
 pub use Rattle.c_values.specs.Values.{time, entryWith}
-use Rattle.powerlink.specs.Writing.{Coded, octets, unnamed, WritesEntry, typed, stated, served, requested}
+use Rattle.powerlink.specs.Writing.{WritesEntry, typed, stated, requested}
 
 abbrev pub mac : List ℕ → MacAddress
 mac bs = record { 0 = bs }
@@ -113,9 +111,9 @@ soaGiven destination source state flags service target version =
       «epl_version» = record { 0 = version };
     }
 
-abbrev pub asndGiven : ℕ → ℕ → ServiceId → ASndFrame
+abbrev pub asndGiven : ℕ → ℕ → ℕ → ASndFrame
 asndGiven destination source service =
-    record { destination = node destination; source = node source; «service_id» = service }
+    record { destination = node destination; source = node source; «service_id» = record { 0 = service } }
 
 -- the octets that a section needs, and those of a frame: the fields with the payload, or the smallest size
 abbrev pub sectionNeeds : ℕ → List ℕ → ℕ
@@ -134,9 +132,9 @@ soaWriting destination source state flags service target version =
     stated minSection (stateOf state)
     (λ s. requested minSection (requestedOf service) (λ q. octets (soaSection (soaGiven destination source s flags q target version))))
 
-abbrev pub asndWriting : ℕ → ℕ → ℕ → List ℕ → Coded
-asndWriting destination source service payload =
-    served (sectionNeeds asndFieldsLength payload) (serviceOf service) (λ s. octets (asndSection (asndGiven destination source s) payload))
+abbrev pub asndWriting : List ℕ → ℕ → ℕ → ℕ → List ℕ → Coded
+asndWriting services destination source service payload =
+    served services (record { 0 = service }) (asndSection (asndGiven destination source service) payload)
 
 -- ---- headers
 
@@ -174,12 +172,10 @@ newSoAWriting from state flags service target version =
     let n = newSoA (mac from) s flags q (node target) (record { 0 = version }) in
     octets (frameBytes (n .«eth_header») (SoA (n .frame)) [])))
 
-abbrev pub newASndWriting : List ℕ → List ℕ → ℕ → ℕ → ℕ → List ℕ → Coded
-newASndWriting from to target source service payload =
-    served (frameNeeds asndFieldsLength payload) (serviceOf service)
-    (λ s.
-    let n = newASnd (mac from) (mac to) (node target) (node source) s in
-    octets (frameBytes (n .«eth_header») (ASnd (n .frame)) payload))
+abbrev pub newASndWriting : List ℕ → List ℕ → List ℕ → ℕ → ℕ → ℕ → List ℕ → Coded
+newASndWriting services from to target source service payload =
+    let n = newASnd (mac from) (mac to) (node target) (node source) (record { 0 = service }) in
+    served services (record { 0 = service }) (frameBytes (n .«eth_header») (ASnd (n .frame)) payload)
 
 -- ---- StatusResponse
 

@@ -4,4 +4,5 @@ pub mod Given
 pub mod Journal
 pub mod Reading
 pub mod Reporting
+pub mod Tables
 pub mod Writing

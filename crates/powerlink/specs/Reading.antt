@@ -75,10 +75,10 @@ nextAfter step.End = 0
 
 -- ---- the calls: v, d, o and the like stand before, and v′, d′, o′ after
 
-pub record FrameRead (f : List ℕ) (r : ℕ) (v v′ : List ℕ) (o o′ : ℕ) : Type 0 where
-  pub cause : r ≡ frameCause (readFrame f) .number
-  pub values : v′ ≡ frameAfter (readFrame f) (deserializeFrame f .«payload_place») v
-  pub octet : o′ ≡ getD (frameCause (readFrame f) .returned) 0 o
+pub record FrameRead (services f : List ℕ) (r : ℕ) (v v′ : List ℕ) (o o′ : ℕ) : Type 0 where
+  pub cause : r ≡ frameCause (readFrame services f) .number
+  pub values : v′ ≡ frameAfter (readFrame services f) (deserializeFrame services f .«payload_place») v
+  pub octet : o′ ≡ getD (frameCause (readFrame services f) .returned) 0 o
 
 -- the same of the section s, to which the rules answer a
 pub record SectionRead (a : FrameAnswer) (s : List ℕ) (r : ℕ) (v v′ : List ℕ) (o o′ : ℕ) : Type 0 where

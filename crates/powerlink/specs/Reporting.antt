@@ -16,18 +16,18 @@ use Rattle.types.specs.declared.error_mode.ErrorEntryModeAnswer.the-variants as
 use Rattle.types.specs.declared.states.NmtState.{NmtState}
 use Rattle.types.specs.declared.states.NmtStateAnswer.{NmtStateAnswer}
 use Rattle.types.specs.declared.states.NmtStateAnswer.the-variants as state
-use Rattle.section.specs.Write.{writeAnswer}
+use Rattle.section.specs.Write.{Coded, codedAnswer}
 use Rattle.error_entry.specs.declared.ErrorEntry.{ErrorEntry}
 use Rattle.status_response.specs.BitField.{fieldOf}
 use Rattle.reporter.specs.Calls.{Makes, Raises, Answers, Reads}
 use Rattle.reporter.specs.Layout.{headOf}
-use Rattle.reporter.specs.Rules.{Head, newAnswer, newCause, raiseAnswer, raiseCause, opened, answerFrame, answerLength, acknowledgeAnswer, readCause, eaTold}
+use Rattle.reporter.specs.Rules.{Head, newAnswer, newCause, raiseAnswer, raiseCause, opened, answerWriting, answerLength, acknowledgeAnswer, readCause, eaTold}
 use Rattle.reporter.specs.declared.AnswerFields.{AnswerFields}
 use Rattle.reporter.specs.declared.RaiseAnswer.the-variants.{EntryInvalid}
 use Rattle.reporter.specs.declared.ReadAnswer.{ReadAnswer}
 use Rattle.c_values.specs.Answers.{RowTold}
 use Rattle.powerlink.specs.Given.{node, mac, entryWith}
-use Rattle.powerlink.specs.Writing.{Coded, octets, stated, WritesCoded}
+use Rattle.powerlink.specs.Writing.{stated, WritesCoded}
 
 pub record ReporterMakes (i r : ℕ) (state after : List ℕ) : Type 0 where
   pub cause : r ≡ newCause (newAnswer i) .number
@@ -65,18 +65,19 @@ answerFields from to ec pr rs field state =
     }
 
 -- the answer of a state, where its fields' state is the one that a code names
-abbrev pub answerWriting : (NmtState → AnswerFields) → ℕ → Head → Coded
-answerWriting f state h =
-    stated (answerLength (length (opened h .batch))) (stateOf state) (λ s. octets (answerFrame (f s) (opened h)))
+abbrev pub answerGiven : List ℕ → (NmtState → AnswerFields) → ℕ → Head → Coded
+answerGiven services f state h =
+    stated (answerLength (length (opened h .batch))) (stateOf state) (λ s. answerWriting services (f s) (opened h))
 
 -- what becomes of the state: what `answer` promises, or it stays
-abbrev pub AnswersBy : (NmtState → AnswerFields) → NmtStateAnswer → List ℕ → List ℕ → List ℕ → List ℕ → Type 0
-AnswersBy f (state.Unknown b) s s′ t t′ = s′ ≡ s
-AnswersBy f (state.Known k) s s′ t t′ = Answers (f k) (writeAnswer (answerFrame (f k) (opened (headOf s))) t) s s′ t t′
+abbrev pub AnswersBy : List ℕ → (NmtState → AnswerFields) → NmtStateAnswer → List ℕ → List ℕ → List ℕ → List ℕ → Type 0
+AnswersBy services f (state.Unknown b) s s′ t t′ = s′ ≡ s
+AnswersBy services f (state.Known k) s s′ t t′ =
+    Answers services (f k) (codedAnswer (answerWriting services (f k) (opened (headOf s))) t) s s′ t t′
 
-pub record ReporterAnswers (f : NmtState → AnswerFields) (code r : ℕ) (s s′ t t′ : List ℕ) (n n′ o o′ : ℕ) : Type 0 where
-  pub writes : WritesCoded (answerWriting f code (headOf s)) r t t′ n n′ o o′
-  pub answers : AnswersBy f (stateOf code) s s′ t t′
+pub record ReporterAnswers (services : List ℕ) (f : NmtState → AnswerFields) (code r : ℕ) (s s′ t t′ : List ℕ) (n n′ o o′ : ℕ) : Type 0 where
+  pub writes : WritesCoded (answerGiven services f code (headOf s)) r t t′ n n′ o o′
+  pub answers : AnswersBy services f (stateOf code) s s′ t t′
 
 -- the state is lent to be read: it stays
 pub record ReporterEn (r : ℕ) (s : List ℕ) (e′ : Bool) : Type 0 where
@@ -84,9 +85,9 @@ pub record ReporterEn (r : ℕ) (s : List ℕ) (e′ : Bool) : Type 0 where
   pub en : e′ ≡ headOf s .en
 
 -- what reading a frame answers
-abbrev pub reporterReading : List ℕ → List ℕ → ReadAnswer
-reporterReading frame state = acknowledgeAnswer (eaTold (headOf state .id) frame) (headOf state)
+abbrev pub reporterReading : List ℕ → List ℕ → List ℕ → ReadAnswer
+reporterReading services frame state = acknowledgeAnswer (eaTold services (headOf state .id) frame) (headOf state)
 
-pub record ReporterReads (frame : List ℕ) (r : ℕ) (s s′ : List ℕ) (k k′ o o′ : ℕ) : Type 0 where
-  pub told : RowTold (readCause (reporterReading frame s)) r k k′ o o′
-  pub reads : Reads frame (reporterReading frame s) s s′
+pub record ReporterReads (services frame : List ℕ) (r : ℕ) (s s′ : List ℕ) (k k′ o o′ : ℕ) : Type 0 where
+  pub told : RowTold (readCause (reporterReading services frame s)) r k k′ o o′
+  pub reads : Reads services frame (reporterReading services frame s) s s′

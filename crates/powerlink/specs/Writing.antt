@@ -10,25 +10,20 @@ use Rattle.types.specs.Codes.{need}
 use Rattle.types.specs.declared.error_mode.ErrorEntryMode.{ErrorEntryMode}
 use Rattle.types.specs.declared.error_mode.ErrorEntryModeAnswer.{ErrorEntryModeAnswer}
 use Rattle.types.specs.declared.error_mode.ErrorEntryModeAnswer.the-variants as mode
-use Rattle.types.specs.declared.hal.PowerlinkError.{PowerlinkError}
-use Rattle.types.specs.declared.hal.PowerlinkError.the-variants.{InvalidMessageType, InvalidNmtState, InvalidServiceId, InvalidRequestedServiceId}
+use Rattle.types.specs.declared.hal.PowerlinkError.the-variants.{InvalidMessageType, InvalidNmtState, InvalidRequestedServiceId}
 use Rattle.types.specs.declared.message_type.MessageType.{MessageType}
 use Rattle.types.specs.declared.message_type.MessageTypeAnswer.{MessageTypeAnswer}
 use Rattle.types.specs.declared.message_type.MessageTypeAnswer.the-variants as message
 use Rattle.types.specs.declared.requested_service.RequestedServiceId.{RequestedServiceId}
 use Rattle.types.specs.declared.requested_service.RequestedServiceIdAnswer.{RequestedServiceIdAnswer}
 use Rattle.types.specs.declared.requested_service.RequestedServiceIdAnswer.the-variants as query
-use Rattle.types.specs.declared.service.ServiceId.{ServiceId}
-use Rattle.types.specs.declared.service.ServiceIdAnswer.{ServiceIdAnswer}
-use Rattle.types.specs.declared.service.ServiceIdAnswer.the-variants as service
 use Rattle.types.specs.declared.states.NmtState.{NmtState}
 use Rattle.types.specs.declared.states.NmtStateAnswer.{NmtStateAnswer}
 use Rattle.types.specs.declared.states.NmtStateAnswer.the-variants as state
-use Rattle.section.specs.Write.{writeAnswer, writeCause, overwritten}
-use Rattle.section.specs.declared.WriteAnswer.{WriteAnswer}
+use Rattle.section.specs.Write.{writeAnswer, writeCause, overwritten, Coded, unnamed, codedAnswer, codedTarget}
 use Rattle.error_entry.specs.Entry.{entryLength, entryBytes}
 use Rattle.error_entry.specs.declared.ErrorEntry.{ErrorEntry}
-use Rattle.c_values.specs.Answers.{lengthAfter, octetAfter, unnamedAnswer}
+use Rattle.c_values.specs.Answers.{lengthAfter, octetAfter}
 
 -- r is the number of what writing bs comes to, t′ what the target t then holds, and n′ the length that is told where n stood
 pub record WritesTo (bs : List ℕ) (r : ℕ) (t t′ : List ℕ) (n n′ : ℕ) : Type 0 where
@@ -57,19 +52,6 @@ pub record WritesEntry (e : ErrorEntryMode → ErrorEntry) (m : ErrorEntryModeAn
 
 -- ---- codes that may name nothing
 
--- the octets to write; or how many they would be, and why they are none
-pub data Coded : Type 0 where
-  octets : List ℕ → Coded
-  unnamed : ℕ → PowerlinkError → Coded
-
-abbrev pub codedAnswer : Coded → List ℕ → WriteAnswer
-codedAnswer (octets bs) target = writeAnswer bs target
-codedAnswer (unnamed n e) target = unnamedAnswer n e (length target)
-
-abbrev pub codedTarget : Coded → List ℕ → List ℕ
-codedTarget (octets bs) target = overwritten bs target
-codedTarget (unnamed n e) target = target
-
 -- where n octets are needed: what follows a code that names something, or the error of one that does not
 abbrev pub typed : ℕ → MessageTypeAnswer → (MessageType → Coded) → Coded
 typed n (message.Unknown b) next = unnamed n (InvalidMessageType b)
@@ -78,10 +60,6 @@ typed n (message.Known m) next = next m
 abbrev pub stated : ℕ → NmtStateAnswer → (NmtState → Coded) → Coded
 stated n (state.Unknown b) next = unnamed n (InvalidNmtState b)
 stated n (state.Known s) next = next s
-
-abbrev pub served : ℕ → ServiceIdAnswer → (ServiceId → Coded) → Coded
-served n (service.Unknown b) next = unnamed n (InvalidServiceId b)
-served n (service.Known s) next = next s
 
 abbrev pub requested : ℕ → RequestedServiceIdAnswer → (RequestedServiceId → Coded) → Coded
 requested n (query.Unknown b) next = unnamed n (InvalidRequestedServiceId b)

@@ -18,6 +18,7 @@ use collector::register;
 use collector::request;
 use collector::take;
 use section::MIN_FRAME;
+use services::table::Services;
 use types::EPLVersion;
 use types::NodeId;
 use types::basic::MacAddress;
@@ -34,7 +35,7 @@ use types::states::NmtStateAnswer;
 
 // Makes a fresh state: no node is registered. The name carries the interface's version, as include/powerlink.h tells.
 #[no_mangle]
-pub extern "C" fn powerlink_collector_new_v1(state: &mut Collector) -> u8
+pub extern "C" fn powerlink_collector_new_v2(state: &mut Collector) -> u8
     ensures { λ r. ⌜ CollectorMakes r (now (state .exit)) ⌝ }
 {
     new(state);
@@ -56,15 +57,16 @@ pub extern "C" fn powerlink_collector_register(state: &mut Collector, id: u8) ->
 
 // Reads a frame; the outcome is 0 where its batch was booked before, and 1 where it is booked now.
 #[no_mangle]
-pub extern "C" fn powerlink_collector_read(
+pub extern "C" fn powerlink_collector_read_v2(
     state: &mut Collector,
+    services: &Services,
     buffer: &[u8],
     outcome: &mut u8,
     octet: &mut u8,
 ) -> u8
-    ensures { λ r. ⌜ CollectorReads (now (buffer .entry)) r (now (state .entry)) (now (state .exit)) (now (outcome .entry)) (now (outcome .exit)) (now (octet .entry)) (now (octet .exit)) ⌝ }
+    ensures { λ r. ⌜ CollectorReads (now (services .entry)) (now (buffer .entry)) r (now (state .entry)) (now (state .exit)) (now (outcome .entry)) (now (outcome .exit)) (now (octet .entry)) (now (octet .exit)) ⌝ }
 {
-    match read(state, buffer) {
+    match read(state, services, buffer) {
         ReadAnswer::Refused(e) => refusal(e, octet),
         ReadAnswer::NotStatusResponse => NOT_STATUS_RESPONSE,
         ReadAnswer::NotRegistered => NOT_REGISTERED,

@@ -116,14 +116,13 @@ pub(crate) fn soa_values(f: SoAFrame, place: PayloadPlace) -> [u64; 16]
 pub(crate) fn asnd_values(f: ASndFrame, place: PayloadPlace) -> [u64; 16]
     ensures { λ r. ⌜ r ≡ asndNumbers f place ⌝ }
 {
-    let service = f.service_id;
     [
         6,
         f.destination.0 as u64,
         f.source.0 as u64,
         place.start as u64,
         place.len as u64,
-        service.to_u8() as u64,
+        f.service_id.0 as u64,
         0,
         0,
         0,

@@ -5,9 +5,9 @@ ghost use Rattle.section.specs.Write.{padded};
 ghost use Rattle.powerlink.specs.Given.{time, socFlagsGiven, newSoCFrame, preqFlagsGiven, newPReqFrame, presFlagsGiven, newPResWriting, soaFlagsGiven, newSoAWriting, newASndWriting};
 ghost use Rattle.powerlink.specs.Writing.{WritesTo, WritesCoded};
 use c_values::answers::padded_len;
+use c_values::answers::told;
 use c_values::answers::unnamed;
 use c_values::answers::written_or;
-use control::asnd;
 use control::asnd::ASndFrame;
 use control::soa::SoAFlags;
 use control::soa::SoAFrame;
@@ -20,6 +20,8 @@ use poll::pres::PResFrame;
 use poll::pres::STATE_AT;
 use section::MIN_FRAME;
 use section::write_behind;
+use services::ServiceId;
+use services::table::Services;
 use types::EPLVersion;
 use types::NodeId;
 use types::basic::EthernetHeader;
@@ -32,8 +34,6 @@ use types::poll_flags::PRFlag;
 use types::poll_flags::RSFlag;
 use types::requested_service::RequestedServiceId;
 use types::requested_service::RequestedServiceIdAnswer;
-use types::service::ServiceId;
-use types::service::ServiceIdAnswer;
 use types::states::NmtState;
 use types::states::NmtStateAnswer;
 
@@ -207,9 +207,11 @@ pub extern "C" fn powerlink_new_soa(
     }
 }
 
-// ASnd goes from any node to any, so that both addresses and both IDs are the caller's: 1, then 6.
+// ASnd goes from any node to any, so that both addresses and both IDs are the caller's: 1, then 6, where the table does not
+// hold its service.
 #[no_mangle]
-pub extern "C" fn powerlink_new_asnd(
+pub extern "C" fn powerlink_new_asnd_v2(
+    services: &Services,
     source_mac: &[u8; 6],
     dest_mac: &[u8; 6],
     target_node: u8,
@@ -220,31 +222,17 @@ pub extern "C" fn powerlink_new_asnd(
     written: &mut usize,
     octet: &mut u8,
 ) -> u8
-    ensures { λ r. ⌜ WritesCoded (newASndWriting (now («source_mac» .entry)) (now («dest_mac» .entry)) «target_node» source service (now (payload .entry))) r (now (target .entry)) (now (target .exit)) (now (written .entry)) (now (written .exit)) (now (octet .entry)) (now (octet .exit)) ⌝ }
+    ensures { λ r. ⌜ WritesCoded (newASndWriting (now (services .entry)) (now («source_mac» .entry)) (now («dest_mac» .entry)) «target_node» source service (now (payload .entry))) r (now (target .entry)) (now (target .exit)) (now (written .entry)) (now (written .exit)) (now (octet .entry)) (now (octet .exit)) ⌝ }
 {
-    match ServiceId::from_u8(service) {
-        ServiceIdAnswer::Unknown(b) => {
-            let needed = padded_len(MIN_FRAME, asnd::PAYLOAD_AT + payload.len());
-            unnamed(
-                PowerlinkError::InvalidServiceId(b),
-                needed,
-                target.len(),
-                octet,
-            )
-        }
-        ServiceIdAnswer::Known(service_id) => {
-            let new = ASndFrame::new(
-                MacAddress(*source_mac),
-                MacAddress(*dest_mac),
-                NodeId(target_node),
-                NodeId(source),
-                service_id,
-            );
-            let frame = new.frame;
-            // The service's octet is the one that was given, as a PRes's state.
-            let mut fields = frame.to_bytes();
-            fields[asnd::SERVICE_AT] = service;
-            put_frame(new.eth_header, &fields, payload, target, written)
-        }
-    }
+    let new = ASndFrame::new(
+        MacAddress(*source_mac),
+        MacAddress(*dest_mac),
+        NodeId(target_node),
+        NodeId(source),
+        ServiceId(service),
+    );
+    let eth_header = new.eth_header;
+    let frame = new.frame;
+    let answer = frame.serialize_behind(services, &eth_header.to_bytes(), payload, target);
+    told(answer, written, octet)
 }

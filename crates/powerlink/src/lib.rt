@@ -1,5 +1,5 @@
-// The library for C and for other languages that call as C does: every frame, the StatusResponse, the error exchange and
-// the journal's record (01: "offered to the differential harness as C functions on numbers and byte slices").
+// The library for C and for other languages that call as C does: every frame, tables of services, the StatusResponse, the error
+// exchange and the journal's record (01: "offered to the differential harness as C functions on numbers and byte slices").
 // include/powerlink.h declares it.
 //
 // A call answers with 01's number of the cause, or 0. A refusal leaves every buffer and out-parameter as it was, but for
@@ -13,3 +13,4 @@ pub mod reading;
 pub mod reporting;
 pub mod sections;
 pub mod status;
+pub mod tables;

@@ -25,35 +25,43 @@ use frame::PowerlinkFrame;
 use octets::slices::byte_at;
 use octets::slices::tail;
 use poll::pres;
+use services::table::Services;
 use types::basic::ETH_LEN;
 use types::hal::PowerlinkError;
 use types::message_type::MessageType;
 
-// Reads a frame, from its Ethernet header on.
+// Reads a frame, from its Ethernet header on; an ASnd is read where the table holds its service.
 #[no_mangle]
-pub extern "C" fn powerlink_deserialize_frame(
+pub extern "C" fn powerlink_deserialize_frame_v2(
+    services: &Services,
     buffer: &[u8],
     values: &mut [u64; 16],
     octet: &mut u8,
 ) -> u8
-    ensures { λ r. ⌜ FrameRead (now (buffer .entry)) r (now (values .entry)) (now (values .exit)) (now (octet .entry)) (now (octet .exit)) ⌝ }
+    ensures { λ r. ⌜ FrameRead (now (services .entry)) (now (buffer .entry)) r (now (values .entry)) (now (values .exit)) (now (octet .entry)) (now (octet .exit)) ⌝ }
 {
     match kind_of(buffer) {
         KindAnswer::Refused(e) => refusal(e, octet),
-        KindAnswer::Kind(kind) => read_kind(kind, tail(buffer, ETH_LEN), values, octet),
+        KindAnswer::Kind(kind) => read_kind(services, kind, tail(buffer, ETH_LEN), values, octet),
     }
 }
 
 // The section `s` of a frame of a kind.
-fn read_kind(kind: MessageType, s: &[u8], values: &mut [u64; 16], octet: &mut u8) -> u8
-    ensures { λ r. ⌜ SectionRead (byKind kind (now (s .entry))) (now (s .entry)) r (now (values .entry)) (now (values .exit)) (now (octet .entry)) (now (octet .exit)) ⌝ }
+fn read_kind(
+    services: &Services,
+    kind: MessageType,
+    s: &[u8],
+    values: &mut [u64; 16],
+    octet: &mut u8,
+) -> u8
+    ensures { λ r. ⌜ SectionRead (byKind (now (services .entry)) kind (now (s .entry))) (now (s .entry)) r (now (values .entry)) (now (values .exit)) (now (octet .entry)) (now (octet .exit)) ⌝ }
 {
     match kind {
         MessageType::SoC => read_soc(s, values, octet),
         MessageType::PReq => read_preq(s, values, octet),
         MessageType::PRes => read_pres(s, values, octet),
         MessageType::SoA => read_soa(s, values, octet),
-        MessageType::ASnd => read_asnd(s, values, octet),
+        MessageType::ASnd => read_asnd(services, s, values, octet),
     }
 }
 
@@ -120,12 +128,12 @@ fn read_soa(s: &[u8], values: &mut [u64; 16], octet: &mut u8) -> u8
     }
 }
 
-fn read_asnd(s: &[u8], values: &mut [u64; 16], octet: &mut u8) -> u8
-    ensures { λ r. ⌜ SectionRead (readASnd (now (s .entry))) (now (s .entry)) r (now (values .entry)) (now (values .exit)) (now (octet .entry)) (now (octet .exit)) ⌝ }
+fn read_asnd(services: &Services, s: &[u8], values: &mut [u64; 16], octet: &mut u8) -> u8
+    ensures { λ r. ⌜ SectionRead (readASnd (now (services .entry)) (now (s .entry))) (now (s .entry)) r (now (values .entry)) (now (values .exit)) (now (octet .entry)) (now (octet .exit)) ⌝ }
 {
-    match codec::asnd::judge(s) {
-        ASndVerdict::Read(service) => {
-            let f = codec::asnd::fields(s, service);
+    match codec::asnd::judge(services, s) {
+        ASndVerdict::Read => {
+            let f = codec::asnd::fields(s);
             *values = asnd_values(f, payload_place(PowerlinkFrame::ASnd(f), s));
             0
         }

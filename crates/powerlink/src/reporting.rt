@@ -2,8 +2,8 @@
 ghost use Rattle.powerlink.specs.Given.{time};
 ghost use Rattle.powerlink.specs.Reporting.{ReporterMakes, ReporterRaises, ReporterAnswers, ReporterEn, ReporterReads, answerFields};
 use c_values::answers::refusal;
+use c_values::answers::told;
 use c_values::answers::unnamed;
-use c_values::answers::written_or;
 use c_values::values::entry_given;
 use reporter::AnswerFields;
 use reporter::NewAnswer;
@@ -15,6 +15,7 @@ use reporter::answer_len;
 use reporter::new;
 use reporter::raise;
 use reporter::read;
+use services::table::Services;
 use status_response::bit_field::StaticErrorBitField;
 use types::NodeId;
 use types::basic::MacAddress;
@@ -31,7 +32,7 @@ use types::states::NmtStateAnswer;
 
 // Makes a fresh state for a node. The name carries the interface's version, as include/powerlink.h tells.
 #[no_mangle]
-pub extern "C" fn powerlink_reporter_new_v1(state: &mut Reporter, id: u8) -> u8
+pub extern "C" fn powerlink_reporter_new_v2(state: &mut Reporter, id: u8) -> u8
     ensures { λ r. ⌜ ReporterMakes id r (now (state .entry)) (now (state .exit)) ⌝ }
 {
     match new(state, NodeId(id)) {
@@ -79,8 +80,9 @@ pub extern "C" fn powerlink_reporter_raise(
 
 // Writes a StatusResponse with the open batch, or with the batch that it opens.
 #[no_mangle]
-pub extern "C" fn powerlink_reporter_answer(
+pub extern "C" fn powerlink_reporter_answer_v2(
     state: &mut Reporter,
+    services: &Services,
     source_mac: &[u8; 6],
     dest_mac: &[u8; 6],
     ec: bool,
@@ -92,7 +94,7 @@ pub extern "C" fn powerlink_reporter_answer(
     written: &mut usize,
     octet: &mut u8,
 ) -> u8
-    ensures { λ r. ⌜ ReporterAnswers (answerFields (now («source_mac» .entry)) (now («dest_mac» .entry)) ec pr rs (now (field .entry))) «nmt_state» r (now (state .entry)) (now (state .exit)) (now (target .entry)) (now (target .exit)) (now (written .entry)) (now (written .exit)) (now (octet .entry)) (now (octet .exit)) ⌝ }
+    ensures { λ r. ⌜ ReporterAnswers (now (services .entry)) (answerFields (now («source_mac» .entry)) (now («dest_mac» .entry)) ec pr rs (now (field .entry))) «nmt_state» r (now (state .entry)) (now (state .exit)) (now (target .entry)) (now (target .exit)) (now (written .entry)) (now (written .exit)) (now (octet .entry)) (now (octet .exit)) ⌝ }
 {
     match NmtState::from_u8(nmt_state) {
         NmtStateAnswer::Unknown(b) => {
@@ -114,8 +116,7 @@ pub extern "C" fn powerlink_reporter_answer(
                 nmt_state,
                 static_error_bit_field: StaticErrorBitField::from_bytes(field),
             };
-            let answered = answer(state, fields, target);
-            written_or(answered, written)
+            told(answer(state, services, fields, target), written, octet)
         }
     }
 }
@@ -131,15 +132,16 @@ pub extern "C" fn powerlink_reporter_en(state: &Reporter, en: &mut bool) -> u8
 
 // Reads a frame; the outcome is 0 where it is ignored, 1 where its EA closes nothing, and 2 where it closes the batch.
 #[no_mangle]
-pub extern "C" fn powerlink_reporter_read(
+pub extern "C" fn powerlink_reporter_read_v2(
     state: &mut Reporter,
+    services: &Services,
     buffer: &[u8],
     outcome: &mut u8,
     octet: &mut u8,
 ) -> u8
-    ensures { λ r. ⌜ ReporterReads (now (buffer .entry)) r (now (state .entry)) (now (state .exit)) (now (outcome .entry)) (now (outcome .exit)) (now (octet .entry)) (now (octet .exit)) ⌝ }
+    ensures { λ r. ⌜ ReporterReads (now (services .entry)) (now (buffer .entry)) r (now (state .entry)) (now (state .exit)) (now (outcome .entry)) (now (outcome .exit)) (now (octet .entry)) (now (octet .exit)) ⌝ }
 {
-    match read(state, buffer) {
+    match read(state, services, buffer) {
         ReadAnswer::Refused(e) => refusal(e, octet),
         ReadAnswer::Ignored => {
             *outcome = 0;

@@ -4,9 +4,9 @@ ghost use Rattle.poll.specs.PReq.{preqSection};
 ghost use Rattle.powerlink.specs.Given.{socGiven, preqFlagsGiven, preqGiven, presFlagsGiven, presWriting, soaFlagsGiven, soaWriting, asndWriting};
 ghost use Rattle.powerlink.specs.Writing.{WritesTo, WritesCoded};
 use c_values::answers::padded_len;
+use c_values::answers::told;
 use c_values::answers::unnamed;
 use c_values::answers::written_or;
-use control::asnd;
 use control::asnd::ASndFrame;
 use control::soa::SoAFlags;
 use control::soa::SoAFrame;
@@ -17,6 +17,8 @@ use poll::preq::PReqFrame;
 use poll::pres::PResFlags;
 use poll::pres::PResFrame;
 use section::MIN_SECTION;
+use services::ServiceId;
+use services::table::Services;
 use types::EPLVersion;
 use types::NodeId;
 use types::common::NetTime;
@@ -27,8 +29,6 @@ use types::poll_flags::PRFlag;
 use types::poll_flags::RSFlag;
 use types::requested_service::RequestedServiceId;
 use types::requested_service::RequestedServiceIdAnswer;
-use types::service::ServiceId;
-use types::service::ServiceIdAnswer;
 use types::states::NmtState;
 use types::states::NmtStateAnswer;
 
@@ -191,7 +191,8 @@ pub extern "C" fn powerlink_serialize_soa(
 
 // Asynchronous Send (4.6.1.1.6): 1, then 6.
 #[no_mangle]
-pub extern "C" fn powerlink_serialize_asnd(
+pub extern "C" fn powerlink_serialize_asnd_v2(
+    services: &Services,
     destination: u8,
     source: u8,
     service: u8,
@@ -200,26 +201,13 @@ pub extern "C" fn powerlink_serialize_asnd(
     written: &mut usize,
     octet: &mut u8,
 ) -> u8
-    ensures { λ r. ⌜ WritesCoded (asndWriting destination source service (now (payload .entry))) r (now (target .entry)) (now (target .exit)) (now (written .entry)) (now (written .exit)) (now (octet .entry)) (now (octet .exit)) ⌝ }
+    ensures { λ r. ⌜ WritesCoded (asndWriting (now (services .entry)) destination source service (now (payload .entry))) r (now (target .entry)) (now (target .exit)) (now (written .entry)) (now (written .exit)) (now (octet .entry)) (now (octet .exit)) ⌝ }
 {
-    match ServiceId::from_u8(service) {
-        ServiceIdAnswer::Unknown(b) => {
-            let needed = padded_len(MIN_SECTION, asnd::FIELDS_LEN + payload.len());
-            unnamed(
-                PowerlinkError::InvalidServiceId(b),
-                needed,
-                target.len(),
-                octet,
-            )
-        }
-        ServiceIdAnswer::Known(service_id) => {
-            let frame = ASndFrame {
-                destination: NodeId(destination),
-                source: NodeId(source),
-                service_id,
-            };
-            let answer = frame.serialize(payload, target);
-            written_or(answer, written)
-        }
-    }
+    let frame = ASndFrame {
+        destination: NodeId(destination),
+        source: NodeId(source),
+        service_id: ServiceId(service),
+    };
+    let answer = frame.serialize(services, payload, target);
+    told(answer, written, octet)
 }

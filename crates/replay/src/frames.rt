@@ -9,11 +9,12 @@ use crate::record::long;
 use crate::record::octet;
 use crate::record::part;
 use crate::record::word;
-use powerlink::frames::powerlink_new_asnd;
+use powerlink::frames::powerlink_new_asnd_v2;
 use powerlink::frames::powerlink_new_preq;
 use powerlink::frames::powerlink_new_pres;
 use powerlink::frames::powerlink_new_soa;
 use powerlink::frames::powerlink_new_soc;
+use services::ds301::DS301;
 
 pub fn write(n: u8, s: &[u8], target: &mut [u8], written: &mut usize, said: &mut u8) -> u8 {
     match n {
@@ -78,7 +79,8 @@ fn with_code(n: u8, s: &[u8], target: &mut [u8], written: &mut usize, said: &mut
 }
 
 fn asnd(s: &[u8], target: &mut [u8], written: &mut usize, said: &mut u8) -> u8 {
-    powerlink_new_asnd(
+    powerlink_new_asnd_v2(
+        &DS301,
         &address(s, A),
         &address(s, B),
         octet(s, 0),

@@ -10,11 +10,12 @@ use octets::little_endian::u64_le;
 use octets::slices::front;
 use powerlink::headers::powerlink_deserialize_eth_header;
 use powerlink::headers::powerlink_deserialize_pl_header;
-use powerlink::reading::powerlink_deserialize_frame;
+use powerlink::reading::powerlink_deserialize_frame_v2;
 use powerlink::status::powerlink_deserialize_entry;
 use powerlink::status::powerlink_deserialize_error_field;
 use powerlink::status::powerlink_deserialize_status;
 use powerlink::status::powerlink_entry_step;
+use services::ds301::DS301;
 use types::basic::EthernetHeader;
 use types::basic::MacAddress;
 
@@ -47,7 +48,7 @@ fn judge_field(s: &[u8], cause: u8, field: &[u8; 8]) -> Verdict {
 fn frame(s: &[u8]) -> Verdict {
     let mut octet = fill(s);
     let mut values = [many(s); 16];
-    let cause = powerlink_deserialize_frame(part(s, A), &mut values, &mut octet);
+    let cause = powerlink_deserialize_frame_v2(&DS301, part(s, A), &mut values, &mut octet);
     judge_16(s, cause, octet, &values)
 }
 

@@ -6,11 +6,12 @@ use crate::record::long;
 use crate::record::octet;
 use crate::record::part;
 use crate::record::word;
-use powerlink::sections::powerlink_serialize_asnd;
+use powerlink::sections::powerlink_serialize_asnd_v2;
 use powerlink::sections::powerlink_serialize_preq;
 use powerlink::sections::powerlink_serialize_pres;
 use powerlink::sections::powerlink_serialize_soa;
 use powerlink::sections::powerlink_serialize_soc;
+use services::ds301::DS301;
 
 pub fn write(n: u8, s: &[u8], target: &mut [u8], written: &mut usize, said: &mut u8) -> u8 {
     match n {
@@ -37,7 +38,8 @@ pub fn write(n: u8, s: &[u8], target: &mut [u8], written: &mut usize, said: &mut
             target,
             written,
         ),
-        12 => powerlink_serialize_asnd(
+        12 => powerlink_serialize_asnd_v2(
+            &DS301,
             octet(s, 0),
             octet(s, 1),
             octet(s, 2),

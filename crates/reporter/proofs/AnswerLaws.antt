@@ -14,6 +14,7 @@ use Rattle.types.specs.Header.{ethBytes}
 use Rattle.types.specs.declared.hal.PowerlinkError.{PowerlinkError}
 use Rattle.types.specs.declared.hal.PowerlinkError.the-variants.{BufferTooShort}
 use Rattle.section.specs.Write.{padded, Writes}
+use Rattle.section.proofs.Coded.{serializes}
 use Rattle.section.specs.declared.WriteAnswer.{WriteAnswer}
 use Rattle.section.specs.declared.WriteAnswer.the-variants.{Written, Refused}
 use Rattle.section.proofs.Behind.{refused, written}
@@ -30,6 +31,7 @@ use Rattle.reporter.specs.Calls.{AnswerSizes, Answers}
 use Rattle.reporter.specs.Layout.{headOf, carriedIn, firstFour, answerBytes}
 use Rattle.reporter.specs.Rules.{Head, batchLength, opened, statusFields, answerPayload, filledPayload, answerASnd, answerFront, answerFrame, afterAnswer}
 use Rattle.reporter.specs.declared.AnswerFields.{AnswerFields}
+use Rattle.reporter.proofs.AnyTable.{any-answer}
 use Rattle.reporter.proofs.Meaning.{carried-batch, answer-size}
 
 -- ---- zeros behind octets that were written
@@ -102,7 +104,14 @@ module _ (f : AnswerFields) (s : List ℕ) where
       let p : Writes (statusBytes (headBytes front (f .«static_error_bit_field»)) (take n four)) r t after = rw (le-leb n batchLength (e₃ .1)) at w in
       rw (payload-is front four n e₁ e₂ (e₃ .0)) at p
 
-  pub answers : AnswerSizes f → (r r′ : WriteAnswer) (after t written : List ℕ) → r ≡ r′ → Writes (answerFrame f (opened (headOf s))) r t written
-      → headOf after ≡ afterAnswer r′ (headOf s) → after ≡ answerBytes r′ s → Answers f r′ s after t written
-  answers sizes r r′ after t written er w h b =
-      record { writes = rw er at w; size = answer-size f (opened (headOf s)); sizes = sizes; head = h; bytes = b }
+  pub answers : (services : List ℕ) → AnswerSizes f → (r r′ : WriteAnswer) (after t written : List ℕ) → r ≡ r′
+      → Writes (answerFrame f (opened (headOf s))) r t written → headOf after ≡ afterAnswer r′ (headOf s) → after ≡ answerBytes r′ s
+      → Answers services f r′ s after t written
+  answers services sizes r r′ after t written er w h b =
+      record {
+        writes = rw (any-answer services f (opened (headOf s))) (serializes _ t r′ written (rw er at w));
+        size = answer-size f (opened (headOf s));
+        sizes = sizes;
+        head = h;
+        bytes = b;
+      }

@@ -87,8 +87,8 @@ module _ (ea : Bool) (s : List ℕ) where
       unfolding eaAnswer
       same-ea t = rw (batch-empty s, ne-eqb (openOf s) 0 (λ z. h (eo ∙ z)), en-is s, ← ee, not-false (Bool·beq en ea) t)
 
-module _ (frame s after : List ℕ) (r : ReadAnswer) (x : Heard) (ex : x ≡ eaTold (headOf s .id) frame) where
-  pub reads : r ≡ acknowledgeAnswer x (headOf s) → headOf after ≡ afterAcknowledge r (headOf s) → after ≡ acknowledgeBytes r s → Reads frame r s after
+module _ (services frame s after : List ℕ) (r : ReadAnswer) (x : Heard) (ex : x ≡ eaTold services (headOf s .id) frame) where
+  pub reads : r ≡ acknowledgeAnswer x (headOf s) → headOf after ≡ afterAcknowledge r (headOf s) → after ≡ acknowledgeBytes r s → Reads services frame r s after
   reads e h b =
-      let f : r ≡ acknowledgeAnswer (eaTold (headOf s .id) frame) (headOf s) = e ∙ ap (λ (y : Heard). acknowledgeAnswer y (headOf s)) ex in
-      record { answer = f; cause = ap (λ (x : ReadAnswer). readCause x .number) f ∙ read-row (headOf s .id) (readFrame frame) (headOf s); head = h; bytes = b }
+      let f : r ≡ acknowledgeAnswer (eaTold services (headOf s .id) frame) (headOf s) = e ∙ ap (λ (y : Heard). acknowledgeAnswer y (headOf s)) ex in
+      record { answer = f; cause = ap (λ (x : ReadAnswer). readCause x .number) f ∙ read-row (headOf s .id) (readFrame services frame) (headOf s); head = h; bytes = b }

@@ -1,5 +1,6 @@
 pub mod AnswerLaws
 pub mod Answering
+pub mod AnyTable
 pub mod Bounds
 pub mod CallLaws
 pub mod CausesTell

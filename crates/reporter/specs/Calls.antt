@@ -8,12 +8,12 @@ use mathlib.Core.Path.{_≡_}
 use mathlib.Core.List.{List}
 use lib.ListN.{length}
 use Rattle.types.specs.declared.NodeId.{NodeId}
-use Rattle.section.specs.Write.{Writes}
+use Rattle.section.specs.Write.{Serializes}
 use Rattle.section.specs.declared.WriteAnswer.{WriteAnswer}
 use Rattle.codec.specs.Frame.{readFrame, frameCause}
 use Rattle.error_entry.specs.declared.ErrorEntry.{ErrorEntry}
 use Rattle.reporter.specs.Layout.{headOf, newBytes, raiseBytes, answerBytes, acknowledgeBytes}
-use Rattle.reporter.specs.Rules.{freshHead, newAnswer, newCause, raiseAnswer, raiseCause, afterRaise, opened, answerFrame, answerLength, afterAnswer, eaAnswer, acknowledgeAnswer, readCause, afterAcknowledge, eaTold}
+use Rattle.reporter.specs.Rules.{freshHead, newAnswer, newCause, raiseAnswer, raiseCause, afterRaise, opened, answerFrame, answerWriting, answerLength, afterAnswer, eaAnswer, acknowledgeAnswer, readCause, afterAcknowledge, eaTold}
 use Rattle.reporter.specs.declared.AnswerFields.{AnswerFields}
 use Rattle.reporter.specs.declared.NewAnswer.{NewAnswer}
 use Rattle.reporter.specs.declared.NewAnswer.the-variants.{Made}
@@ -47,8 +47,8 @@ pub record Raises (e : ErrorEntry) (r : RaiseAnswer) (state after : List ℕ) : 
   pub head : headOf after ≡ afterRaise r e (headOf state)
   pub bytes : after ≡ raiseBytes r e state
 
-pub record Answers (f : AnswerFields) (r : WriteAnswer) (state after target written : List ℕ) : Type 0 where
-  pub writes : Writes (answerFrame f (opened (headOf state))) r target written
+pub record Answers (services : List ℕ) (f : AnswerFields) (r : WriteAnswer) (state after target written : List ℕ) : Type 0 where
+  pub writes : Serializes (answerWriting services f (opened (headOf state))) r target written
   pub size : length (answerFrame f (opened (headOf state))) ≡ answerLength (length (opened (headOf state) .batch))
   pub sizes : AnswerSizes f
   pub head : headOf after ≡ afterAnswer r (headOf state)
@@ -60,8 +60,8 @@ pub record Acknowledges (ea : Bool) (r : ReadAnswer) (state after : List ℕ) : 
   pub head : headOf after ≡ afterAcknowledge r (headOf state)
   pub bytes : after ≡ acknowledgeBytes r state
 
-pub record Reads (frame : List ℕ) (r : ReadAnswer) (state after : List ℕ) : Type 0 where
-  pub answer : r ≡ acknowledgeAnswer (eaTold (headOf state .id) frame) (headOf state)
-  pub cause : readCause r .number ≡ frameCause (readFrame frame) .number
+pub record Reads (services frame : List ℕ) (r : ReadAnswer) (state after : List ℕ) : Type 0 where
+  pub answer : r ≡ acknowledgeAnswer (eaTold services (headOf state .id) frame) (headOf state)
+  pub cause : readCause r .number ≡ frameCause (readFrame services frame) .number
   pub head : headOf after ≡ afterAcknowledge r (headOf state)
   pub bytes : after ≡ acknowledgeBytes r state

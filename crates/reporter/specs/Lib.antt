@@ -1,3 +1,4 @@
+pub mod AnyTable
 pub mod Bounds
 pub mod Calls
 pub mod CausesTell

@@ -10,13 +10,13 @@ use Rattle.types.specs.Causes.{Cause, row, causeOf}
 use Rattle.types.specs.Codes.{pick, need}
 use Rattle.types.specs.Header.{ethBytes}
 use Rattle.types.specs.Nodes.{isCnNodeId, managingNode, broadcastNode}
-use Rattle.types.specs.declared.service.ServiceId.the-variants as service
-use Rattle.section.specs.Write.{minFrame}
+use Rattle.services.specs.Ids.{statusResponse}
+use Rattle.section.specs.Write.{minFrame, Coded}
 use Rattle.section.specs.declared.WriteAnswer.{WriteAnswer}
 use Rattle.section.specs.declared.WriteAnswer.the-variants as write
 use Rattle.control.specs.ASnd.{newASnd, asndBytes, asndPayloadAt}
 use Rattle.control.specs.declared.asnd.NewASndFrame.{NewASndFrame}
-use Rattle.frame.specs.Write.{frameBytes}
+use Rattle.frame.specs.Write.{frameBytes, underTable}
 use Rattle.frame.specs.declared.PowerlinkFrame.{PowerlinkFrame}
 use Rattle.frame.specs.declared.PowerlinkFrame.the-variants.{Soc, PReq, PRes, SoA, ASnd}
 use Rattle.codec.specs.Frame.{readFrame}
@@ -126,11 +126,15 @@ unfoldable pub answerPayload : AnswerFields → Head → List ℕ
 answerPayload f h = statusBytes (headBytes (statusFields f (h .en)) (f .«static_error_bit_field»)) (h .batch)
 
 abbrev pub answerASnd : AnswerFields → ℕ → NewASndFrame
-answerASnd f i = newASnd (f .«source_mac») (f .«dest_mac») (record { 0 = broadcastNode }) (record { 0 = i }) service.StatusResponse
+answerASnd f i = newASnd (f .«source_mac») (f .«dest_mac») (record { 0 = broadcastNode }) (record { 0 = i }) (record { 0 = statusResponse })
 
 -- "an Ethernet frame from its ID to node 255, service 2"
 unfoldable pub answerFrame : AnswerFields → Head → List ℕ
 answerFrame f h = frameBytes (answerASnd f (h .id) .«eth_header») (ASnd (answerASnd f (h .id) .frame)) (answerPayload f h)
+
+-- "Every reader and writer of ASnd now takes the table" (02, CR 1); AnyTable.antt has that no table refuses it
+abbrev pub answerWriting : List ℕ → AnswerFields → Head → Coded
+answerWriting services f h = underTable services (ASnd (answerASnd f (h .id) .frame)) (answerFrame f h)
 
 -- its two parts: what stands in front of the payload, and the payload with the zeros up to the smallest frame
 
@@ -176,9 +180,9 @@ eaInAnswer i (frame.Refused e) = heard.Refused e
 eaInAnswer i (frame.Frame f) = eaInFrame i f
 
 -- what node i wants in the octets of a frame: the EA (exception acknowledge) that the managing node tells it, nothing, or why they
--- cannot be read
-abbrev pub eaTold : ℕ → List ℕ → Heard
-eaTold i f = eaInAnswer i (readFrame f)
+-- cannot be read, under a table
+abbrev pub eaTold : List ℕ → ℕ → List ℕ → Heard
+eaTold services i f = eaInAnswer i (readFrame services f)
 
 -- "If a batch is open and EA equals EN, it closes"
 unfoldable pub eaAnswer : Bool → Head → ReadAnswer

@@ -10,6 +10,7 @@ use crate::state::open;
 use codec::FrameAnswer;
 use codec::read_frame;
 use frame::PowerlinkFrame;
+use services::table::Services;
 use types::C_ADR_MN_DEF_NODE_ID;
 use types::hal::PowerlinkError;
 
@@ -47,10 +48,10 @@ fn hear_frame(id: u8, frame: PowerlinkFrame) -> Heard
 }
 
 // What octets tell node `id`.
-pub(crate) fn hear(id: u8, buffer: &[u8]) -> Heard
-    ensures { λ r. ⌜ r ≡ eaTold id (now (buffer .entry)) ⌝ }
+pub(crate) fn hear(services: &Services, id: u8, buffer: &[u8]) -> Heard
+    ensures { λ r. ⌜ r ≡ eaTold (now (services .entry)) id (now (buffer .entry)) ⌝ }
 {
-    match read_frame(buffer) {
+    match read_frame(services, buffer) {
         FrameAnswer::Refused(e) => Heard::Refused(e),
         FrameAnswer::Frame(frame) => hear_frame(id, frame),
     }

@@ -25,13 +25,14 @@ use octets::slices::put;
 use records::get;
 use section::MIN_FRAME;
 use section::WriteAnswer;
+use services::STATUS_RESPONSE;
+use services::ServiceId;
 use status_response::entries::serialize_batch;
 use status_response::fields::StatusFields;
 use types::C_ADR_BROADCAST_NODE_ID;
 use types::NodeId;
 use types::basic::ETH_LEN;
 use types::hal::PowerlinkError;
-use types::service::ServiceId;
 
 // The payload that fills the smallest frame.
 const PAYLOAD_MIN: usize = MIN_FRAME - PAYLOAD_AT;
@@ -138,7 +139,7 @@ fn put_front(state: &Reporter, fields: AnswerFields, target: &mut [u8])
         dest_mac,
         NodeId(C_ADR_BROADCAST_NODE_ID),
         NodeId(state[ID_AT]),
-        ServiceId::StatusResponse,
+        ServiceId(STATUS_RESPONSE),
     );
     let eth_header = asnd.eth_header;
     let frame = asnd.frame;

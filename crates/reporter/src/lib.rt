@@ -24,6 +24,7 @@ use error_entry::ErrorEntry;
 use records::ENTRY_LEN;
 use section::MIN_FRAME;
 use section::WriteAnswer;
+use services::table::Services;
 use state::has_room;
 use state::push;
 use state::raisable;
@@ -136,9 +137,15 @@ pub fn raise(state: &mut Reporter, entry: ErrorEntry) -> RaiseAnswer
 }
 
 // Writes a StatusResponse with the open batch. Where none is open and entries wait, the first four, or all if fewer,
-// become it, and EN flips; a refused answer leaves that undone.
-pub fn answer(state: &mut Reporter, fields: AnswerFields, target: &mut [u8]) -> WriteAnswer
-    ensures { λ r. ⌜ Answers fields r (now (state .entry)) (now (state .exit)) (now (target .entry)) (now (target .exit)) ⌝ }
+// become it, and EN flips; a refused answer leaves that undone. It takes the table as every writer of an ASnd does; since
+// every table holds its service, it does not have to look.
+pub fn answer(
+    state: &mut Reporter,
+    services: &Services,
+    fields: AnswerFields,
+    target: &mut [u8],
+) -> WriteAnswer
+    ensures { λ r. ⌜ Answers (now (services .entry)) fields r (now (state .entry)) (now (state .exit)) (now (target .entry)) (now (target .exit)) ⌝ }
 {
     match answer_frame(state, fields, target) {
         WriteAnswer::Written(n) => {
@@ -169,10 +176,10 @@ pub fn answer_len(state: &Reporter) -> usize
 }
 
 // Reads a frame: a PReq to this node or an SoA with it as target, from the managing node, gives EA.
-pub fn read(state: &mut Reporter, buffer: &[u8]) -> ReadAnswer
-    ensures { λ r. ⌜ Reads (now (buffer .entry)) r (now (state .entry)) (now (state .exit)) ⌝ }
+pub fn read(state: &mut Reporter, services: &Services, buffer: &[u8]) -> ReadAnswer
+    ensures { λ r. ⌜ Reads (now (services .entry)) (now (buffer .entry)) r (now (state .entry)) (now (state .exit)) ⌝ }
 {
-    match hear(state[ID_AT], buffer) {
+    match hear(services, state[ID_AT], buffer) {
         Heard::Refused(e) => ReadAnswer::Refused(e),
         Heard::Nothing => ReadAnswer::Ignored,
         Heard::Ea(ea) => acknowledge(state, ea),

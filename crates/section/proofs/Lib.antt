@@ -1,3 +1,4 @@
 pub mod Behind
 pub mod CausesTell
+pub mod Coded
 pub mod Sections

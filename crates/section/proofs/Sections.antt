@@ -7,10 +7,10 @@ use mathlib.Core.List.{List, [], _∷_, _++_, append-assoc, append-nil}
 use native.Mathlib.Nat.{zero-add, le-of-lt}
 use native.Mathlib.Numerals.{unary-clauses}
 use native.Mathlib.Omega.{arith}
-use lib.Dec.{ltb}
+use lib.Dec.{leb, ltb}
 use lib.ListN.{length, drop, replicate, length-append, length-replicate}
 use lib.Seq.{sets, length-sets, drop-drop, drop-append-le}
-use borrow.Author.Tests.{le-leb, lt-leb, ltb-true, ltb-false}
+use borrow.Author.Tests.{le-leb, lt-leb, leb-true, leb-false, ltb-true, ltb-false}
 use Rattle.octets.proofs.ReadBack.{drop-sets}
 use Rattle.octets.proofs.Sets.{sets-append, sets-front}
 use Rattle.types.specs.Codes.{pick}
@@ -78,6 +78,24 @@ padded-length h p = simp (length-append, length-replicate)
 pub behind-length : (f h p : List ℕ) → length (f ++ padded (h ++ p)) ≡ length f + (length h + length p + (minSection - (length h + length p)))
 unfolding padded
 behind-length f h p = filled-length minSection f h p
+
+-- what fits the rest of a target fits it behind what stands before
+pub fits-behind : (at n len : ℕ) → at ≤ len → leb n (len - at) ≡ leb (at + n) len
+fits-behind at n len h = split (leb n (len - at)) refl
+  where
+    split : (e : Bool) → leb n (len - at) ≡ e → e ≡ leb (at + n) len
+    split true q = sym (le-leb (at + n) len (omega (arith, leb-true n (len - at) q)))
+    split false q = sym (lt-leb (at + n) len (omega (arith, leb-false n (len - at) q)))
+
+module _ (f h p : List ℕ) (len : ℕ) where
+  abbrev needed : ℕ
+  needed = length f + (length h + length p + (minSection - (length h + length p)))
+
+  pub room : leb needed len ≡ true → length (f ++ padded (h ++ p)) ≤ len
+  room e = omega (arith, behind-length f h p, leb-true needed len e)
+
+  pub no-room : leb needed len ≡ false → len < length (f ++ padded (h ++ p))
+  no-room e = omega (arith, behind-length f h p, leb-false needed len e)
 
 module _ (bs t : List ℕ) where
   -- a target that is too short stays as it was

@@ -8,8 +8,9 @@ use lib.ListN.{length, drop, replicate}
 use lib.Dec.{leb}
 use Rattle.types.specs.Causes.{Cause, row, causeOf}
 use Rattle.types.specs.CauseNumbers.{tooShort}
-use Rattle.types.specs.Codes.{pick}
+use Rattle.types.specs.Codes.{pick, need}
 use Rattle.types.specs.Header.{ethLength}
+use Rattle.types.specs.declared.hal.PowerlinkError.{PowerlinkError}
 use Rattle.types.specs.declared.hal.PowerlinkError.the-variants.{BufferTooShort}
 use Rattle.section.specs.declared.WriteAnswer.{WriteAnswer}
 use Rattle.section.specs.declared.WriteAnswer.the-variants.{Written, Refused}
@@ -47,3 +48,34 @@ pub record Writes (bs : List ℕ) (r : WriteAnswer) (target after : List ℕ) : 
   pub answer : r ≡ writeAnswer bs target
   pub cause : writeCause r ≡ pick (leb (length bs) (length target)) (row 0 (length bs ∷ [])) (row tooShort [])
   pub holds : after ≡ overwritten bs target
+
+-- ---- codes that may name nothing
+
+-- the octets to write; or how many they would be, and why they are none
+pub data Coded : Type 0 where
+  octets : List ℕ → Coded
+  unnamed : ℕ → PowerlinkError → Coded
+
+-- a code that names nothing, where n octets would go into len: cause 1 is tested first, so a target that is too short is 1
+-- whatever the codes are
+abbrev pub unnamedAnswer : ℕ → PowerlinkError → ℕ → WriteAnswer
+unnamedAnswer n e len = need (leb n len) (Refused BufferTooShort) (Refused e)
+
+abbrev pub codedAnswer : Coded → List ℕ → WriteAnswer
+codedAnswer (octets bs) target = writeAnswer bs target
+codedAnswer (unnamed n e) target = unnamedAnswer n e (length target)
+
+abbrev pub codedTarget : Coded → List ℕ → List ℕ
+codedTarget (octets bs) target = overwritten bs target
+codedTarget (unnamed n e) target = target
+
+-- 01's row for what is answered
+abbrev pub codedRow : Coded → List ℕ → Cause
+codedRow (octets bs) target = pick (leb (length bs) (length target)) (row 0 (length bs ∷ [])) (row tooShort [])
+codedRow (unnamed n e) target = pick (leb n (length target)) (causeOf e) (row tooShort [])
+
+-- as `Writes`, of octets of which a code may name nothing
+pub record Serializes (w : Coded) (r : WriteAnswer) (target after : List ℕ) : Type 0 where
+  pub answer : r ≡ codedAnswer w target
+  pub cause : writeCause r ≡ codedRow w target
+  pub holds : after ≡ codedTarget w target

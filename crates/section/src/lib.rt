@@ -2,10 +2,10 @@
 // that Ethernet carries.
 ghost use mathlib.Core.Path.{_≡_};
 ghost use mathlib.Core.List.{_++_};
-ghost use lib.Dec.{ltb};
+ghost use lib.Dec.{leb, ltb};
 ghost use lib.ListN.{length, replicate};
 ghost use lib.Seq.{sets};
-ghost use Prim.Native.Nat.{_-_, _≤_};
+ghost use Prim.Native.Nat.{_+_, _-_, _≤_};
 ghost use Rattle.types.specs.Codes.{pick};
 ghost use Rattle.section.specs.Write.{minSection, padded, Writes};
 use octets::slices::put;
@@ -54,26 +54,32 @@ pub fn write_behind(front: &[u8], header: &[u8], payload: &[u8], target: &mut [u
     ensures { λ r. ⌜ Writes (now (front .entry) ++ padded (now (header .entry) ++ now (payload .entry))) r (now (target .entry)) (now (target .exit)) ⌝ }
 {
     let used = header.len() + payload.len();
-    let needed = used + padding_after(used);
     let at = front.len();
-    if target.len() < at {
-        return WriteAnswer::Refused(PowerlinkError::BufferTooShort);
-    }
-    if target.len() - at < needed {
+    if !fits(at, used, target.len()) {
         return WriteAnswer::Refused(PowerlinkError::BufferTooShort);
     }
     put_behind(front, header, payload, target);
-    WriteAnswer::Written(at + needed)
+    WriteAnswer::Written(at + padded_len(used))
 }
 
-// How many zeros follow `used` octets of a section.
-fn padding_after(used: usize) -> usize
-    ensures { λ r. ⌜ r ≡ minSection - used ⌝ }
+// Whether a section of `used` octets and the zeros after them fits `len` octets behind the first `at`.
+pub fn fits(at: usize, used: usize, len: usize) -> bool
+    ensures { λ r. ⌜ r ≡ leb (at + (used + (minSection - used))) len ⌝ }
+{
+    if len < at {
+        return false;
+    }
+    padded_len(used) <= len - at
+}
+
+// How many octets a section has of which `used` are not padding.
+fn padded_len(used: usize) -> usize
+    ensures { λ r. ⌜ r ≡ used + (minSection - used) ⌝ }
 {
     if used < MIN_SECTION {
-        MIN_SECTION - used
+        MIN_SECTION
     } else {
-        0
+        used
     }
 }
 

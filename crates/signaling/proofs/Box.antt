@@ -10,14 +10,13 @@ use lib.ListN.{length, getElem?, length-append}
 use lib.Dec.{leb}
 use borrow.Author.Tests.{le-leb}
 use Rattle.error_entry.specs.declared.ErrorEntry.{ErrorEntry}
-use Rattle.reporter.specs.Rules.{Head, eaTold}
-use Rattle.reporter.specs.declared.acknowledge.Heard.the-variants as heard
+use Rattle.reporter.specs.Rules.{Head}
 use Rattle.collector.specs.declared.ReadAnswer.the-variants as box
 use Rattle.collector.specs.declared.TakeAnswer.the-variants as taking
 use Rattle.signaling.specs.Calls.{sent, boxRead, Tally, onEntries, onAnswers, onRequests, sends, gives, hands, adds}
 use Rattle.collector.specs.Rules.{bookLength}
 use Rattle.signaling.proofs.Facts.{beq-same, beq-not, at-lt, join-book}
-use Rattle.signaling.proofs.Invariant.{enSaid, batchSaid, Inv}
+use Rattle.signaling.proofs.Invariant.{Carries, enSaid, batchSaid, Inv}
 use Rattle.signaling.proofs.Transit.{answers-later, answers-fresh, answers-booked, requests-send, requests-booked}
 
 module _ {i : ℕ} {ea : Bool} {book : List ErrorEntry} {c : Tally} (t : Inv i ea book c) where
@@ -44,9 +43,9 @@ module _ {i : ℕ} {ea : Bool} {book : List ErrorEntry} {c : Tally} (t : Inv i e
           room = t .room;
         }
 
-    pub box-books : enSaid bs ≡ not ea → length book + length (batchSaid bs) ≤ bookLength
-        → Inv i (enSaid bs) (book ++ batchSaid bs) (adds i (boxRead (sent p) bs box.Booked) c)
-    box-books fresh room =
+    pub box-books : (services : List ℕ) → enSaid bs ≡ not ea → length book + length (batchSaid bs) ≤ bookLength
+        → Inv i (enSaid bs) (book ++ batchSaid bs) (adds i (boxRead services (sent p) bs box.Booked) c)
+    box-books services fresh room =
         let (differ, past, bit, same-batch, open?) = answers-fresh (t .answers) (t .idle) p bs le at fresh in
         let en = h .en in
         let was : c .ruled .isBooked ≡ false = t .since ∙ ap (λ (b : Bool). Bool·beq b en) differ ∙ beq-not en in
@@ -67,7 +66,7 @@ module _ {i : ℕ} {ea : Bool} {book : List ErrorEntry} {c : Tally} (t : Inv i e
 
   -- ---- request and Take
 
-  pub request-sends : (bs : List ℕ) → ((x : Bool) → eaTold i bs ≡ heard.Ea x → x ≡ ea) → Inv i ea book (onRequests (sends (λ fs. fs ++ (bs ∷ []))) c)
+  pub request-sends : (bs : List ℕ) → Carries i ea bs → Inv i ea book (onRequests (sends (λ fs. fs ++ (bs ∷ []))) c)
   request-sends bs says =
       record {
         id = t .id;

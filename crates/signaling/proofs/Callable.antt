@@ -10,7 +10,7 @@ use Rattle.octets.proofs.NumberBack.{Octets}
 use Rattle.types.specs.Causes.{row}
 use Rattle.types.specs.Codes.{pick}
 use Rattle.types.specs.declared.hal.PowerlinkError.the-variants.{BufferTooShort}
-use Rattle.section.specs.Write.{writeAnswer, overwritten, writeCause, Writes}
+use Rattle.section.specs.Write.{writeAnswer, overwritten, writeCause, octets, Serializes}
 use Rattle.section.specs.declared.WriteAnswer.{WriteAnswer}
 use Rattle.section.specs.declared.WriteAnswer.the-variants as write
 use Rattle.codec.specs.Frame.{readFrame}
@@ -21,6 +21,7 @@ use Rattle.reporter.specs.Layout.{reporterLength, headOf, newBytes, raiseBytes,
 use Rattle.reporter.specs.Rules.{newAnswer, newCause, raiseAnswer, opened, answerFrame, afterAnswer, acknowledgeAnswer, eaTold}
 use Rattle.reporter.specs.declared.AnswerFields.{AnswerFields}
 use Rattle.reporter.specs.declared.NewAnswer.the-variants.{Made}
+use Rattle.reporter.proofs.AnyTable.{any-table}
 use Rattle.reporter.proofs.Meaning.{answer-size, made, new-length, raises-length, raises-means, opens-length, opens-means, reads-length, reads-means}
 use Rattle.reporter.proofs.Rows.{read-row as head-row}
 use Rattle.collector.specs.Calls as collector
@@ -54,7 +55,7 @@ by-test : (b : Bool) (n : ℕ) → writeCause (pick b (write.Written n) (write.R
 by-test true n = refl
 by-test false n = refl
 
-writes : (bs target : List ℕ) → Writes bs (writeAnswer bs target) target (overwritten bs target)
+writes : (bs target : List ℕ) → Serializes (octets bs) (writeAnswer bs target) target (overwritten bs target)
 unfolding writeAnswer
 writes bs target = record { answer = refl; cause = by-test (leb (length bs) (length target)) (length bs); holds = refl }
 
@@ -67,16 +68,16 @@ module _ (s : List ℕ) (size : length s ≡ reporterLength) where
   answer-means (write.Written n) = opens-means s size
   answer-means (write.Refused e) = refl
 
-pub answers : (s : List ℕ) (f : AnswerFields) → AnswerSizes f → (target : List ℕ) → length s ≡ reporterLength
-    → reporter.Answers f (writeAnswer (answerFrame f (opened (headOf s))) target) s
+pub answers : (services s : List ℕ) (f : AnswerFields) → AnswerSizes f → (target : List ℕ) → length s ≡ reporterLength
+    → reporter.Answers services f (writeAnswer (answerFrame f (opened (headOf s))) target) s
     (answerBytes (writeAnswer (answerFrame f (opened (headOf s))) target) s)
     target
     (overwritten (answerFrame f (opened (headOf s))) target)
     × (length (answerBytes (writeAnswer (answerFrame f (opened (headOf s))) target) s) ≡ reporterLength)
-answers s f sizes target size =
+answers services s f sizes target size =
     let r = writeAnswer (answerFrame f (opened (headOf s))) target in (
       record {
-        writes = writes (answerFrame f (opened (headOf s))) target;
+        writes = rw (any-table .answer services f (opened (headOf s))) (writes (answerFrame f (opened (headOf s))) target);
         size = answer-size f (opened (headOf s));
         sizes = sizes;
         head = answer-means s size r;
@@ -85,13 +86,13 @@ answers s f sizes target size =
       answer-length s size r,
     )
 
-pub hears : (s bs : List ℕ) → length s ≡ reporterLength
-    → reporter.Reads bs (acknowledgeAnswer (eaTold (headOf s .id) bs) (headOf s)) s
-    (acknowledgeBytes (acknowledgeAnswer (eaTold (headOf s .id) bs) (headOf s)) s)
-    × (length (acknowledgeBytes (acknowledgeAnswer (eaTold (headOf s .id) bs) (headOf s)) s) ≡ reporterLength)
-hears s bs size =
-    let r = acknowledgeAnswer (eaTold (headOf s .id) bs) (headOf s) in
-    (record { answer = refl; cause = head-row (headOf s .id) (readFrame bs) (headOf s); head = reads-means s size r; bytes = refl }, reads-length s r ∙ size)
+pub hears : (services s bs : List ℕ) → length s ≡ reporterLength
+    → reporter.Reads services bs (acknowledgeAnswer (eaTold services (headOf s .id) bs) (headOf s)) s
+    (acknowledgeBytes (acknowledgeAnswer (eaTold services (headOf s .id) bs) (headOf s)) s)
+    × (length (acknowledgeBytes (acknowledgeAnswer (eaTold services (headOf s .id) bs) (headOf s)) s) ≡ reporterLength)
+hears services s bs size =
+    let r = acknowledgeAnswer (eaTold services (headOf s .id) bs) (headOf s) in
+    (record { answer = refl; cause = head-row (headOf s .id) (readFrame services bs) (headOf s); head = reads-means s size r; bytes = refl }, reads-length s r ∙ size)
 
 -- ---- the box's calls
 
@@ -105,11 +106,13 @@ registers s i size =
     (record { answer = refl; cause = refl; box = register-means s size i; bytes = refl }, register-length (registerAnswer i (boxOf s)) i s ∙ size)
 
 -- the frame's octets are asked to be octets, since its entries are kept as octets
-pub books : (s bs : List ℕ) → length s ≡ collectorLength → Octets bs
-    → collector.Reads bs (readAnswer bs (boxOf s)) s (layout.responseBytes (readAnswer bs (boxOf s)) bs s)
-    × (length (layout.responseBytes (readAnswer bs (boxOf s)) bs s) ≡ collectorLength)
-books s bs size octets =
-    (record { answer = refl; cause = refl; box = read-means s size bs octets; bytes = refl }, read-length (readAnswer bs (boxOf s)) bs s ∙ size)
+pub books : (services s bs : List ℕ) → length s ≡ collectorLength → Octets bs
+    → collector.Reads services bs (readAnswer services bs (boxOf s)) s (layout.responseBytes services (readAnswer services bs (boxOf s)) bs s)
+    × (length (layout.responseBytes services (readAnswer services bs (boxOf s)) bs s) ≡ collectorLength)
+books services s bs size each = (
+  record { answer = refl; cause = refl; box = read-means s size services bs each; bytes = refl },
+  read-length services (readAnswer services bs (boxOf s)) bs s ∙ size,
+)
 
 pub asks : (s : List ℕ) (i : ℕ) (f : RequestFields) → length (f .«source_mac» .0) ≡ 6 → (target : List ℕ)
     → collector.Requests (node i) f (requestAnswer i f target (accountOf s i)) s target (afterRequest i f target (accountOf s i))

@@ -12,8 +12,8 @@ use borrow.Author.Tests.{leb-true, eqb-true, eqb-false, eq-eqb, ne-eqb}
 use Rattle.types.specs.Codes.{pick, need}
 use Rattle.types.specs.declared.NodeId.{NodeId}
 use Rattle.types.specs.declared.hal.PowerlinkError.the-variants.{BufferTooShort}
-use Rattle.types.specs.declared.service.ServiceId.{ServiceId}
-use Rattle.types.specs.declared.service.ServiceId.the-variants as service
+use Rattle.services.specs.Ids.{statusResponse}
+use Rattle.services.specs.declared.ServiceId.{ServiceId}
 use Rattle.section.specs.Write.{writeAnswer, overwritten}
 use Rattle.section.specs.declared.WriteAnswer.{WriteAnswer}
 use Rattle.section.specs.declared.WriteAnswer.the-variants as write
@@ -96,15 +96,15 @@ requested-frame j f (some p) target n e =
     }
 
 -- a request for j is heard by j alone
-module _ (i j : ℕ) (f : RequestFields) (ea : Bool) (six : length (f .«source_mac» .0) ≡ 6) where
-  heard-as : eaTold i (requestFrame j f ea) ≡ need (eqb j i) heard.Nothing (heard.Ea ea)
+module _ (services : List ℕ) (i j : ℕ) (f : RequestFields) (ea : Bool) (six : length (f .«source_mac» .0) ≡ 6) where
+  heard-as : eaTold services i (requestFrame j f ea) ≡ need (eqb j i) heard.Nothing (heard.Ea ea)
   unfolding eaFor
-  heard-as = rw (request-reads j f ea six)
+  heard-as = rw (request-reads services j f ea six)
 
-  pub request-here : j ≡ i → eaTold i (requestFrame j f ea) ≡ heard.Ea ea
+  pub request-here : j ≡ i → eaTold services i (requestFrame j f ea) ≡ heard.Ea ea
   request-here e = heard-as ∙ rw (eq-eqb j i e)
 
-  pub request-else : (j ≡ i → ⊥) → eaTold i (requestFrame j f ea) ≡ heard.Nothing
+  pub request-else : (j ≡ i → ⊥) → eaTold services i (requestFrame j f ea) ≡ heard.Nothing
   request-else ne = heard-as ∙ rw (ne-eqb j i ne)
 
 -- ---- the box reads
@@ -139,18 +139,8 @@ why-booked said (some p) e =
 module _ (i : ℕ) (said : Said) (b : Box) where
   service-elsewhere : (s : ServiceId) (source : NodeId) → (source .0 ≡ i → ⊥)
       → afterBooking (responseOfService s source) said b .accounts i ≡ b .accounts i
-  service-elsewhere service.IdentResponse source ne = refl
-  service-elsewhere service.StatusResponse source ne = rw (ne-eqb i (source .0) (λ e. ne (sym e)))
-  service-elsewhere service.NmtRequest source ne = refl
-  service-elsewhere service.NmtCommand source ne = refl
-  service-elsewhere service.Sdo source ne = refl
-  service-elsewhere service.NMTPublishTime source ne = refl
-  service-elsewhere service.NMTPublishNMTState source ne = refl
-  service-elsewhere service.NMTPublishNodeState source ne = refl
-  service-elsewhere service.NMTPublishNodeList source ne = refl
-  service-elsewhere service.NMTPublishEmergNew source ne = refl
-  service-elsewhere service.NMTPublishHeartbeat source ne = refl
-  service-elsewhere service.NMTPublishActiveNodes source ne = refl
+  service-elsewhere s source ne =
+      either (eqb (s .0) statusResponse) (λ is. rw (is, ne-eqb i (source .0) (λ e. ne (sym e)))) (λ other. rw other)
 
   frame-elsewhere : (f : PowerlinkFrame) → (sourceOf f ≡ i → ⊥) → afterBooking (responseInFrame f) said b .accounts i ≡ b .accounts i
   frame-elsewhere (Soc f) ne = refl
@@ -164,19 +154,19 @@ module _ (i : ℕ) (said : Said) (b : Box) where
   booking-elsewhere (frame.Frame f) ne = frame-elsewhere f ne
 
 -- what is not from node i leaves its place
-pub read-elsewhere : (i : ℕ) (bs : List ℕ) (b : Box) (r : ReadAnswer) → NotFrom i (readFrame bs)
-    → afterResponse r bs b .accounts i ≡ b .accounts i
-read-elsewhere i bs b box.Booked ne = booking-elsewhere i (statusIn bs) b (readFrame bs) ne
-read-elsewhere i bs b box.Known ne = refl
-read-elsewhere i bs b (box.Refused e) ne = refl
-read-elsewhere i bs b box.NotStatusResponse ne = refl
-read-elsewhere i bs b box.NotRegistered ne = refl
-read-elsewhere i bs b box.BookFull ne = refl
+pub read-elsewhere : (services : List ℕ) (i : ℕ) (bs : List ℕ) (b : Box) (r : ReadAnswer) → NotFrom i (readFrame services bs)
+    → afterResponse services r bs b .accounts i ≡ b .accounts i
+read-elsewhere services i bs b box.Booked ne = booking-elsewhere i (statusIn bs) b (readFrame services bs) ne
+read-elsewhere services i bs b box.Known ne = refl
+read-elsewhere services i bs b (box.Refused e) ne = refl
+read-elsewhere services i bs b box.NotStatusResponse ne = refl
+read-elsewhere services i bs b box.NotRegistered ne = refl
+read-elsewhere services i bs b box.BookFull ne = refl
 
 -- an answer of node i that is booked
-pub read-here : (i : ℕ) (bs : List ℕ) (b : Box) → responseIn bs ≡ boxHears.Status (node i)
-    → afterResponse box.Booked bs b .accounts i ≡ some (bookedAccount (statusIn bs) (b .accounts i))
-read-here i bs b me = rw (me, eq-eqb i i refl)
+pub read-here : (services : List ℕ) (i : ℕ) (bs : List ℕ) (b : Box) → responseIn services bs ≡ boxHears.Status (node i)
+    → afterResponse services box.Booked bs b .accounts i ≡ some (bookedAccount (statusIn bs) (b .accounts i))
+read-here services i bs b me = rw (me, eq-eqb i i refl)
 
 -- ---- registering and Take
 

@@ -19,10 +19,10 @@ use Rattle.signaling.proofs.Invariant.{bookOf}
 
 step-size : {i : ℕ} {w v : World} {x : Event} → Step i w x v → length (v .box) ≡ length (w .box)
 step-size (raise e r after c) = refl
-step-size (answer f r after target written c) = refl
-step-size (headReads o bs r after d c) = refl
+step-size (answer services f r after target written c) = refl
+step-size (headReads services o bs r after d c) = refl
 step-size {w} (register j r after c) = ap length (c .bytes) ∙ register-length r j (w .box)
-step-size {w} (boxReads o bs r after d c) = ap length (c .bytes) ∙ read-length r bs (w .box)
+step-size {w} (boxReads services o bs r after d c) = ap length (c .bytes) ∙ read-length services r bs (w .box)
 step-size (request j f r target written c) = refl
 step-size {w} (takes j r after c) = ap length (c .bytes) ∙ take-length r j (w .box)
 step-size (hosts bs told) = refl

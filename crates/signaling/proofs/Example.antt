@@ -9,6 +9,8 @@ use native.Mathlib.Omega.{arith}
 use lib.ListN.{length, take, drop}
 use Rattle.types.specs.declared.error_mode.ErrorEntryMode.{ErrorEntryMode}
 use Rattle.types.specs.declared.error_mode.ErrorEntryMode.the-variants.{Terminator, ErrorActive, ErrorCleared, EventOccurred}
+use Rattle.types.specs.declared.hal.PowerlinkError.the-variants.{InvalidServiceId}
+use Rattle.services.specs.Table.{ds301}
 use Rattle.section.specs.declared.WriteAnswer.the-variants as write
 use Rattle.error_entry.specs.declared.ErrorEntry.{ErrorEntry}
 use Rattle.reporter.specs.Rules.{Head, freshHead, isRaisable, raiseAnswer, afterRaise, opened, answerFrame, eaAnswer}
@@ -16,16 +18,16 @@ use Rattle.reporter.specs.declared.RaiseAnswer.{RaiseAnswer}
 use Rattle.reporter.specs.declared.RaiseAnswer.the-variants.{Raised, EntryInvalid}
 use Rattle.reporter.specs.declared.ReadAnswer.the-variants.{Closed, Kept, Ignored}
 use Rattle.collector.specs.Layout.{boxOf, freshBytes}
-use Rattle.collector.specs.Rules.{Account, freshAccount, registerAnswer, bookAnswer, requestFrame}
+use Rattle.collector.specs.Rules.{Account, freshAccount, registerAnswer, bookAnswer, readAnswer, requestFrame}
 use Rattle.collector.specs.declared.ReadAnswer.the-variants as box
 use Rattle.collector.specs.declared.RegisterAnswer.the-variants.{Registered}
 use Rattle.collector.specs.declared.RequestAnswer.the-variants as requesting
 use Rattle.collector.specs.declared.TakeAnswer.the-variants as taking
 use Rattle.signaling.specs.Calls.{sent, foreign, Event, raised, answered, headRead, registered, boxRead, requested, taken, hosted, Log, World, Run, fresh, call}
-use Rattle.signaling.specs.Example.{entry, five, LossAndRepeat, Onward, here, further}
+use Rattle.signaling.specs.Example.{entry, five, house, LossAndRepeat, Onward, here, further}
 use Rattle.signaling.proofs.Callable.{freshes}
 use Rattle.signaling.proofs.Draining.{draining}
-use Rattle.signaling.proofs.ExampleFrames.{numbers, fields, sizes, asked, fifth, first, second, answer-octets, first-says, second-says, hears-ea, presFrame, pres-far, pres-other, pres-ignored, preqFrame, hears-host, hears-not, first-length, second-length, request-length}
+use Rattle.signaling.proofs.ExampleFrames.{numbers, fields, sizes, asked, fifth, first, second, answer-octets, first-says, second-says, hears-ea, presFrame, pres-far, pres-other, pres-ignored, houseFrame, house-far, house-other, house-refused, preqFrame, hears-host, hears-not, first-length, second-length, request-length}
 use Rattle.signaling.proofs.Making.{world, Knows, Next, Started, held, sent-whole, starting, raising, answering, hearing, knowing, booking, passing, registering, asking, handing, hosting}
 
 -- ---- what the head becomes, and the list of calls
@@ -64,26 +66,28 @@ answered-twice = answerOf first ∷ answerOf first ∷ all-raised
 
 abbrev pub twice-read : Log
 twice-read =
-    boxRead (sent 1) (answerFrame fields first) box.Known ∷ boxRead (sent 1) (answerFrame fields first) box.Booked
-    ∷ boxRead foreign presFrame box.NotStatusResponse
+    boxRead ds301 (sent 1) (answerFrame fields first) box.Known ∷ boxRead house (sent 1) (answerFrame fields first) box.Booked
+    ∷ boxRead ds301 foreign houseFrame (box.Refused (InvalidServiceId 0x20))
+    ∷ boxRead house foreign houseFrame box.NotStatusResponse
+    ∷ boxRead ds301 foreign presFrame box.NotStatusResponse
     ∷ answered-twice
 
 -- the first request is lost
 abbrev asked-twice : Log
 asked-twice =
-    requestOf 7 true ∷ requestOf 7 true ∷ headRead foreign presFrame Ignored ∷ headRead (sent 0) (requestFrame 9 asked false) Ignored
+    requestOf 7 true ∷ requestOf 7 true ∷ headRead ds301 foreign presFrame Ignored ∷ headRead house (sent 0) (requestFrame 9 asked false) Ignored
     ∷ twice-read
 
 abbrev pub first-closed : Log
 first-closed =
-    headRead (sent 2) (requestFrame 7 asked true) Kept ∷ headRead (sent 2) (requestFrame 7 asked true) Closed ∷ asked-twice
+    headRead house (sent 2) (requestFrame 7 asked true) Kept ∷ headRead ds301 (sent 2) (requestFrame 7 asked true) Closed ∷ asked-twice
 
 abbrev all-booked : Log
-all-booked = boxRead (sent 2) (answerFrame fields second) box.Booked ∷ answerOf second ∷ first-closed
+all-booked = boxRead ds301 (sent 2) (answerFrame fields second) box.Booked ∷ answerOf second ∷ first-closed
 
 -- a frame of the box's host closes the batch
 abbrev all-closed : Log
-all-closed = headRead (sent 3) (preqFrame false) Closed ∷ hosted (preqFrame false) ∷ all-booked
+all-closed = headRead house (sent 3) (preqFrame false) Closed ∷ hosted (preqFrame false) ∷ all-booked
 
 abbrev one-taken : Log
 one-taken = taken 7 (taking.Taken (entry ErrorActive 0x8161)) ∷ all-closed
@@ -133,20 +137,25 @@ module _ {v : World} where
   answer-twice : Reached v all-raised (waits five) freshAccount → Reached v answered-twice first freshAccount
   unfolding opened
   answer-twice r =
-      next (next r (λ s b k. answering k fields sizes (omega arith)))
-      (λ s b k. answering k fields sizes (omega arith))
+      next (next r (λ s b k. answering k ds301 fields sizes (omega arith)))
+      (λ s b k. answering k house fields sizes (omega arith))
 
   pub read-twice : Reached v answered-twice first freshAccount → Reached v twice-read first (place true (take 4 five))
-  unfolding bookAnswer
+  unfolding bookAnswer readAnswer
   read-twice r =
       next
-      (next (next r (λ s b k. passing k foreign presFrame (pres-far .0) pres-other))
+      (next
+      (next
+      (next
+      (next r (λ s b k. passing k ds301 foreign presFrame box.NotStatusResponse (pres-far ds301 .0) (rw (pres-other ds301)) (λ A x y. refl)))
+      (λ s b k. passing k house foreign houseFrame box.NotStatusResponse (house-far house) (rw house-other) (λ A x y. refl)))
+      (λ s b k. passing k ds301 foreign houseFrame (box.Refused (InvalidServiceId 0x20)) (house-far ds301) (rw house-refused) (λ A x y. refl)))
       (λ s b k.
-      booking k (answerFrame fields first) first first-says refl 1
+      booking k (answerFrame fields first) first first-says refl house 1
       (omega arith, ap some (sent-whole (answerFrame fields first))) (answer-octets .0) refl))
       (λ s b k.
-      knowing k (answerFrame fields first) first first-says refl 1
-      (omega arith, ap some (sent-whole (answerFrame fields first))) (answer-octets .0) refl)
+      knowing k (answerFrame fields first) first first-says refl ds301 1
+      (omega arith, ap some (sent-whole (answerFrame fields first))) refl)
 
   ask-twice : Reached v twice-read first (place true (take 4 five)) → Reached v asked-twice first (place true (take 4 five))
   unfolding asked
@@ -156,9 +165,9 @@ module _ {v : World} where
       (next
       (next r
       (λ s b k.
-      hearing k (sent 0) (requestFrame 9 asked false) Ignored (omega arith, ap some (sent-whole (requestFrame 9 asked false))) refl
-      (rw (hears-not false))))
-      (λ s b k. hearing k foreign presFrame Ignored (pres-far .1) refl (rw pres-ignored)))
+      hearing k house (sent 0) (requestFrame 9 asked false) Ignored (omega arith, ap some (sent-whole (requestFrame 9 asked false))) refl
+      (rw (hears-not house false))))
+      (λ s b k. hearing k ds301 foreign presFrame Ignored (pres-far ds301 .1) refl (rw (pres-ignored ds301))))
       (λ s b k. asking k 7 _ (k .place) asked refl))
       (λ s b k. asking k 7 _ (k .place) asked refl)
 
@@ -168,29 +177,29 @@ module _ {v : World} where
       next
       (next (ask-twice r)
       (λ s b k.
-      hearing k (sent 2) (requestFrame 7 asked true) Closed (omega arith, ap some (sent-whole (requestFrame 7 asked true))) refl
-      (rw (hears-ea true))))
+      hearing k ds301 (sent 2) (requestFrame 7 asked true) Closed (omega arith, ap some (sent-whole (requestFrame 7 asked true))) refl
+      (rw (hears-ea ds301 true))))
       (λ s b k.
-      hearing k (sent 2) (requestFrame 7 asked true) Kept (omega arith, ap some (sent-whole (requestFrame 7 asked true))) refl
-      (rw (hears-ea true)))
+      hearing k house (sent 2) (requestFrame 7 asked true) Kept (omega arith, ap some (sent-whole (requestFrame 7 asked true))) refl
+      (rw (hears-ea house true)))
 
   pub answer-second : {p : Account} → Reached v first-closed between p → Reached v (answerOf second ∷ first-closed) second p
   unfolding opened
-  answer-second r = next r (λ s b k. answering k fields sizes (omega arith))
+  answer-second r = next r (λ s b k. answering k ds301 fields sizes (omega arith))
 
   book-second : Reached v (answerOf second ∷ first-closed) second (place true (take 4 five)) → Reached v all-booked second (place false five)
   unfolding bookAnswer
   book-second r =
       next r
       (λ s b k.
-      booking k (answerFrame fields second) second second-says refl 2
+      booking k (answerFrame fields second) second second-says refl ds301 2
       (omega arith, ap some (sent-whole (answerFrame fields second))) (answer-octets .1) refl)
 
   close-second : Reached v all-booked second (place false five) → Reached v all-closed (waits []) (place false five)
   unfolding eaAnswer
   close-second r =
-      next (next r (λ s b k. hosting k (preqFrame false) (hears-host false)))
-      (λ s b k. hearing k (sent 3) (preqFrame false) Closed (omega arith, refl) refl (rw (hears-host false)))
+      next (next r (λ s b k. hosting k (preqFrame false) (λ services. hears-host services false)))
+      (λ s b k. hearing k house (sent 3) (preqFrame false) Closed (omega arith, refl) refl (rw (hears-host house false)))
 
   take-one : Reached v all-closed (waits []) (place false five) → Reached v one-taken (waits []) (place false (drop 1 five))
   take-one r = next r (λ s b k. handing k (entry ErrorActive 0x8161) (drop 1 five) refl)
@@ -236,6 +245,9 @@ loss-and-repeat =
       w = reachedWorld r;
       run = runs original (r .onward);
       made = rw (first-length, second-length, request-length 7 true, request-length 9 false);
+      asnd = houseFrame;
+      held = refl;
+      unheld = refl;
       entries = refl;
       handed = refl;
       place = r .knows .place;

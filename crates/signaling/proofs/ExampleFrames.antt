@@ -10,27 +10,36 @@ use lib.Dec.{ltb}
 use borrow.Author.Tests.{ltb-true}
 use Rattle.octets.proofs.NumberBack.{Octets}
 use Rattle.types.specs.Addresses.{multicastASnd}
+use Rattle.types.specs.Codes.{need}
 use Rattle.types.specs.Header.{ethBytes}
+use Rattle.types.specs.Messages.{messageOf}
 use Rattle.types.specs.PollFlags.{pollOctet}
 use Rattle.types.specs.declared.error_mode.ErrorEntryMode.{ErrorEntryMode}
 use Rattle.types.specs.declared.error_mode.ErrorEntryMode.the-variants.{ErrorCleared}
+use Rattle.types.specs.declared.hal.PowerlinkError.the-variants.{InvalidServiceId}
 use Rattle.types.specs.declared.poll_flags.PRFlag.the-variants.{Low1}
 use Rattle.types.specs.declared.states.NmtState.the-variants.{NmtOperational}
+use Rattle.services.specs.Ids.{isListed}
+use Rattle.services.specs.Table.{holds, ds301}
+use Rattle.services.proofs.Tables.{table-holds, tables-hold}
 use Rattle.section.specs.Write.{padded}
-use Rattle.control.specs.ASnd.{asndSection}
+use Rattle.control.specs.ASnd.{newASnd, asndSection}
+use Rattle.control.specs.declared.asnd.NewASndFrame.{NewASndFrame}
 use Rattle.poll.specs.PReq.{newPReq}
 use Rattle.poll.specs.PRes.{newPRes}
 use Rattle.poll.specs.declared.preq.NewPReqFrame.{NewPReqFrame}
 use Rattle.poll.specs.declared.pres.NewPResFrame.{NewPResFrame}
 use Rattle.frame.specs.Write.{frameBytes}
-use Rattle.frame.specs.declared.PowerlinkFrame.the-variants.{PReq, PRes}
-use Rattle.codec.specs.Frame.{readFrame, deserializeFrame}
+use Rattle.frame.specs.declared.PowerlinkFrame.the-variants.{PReq, PRes, ASnd}
+use Rattle.codec.specs.ASnd.{readASnd}
+use Rattle.codec.specs.Frame.{kindIn, readSection, readFrame, deserializeFrame}
 use Rattle.codec.specs.declared.FrameAnswer.the-variants as frame
 use Rattle.error_entry.specs.Entry.{typeNumber, entryBytes}
 use Rattle.error_entry.specs.declared.ErrorEntry.{ErrorEntry}
 use Rattle.status_response.specs.BitField.{fieldBytes}
 use Rattle.status_response.specs.Fields.{headBytes}
 use Rattle.status_response.specs.Steps.{statusBytes}
+use Rattle.frame_laws.proofs.HeaderBack.{section-back}
 use Rattle.frame_laws.proofs.ReadBack.{frames-read-back}
 use Rattle.reporter.specs.Calls.{Numbers, AnswerSizes}
 use Rattle.reporter.specs.Rules.{Head, freshHead, isRaisable, answerPayload, answerFrame, eaFor, eaTold}
@@ -42,10 +51,10 @@ use Rattle.collector.specs.declared.RequestFields.{RequestFields}
 use Rattle.collector.specs.declared.reading.Heard.the-variants as boxHears
 use Rattle.collector.proofs.Meaning.{request-size}
 use Rattle.signaling.specs.Calls.{NotFrom, node}
-use Rattle.signaling.specs.Example.{entry, five, madeStatus}
-use Rattle.signaling.proofs.Calls.{request-else}
-use Rattle.signaling.proofs.Facts.{both}
-use Rattle.signaling.proofs.Frames.{Says, is-status, answer-reads, request-reads}
+use Rattle.signaling.specs.Example.{entry, five, house, madeStatus}
+use Rattle.signaling.proofs.Calls.{request-here, request-else}
+use Rattle.signaling.proofs.Facts.{either, both}
+use Rattle.signaling.proofs.Frames.{Says, is-status, answer-reads}
 
 -- ---- the entries, and what the calls are given
 
@@ -126,14 +135,14 @@ pub made-other : madeStatus fields ≡ answerFrame fields first → ⊥
 made-other e =
     omega (arith, answer-size fields (freshHead 7), answer-size fields first, ap length (sym made-answer ∙ e))
 
-pub made-source : NotFrom 7 (readFrame (madeStatus fields)) → ⊥
-made-source ne = (rw (made-answer, is-status fields (freshHead 7) sizes tt) at ne) refl
+pub made-source : (services : List ℕ) → NotFrom 7 (readFrame services (madeStatus fields)) → ⊥
+made-source services ne = (rw (made-answer, is-status fields (freshHead 7) sizes tt services) at ne) refl
 
-pub hears-ea : (ea : Bool) → eaTold 7 (requestFrame 7 asked ea) ≡ heard.Ea ea
-unfolding asked eaFor
-hears-ea ea = rw (request-reads 7 asked ea refl)
+pub hears-ea : (services : List ℕ) (ea : Bool) → eaTold services 7 (requestFrame 7 asked ea) ≡ heard.Ea ea
+unfolding asked
+hears-ea services ea = request-here services 7 7 asked ea refl refl
 
--- ---- a frame of another head, and one of the box's host
+-- ---- frames of another head, and one of the box's host
 
 unfoldable other : NewPResFrame
 other =
@@ -145,21 +154,52 @@ other =
 pub presFrame : List ℕ
 presFrame = frameBytes (other .«eth_header») (PRes (other .frame)) []
 
-pres-reads : readFrame presFrame ≡ frame.Frame (PRes (other .frame))
-unfolding other presFrame deserializeFrame
-pres-reads =
-    frames-read-back .reads (other .«eth_header») (PRes (other .frame)) [] (record { destination = refl; source = refl; ethertype = refl })
-    (refl, (omega arith, (refl, omega arith))) .frame
+module _ (services : List ℕ) where
+  pres-reads : readFrame services presFrame ≡ frame.Frame (PRes (other .frame))
+  unfolding other presFrame deserializeFrame
+  pres-reads =
+      frames-read-back .reads services (other .«eth_header») (PRes (other .frame)) [] (record { destination = refl; source = refl; ethertype = refl })
+      (refl, (omega arith, (refl, omega arith))) .frame
 
-pub pres-far : NotFrom 7 (readFrame presFrame) × NotFrom 240 (readFrame presFrame)
-unfolding other
-pres-far = (rw pres-reads (λ e. omega arith), rw pres-reads (λ e. omega arith))
+  pub pres-far : NotFrom 7 (readFrame services presFrame) × NotFrom 240 (readFrame services presFrame)
+  unfolding other
+  pres-far = (rw pres-reads (λ e. omega arith), rw pres-reads (λ e. omega arith))
 
-pub pres-other : responseIn presFrame ≡ boxHears.Other
-pres-other = rw pres-reads
+  pub pres-other : responseIn services presFrame ≡ boxHears.Other
+  pres-other = rw pres-reads
 
-pub pres-ignored : eaTold 7 presFrame ≡ heard.Nothing
-pres-ignored = rw pres-reads
+  pub pres-ignored : eaTold services 7 presFrame ≡ heard.Nothing
+  pres-ignored = rw pres-reads
+
+unfoldable packer : NewASndFrame
+packer =
+    newASnd (record { 0 = 2 ∷ 0 ∷ 0 ∷ 0 ∷ 0 ∷ 9 ∷ [] }) (record { 0 = multicastASnd }) (node 255) (node 9) (record { 0 = 0x20 })
+
+pub houseFrame : List ℕ
+houseFrame = frameBytes (packer .«eth_header») (ASnd (packer .frame)) []
+
+house-reads : (services : List ℕ)
+    → readFrame services houseFrame ≡ need (holds services 0x20) (frame.Refused (InvalidServiceId 0x20)) (frame.Frame (ASnd (packer .frame)))
+unfolding houseFrame packer frameBytes asndSection padded messageOf kindIn readSection readASnd
+house-reads services =
+    section-back services (packer .«eth_header») (asndSection (packer .frame) []) (record { destination = refl; source = refl; ethertype = refl })
+    (omega arith)
+
+house-holds : holds house 0x20 ≡ true
+house-holds = table-holds 0x20 _ (omega arith) refl
+
+pub house-far : (services : List ℕ) → NotFrom 7 (readFrame services houseFrame)
+unfolding packer
+house-far services =
+    either (holds services 0x20) (λ held. rw (house-reads services, held) (λ e. omega arith)) (λ unheld. rw (house-reads services, unheld) tt)
+
+pub house-other : responseIn house houseFrame ≡ boxHears.Other
+unfolding packer
+house-other = rw (house-reads house, house-holds)
+
+pub house-refused : responseIn ds301 houseFrame ≡ boxHears.Refused (InvalidServiceId 0x20)
+unfolding isListed
+house-refused = rw (house-reads ds301, tables-hold .twelve 0x20)
 
 unfoldable poll : Bool → NewPReqFrame
 poll ea =
@@ -171,16 +211,16 @@ poll ea =
 pub preqFrame : Bool → List ℕ
 preqFrame ea = frameBytes (poll ea .«eth_header») (PReq (poll ea .frame)) []
 
-pub hears-host : (ea : Bool) → eaTold 7 (preqFrame ea) ≡ heard.Ea ea
+pub hears-host : (services : List ℕ) (ea : Bool) → eaTold services 7 (preqFrame ea) ≡ heard.Ea ea
 unfolding poll preqFrame deserializeFrame eaFor
-hears-host ea =
+hears-host services ea =
     rw
-    (frames-read-back .reads (poll ea .«eth_header») (PReq (poll ea .frame)) []
+    (frames-read-back .reads services (poll ea .«eth_header») (PReq (poll ea .frame)) []
     (record { destination = refl; source = refl; ethertype = refl }) (refl, omega arith) .frame)
 
-pub hears-not : (ea : Bool) → eaTold 7 (requestFrame 9 asked ea) ≡ heard.Nothing
+pub hears-not : (services : List ℕ) (ea : Bool) → eaTold services 7 (requestFrame 9 asked ea) ≡ heard.Nothing
 unfolding asked
-hears-not ea = request-else 7 9 asked ea refl (λ e. omega arith)
+hears-not services ea = request-else services 7 9 asked ea refl (λ e. omega arith)
 
 -- ---- how long they are
 

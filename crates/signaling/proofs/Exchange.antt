@@ -26,7 +26,7 @@ use Rattle.signaling.specs.Exchanges.{Quiet, AnswerAgain, NoRepeat, Quie
 use Rattle.signaling.proofs.Calls.{read-here}
 use Rattle.signaling.proofs.Facts.{clash, either, beq-same, beq-true, at-lt}
 use Rattle.signaling.proofs.Frames.{Says}
-use Rattle.signaling.proofs.Invariant.{headIn, placeFor}
+use Rattle.signaling.proofs.Invariant.{Carries, headIn, placeFor}
 use Rattle.signaling.proofs.Pending.{opened-twice, opened-fewer, head-hears, closed, AtMost, at-most-stays}
 use Rattle.signaling.proofs.Quiet.{IsPlace, NoRaise, Ready, goes-on, shut, Calm, calm, quiet-raises-not, quietly, no-repeat, requested-stays}
 
@@ -38,8 +38,7 @@ record Steady (i : ℕ) (h : Head) (ea : Bool) (n m : ℕ) (w : World) : Type 0 
   pub head : headIn w ≡ h
   pub bit : eaOf (placeFor i w) ≡ ea
   pub mine : (p : ℕ) (a : List ℕ) → n ≤ p → getElem? (answersSent i (w .log)) p ≡ some a → Says a h
-  pub its : (q : ℕ) (f : List ℕ) (x : Bool) → m ≤ q → getElem? (requestsSent i (w .log)) q ≡ some f → eaTold i f ≡ heard.Ea x
-      → x ≡ ea
+  pub its : (q : ℕ) (f : List ℕ) → m ≤ q → getElem? (requestsSent i (w .log)) q ≡ some f → Carries i ea f
 
 -- places from here on
 steady-from : {i : ℕ} {h : Head} {ea : Bool} {w : World} → Ready i w → headIn w ≡ h → eaOf (placeFor i w) ≡ ea
@@ -50,13 +49,13 @@ steady-from {i} {w} y eh eb =
       head = eh;
       bit = eb;
       mine = λ p a le e. absurd (omega (arith, at-lt (answersSent i (w .log)) a p e));
-      its = λ q f x le e me. absurd (omega (arith, at-lt (requestsSent i (w .log)) f q e));
+      its = λ q f le e. absurd (omega (arith, at-lt (requestsSent i (w .log)) f q e));
     }
 
 module _ {i : ℕ} {h : Head} {ea : Bool} {n m : ℕ} where
   steady-by : {w v : World} → Ready i v → Calm i w v → headIn v ≡ h → eaOf (placeFor i w) ≡ ea
       → ((p : ℕ) (a : List ℕ) → n ≤ p → getElem? (answersSent i (w .log)) p ≡ some a → Says a h)
-      → ((q : ℕ) (f : List ℕ) (x : Bool) → m ≤ q → getElem? (requestsSent i (w .log)) q ≡ some f → eaTold i f ≡ heard.Ea x → x ≡ ea)
+      → ((q : ℕ) (f : List ℕ) → m ≤ q → getElem? (requestsSent i (w .log)) q ≡ some f → Carries i ea f)
       → Steady i h ea n m v
   steady-by y z head eb mine its =
       record {
@@ -64,18 +63,18 @@ module _ {i : ℕ} {h : Head} {ea : Bool} {n m : ℕ} where
         head = head;
         bit = z .bit ∙ eb;
         mine = λ p a le e. elim (z .answers p a e) [ inl k ↦ mine p a le k | inr k ↦ rw head at k ];
-        its = λ q f x le e me. elim (z .requests q f e) [ inl k ↦ its q f x le k me | inr k ↦ k x me ∙ eb ];
+        its = λ q f le e. elim (z .requests q f e) [ inl k ↦ its q f le k | inr k ↦ rw eb at k ];
       }
 
 -- the answer that opens: from its place on, all answers say what the opened head holds
 first-steady : {i : ℕ} {w v : World} {n : ℕ} {bs : List ℕ} → Step i w (answered (write.Written n) bs) v → Ready i w
     → Steady i (opened (headIn w)) (eaOf (placeFor i w)) (length (answersSent i (w .log))) (length (requestsSent i (w .log))) v
-first-steady {i} {w} {n} {bs} (answer f r after target written c) y =
+first-steady {i} {w} {n} {bs} (answer services f r after target written c) y =
     let s : Step i w (answered (write.Written n) bs) (record { head = after; box = w .box; log = answered (write.Written n) bs ∷ w .log }) =
-    answer f (write.Written n) after target bs c in
+    answer services f (write.Written n) after target bs c in
     steady-by (goes-on s y) (calm (y .held) s tt) (c .head) refl
     (λ p a le e. absurd (omega (arith, at-lt (answersSent i (w .log)) a p e)))
-    (λ q f x le e me. absurd (omega (arith, at-lt (requestsSent i (w .log)) f q e)))
+    (λ q f le e. absurd (omega (arith, at-lt (requestsSent i (w .log)) f q e)))
 
 -- ---- the box reads
 
@@ -103,23 +102,23 @@ module _ (said : Said) (f : StatusFields) (e : said .fields ≡ status.Status f)
   booked-bit none is = absurd is
   booked-bit (some p) is = rw e
 
-module _ (i : ℕ) (h : Head) (bs : List ℕ) (b : Box) (says : Says bs h) (id : h .id ≡ i) where
-  hears-me : responseIn bs ≡ boxHears.Status (node i)
-  hears-me = rw (← id) (says .status)
+module _ (services : List ℕ) (i : ℕ) (h : Head) (bs : List ℕ) (b : Box) (says : Says bs h) (id : h .id ≡ i) where
+  hears-me : responseIn services bs ≡ boxHears.Status (node i)
+  hears-me = rw (← id) (says .status services)
 
-  box-says : readAnswer bs b ≡ accountAnswer (statusIn bs) (b .accounts i)
+  box-says : readAnswer services bs b ≡ accountAnswer (statusIn bs) (b .accounts i)
   unfolding readAnswer
   box-says = rw hears-me
 
   -- then its bit is EA
-  box-agrees : IsPlace (b .accounts i) → (readAnswer bs b ≡ box.BookFull → ⊥)
-      → eaOf (afterResponse (readAnswer bs b) bs b .accounts i) ≡ h .en
+  box-agrees : IsPlace (b .accounts i) → (readAnswer services bs b ≡ box.BookFull → ⊥)
+      → eaOf (afterResponse services (readAnswer services bs b) bs b .accounts i) ≡ h .en
   box-agrees is found =
       let said = statusIn bs in
       let o = b .accounts i in
       elim (outcome said (says .fields) (says .read) o is (λ full. found (box-says ∙ full))) [
         | inl k ↦ rw (box-says, k .0) (k .1 ∙ says .en)
-        | inr k ↦ rw (box-says, k, read-here i bs b hears-me) (booked-bit said (says .fields) (says .read) o is ∙ says .en)
+        | inr k ↦ rw (box-says, k, read-here services i bs b hears-me) (booked-bit said (says .fields) (says .read) o is ∙ says .en)
       ]
 
 module _ {i : ℕ} {h : Head} {ea : Bool} {n m : ℕ} {w : World} (y : Steady i h ea n m w) where
@@ -127,39 +126,39 @@ module _ {i : ℕ} {h : Head} {ea : Bool} {n m : ℕ} {w : World} (y : Steady i 
   its-id = rw (← (y .head), y .ready .held .head) (y .ready .held .inv .id)
 
   -- the first reading, and a repeat: EA is EN behind it
-  box-steady : {p : ℕ} {bs : List ℕ} {r : BoxReadAnswer} {v : World} → n ≤ p → Step i w (boxRead (sent p) bs r) v → (r ≡ box.BookFull → ⊥)
+  box-steady : {p : ℕ} {services bs : List ℕ} {r : BoxReadAnswer} {v : World} → n ≤ p → Step i w (boxRead services (sent p) bs r) v → (r ≡ box.BookFull → ⊥)
       → Steady i h (h .en) n (length (requestsSent i (w .log))) v
-  box-steady {p} {bs} {r} le (boxReads from octets told after d c) found =
-      let s : Step i w (boxRead (sent p) bs r) (record { head = w .head; box = after; log = boxRead (sent p) bs r ∷ w .log }) =
-      boxReads (sent p) bs r after d c in
+  box-steady {p} {services} {bs} {r} le (boxReads table from octets told after d c) found =
+      let s : Step i w (boxRead services (sent p) bs r) (record { head = w .head; box = after; log = boxRead services (sent p) bs r ∷ w .log }) =
+      boxReads services (sent p) bs r after d c in
       record {
         ready = goes-on s (y .ready);
         head = y .head;
         bit =
             rw (c .box .accounts i, c .answer)
-            (box-agrees i h bs (boxOf (w .box)) (y .mine p bs le (d .1)) its-id (y .ready .place) (λ full. found (c .answer ∙ full)));
+            (box-agrees services i h bs (boxOf (w .box)) (y .mine p bs le (d .1)) its-id (y .ready .place) (λ full. found (c .answer ∙ full)));
         mine = y .mine;
-        its = λ q f x le e me. absurd (omega (arith, at-lt (requestsSent i (w .log)) f q e));
+        its = λ q f le e. absurd (omega (arith, at-lt (requestsSent i (w .log)) f q e));
       }
 
   -- what carries EA is not refused
-  known-found : {p : ℕ} {bs : List ℕ} {r : BoxReadAnswer} {v : World} → n ≤ p → ea ≡ h .en → Step i w (boxRead (sent p) bs r) v
+  known-found : {p : ℕ} {services bs : List ℕ} {r : BoxReadAnswer} {v : World} → n ≤ p → ea ≡ h .en → Step i w (boxRead services (sent p) bs r) v
       → r ≡ box.BookFull
       → ⊥
-  known-found {p} {bs} le same (boxReads from octets told after d c) full =
+  known-found {p} {services} {bs} le same (boxReads table from octets told after d c) full =
       let says = y .mine p bs le (d .1) in
       let k = known (statusIn bs) (says .fields) (says .read) (placeFor i w) (y .ready .place) (y .bit ∙ same ∙ sym (says .en)) in
-      let x = box-says i h bs (boxOf (w .box)) says its-id in
+      let x = box-says services i h bs (boxOf (w .box)) says its-id in
       let z : box.BookFull ≡ box.Known = sym full ∙ c .answer ∙ x ∙ k in
       clash cc
 
 -- ---- the head reads
 
-module _ {i : ℕ} {h : Head} {n m q : ℕ} {bs : List ℕ} {x : Bool} {r : ReadAnswer} (le : m ≤ q) (me : eaTold i bs ≡ heard.Ea x) where
-  carries-en : {w v : World} → Step i w (headRead (sent q) bs r) v → Steady i h (h .en) n m w → eaTold i bs ≡ heard.Ea (h .en)
-  carries-en (headReads from octets told after d c) y = me ∙ ap heard.Ea (y .its q bs x le (d .1) me)
+module _ {i : ℕ} {h : Head} {n m q : ℕ} {services bs : List ℕ} {x : Bool} {r : ReadAnswer} (le : m ≤ q) (me : eaTold services i bs ≡ heard.Ea x) where
+  carries-en : {w v : World} → Step i w (headRead services (sent q) bs r) v → Steady i h (h .en) n m w → eaTold services i bs ≡ heard.Ea (h .en)
+  carries-en (headReads table from octets told after d c) y = me ∙ ap heard.Ea (y .its q bs le (d .1) services x me)
 
-  head-ends : {w v : World} → Step i w (headRead (sent q) bs r) v → Steady i h (h .en) n m w → headIn v ≡ shut h
+  head-ends : {w v : World} → Step i w (headRead services (sent q) bs r) v → Steady i h (h .en) n m w → headIn v ≡ shut h
   head-ends s y = head-hears (carries-en s y) (y .ready .held) s ∙ rw (y .head) (closed h)
 
 -- ---- the calls of an exchange
@@ -211,7 +210,7 @@ module _ {i : ℕ} {h : Head} {k : ℕ} (settled : opened h ≡ h) (fewer : leng
   agrees-again {n} {p} {bs} le =
       quietly (Unless i k (Agreed i h n)) (λ w v x s quiet y. unless s (quiet-raises-not i x quiet) (quiet-agreed s quiet) y)
       (λ w v x s again y.
-      let read : Step i w (boxRead (sent p) bs (again .0)) v = rw (again .1) at s in
+      let read : Step i w (boxRead (again .0) (sent p) bs (again .1)) v = rw (again .2) at s in
       unless read (λ t. refl) (λ z. inl (_, box-steady (z .1) le read (known-found (z .1) le refl read))) y)
 
   -- all that is sent from the exchange's request on carries EN

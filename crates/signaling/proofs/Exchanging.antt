@@ -1,4 +1,5 @@
--- One exchange: an answer is read and booked, and then a request is read, which closes the batch.
+-- One exchange, under a table of the head's and one of the box's: an answer is read and booked, and then a request is read, which closes
+-- the batch.
 -- Assumes nothing.
 use Prim.Native.Nat.{ℕ, _≤_}
 use mathlib.Core.Path.{_≡_}
@@ -27,7 +28,7 @@ pub record Exchanged (i : ℕ) (s b : List ℕ) (l after : Log) (h : Head) (p : 
   pub exchange : Exchange i (world s b l) (world state box after)
   pub knows : Knows i state box after h p
 
-module _ (i : ℕ) (f : AnswerFields) (g : RequestFields) (sizes : AnswerSizes f) (six : length (g .«source_mac» .0) ≡ 6) where
+module _ (headServices boxServices : List ℕ) (i : ℕ) (f : AnswerFields) (g : RequestFields) (sizes : AnswerSizes f) (six : length (g .«source_mac» .0) ≡ 6) where
   module _ (l : Log) (h : Head) (p : Account) where
     abbrev pub frame₁ : List ℕ
     frame₁ = answerFrame f (opened h)
@@ -42,24 +43,24 @@ module _ (i : ℕ) (f : AnswerFields) (g : RequestFields) (sizes : AnswerSizes f
     written = answered (write.Written (length frame₁)) (held frame₁) ∷ l
 
     abbrev pub requested₁ : ℕ → Log
-    requested₁ n = requested i (requesting.Written (length frame₂)) (held frame₂) ∷ boxRead (sent n) frame₁ box.Booked ∷ written
+    requested₁ n = requested i (requesting.Written (length frame₂)) (held frame₂) ∷ boxRead boxServices (sent n) frame₁ box.Booked ∷ written
 
     pub exchanging : {s b : List ℕ} (n m : ℕ) → Knows i s b l h p → answerLength (length (opened h .batch)) ≤ 200 → Says frame₁ (opened h)
         → opened h .id ≡ i
         → Octets frame₁
         → bookAnswer (opened h .en) (opened h .batch) p ≡ box.Booked
-        → Delivered i (sent n) frame₁ (tally i written .answers)
+        → Delivered boxServices i (sent n) frame₁ (tally i written .answers)
         → length (answersSent i l) ≤ n
-        → Delivered 240 (sent m) frame₂ (tally i (requested₁ n) .requests)
+        → Delivered headServices 240 (sent m) frame₂ (tally i (requested₁ n) .requests)
         → length (requestsSent i l) ≤ m
-        → eaTold i frame₂ ≡ heard.Ea (opened h .en)
+        → eaTold headServices i frame₂ ≡ heard.Ea (opened h .en)
         → eaAnswer (opened h .en) (opened h) ≡ Closed
-        → Exchanged i s b l (headRead (sent m) frame₂ Closed ∷ requested₁ n) (afterAcknowledge Closed (opened h)) booked
+        → Exchanged i s b l (headRead headServices (sent m) frame₂ Closed ∷ requested₁ n) (afterAcknowledge Closed (opened h)) booked
     exchanging n m k small says from octets books₁ given₁ new₁ given₂ new₂ hears₁ closes =
-        let a = answering k f sizes small in
-        let b = booking (a .knows) frame₁ (opened h) says from n given₁ octets books₁ in
+        let a = answering k headServices f sizes small in
+        let b = booking (a .knows) frame₁ (opened h) says from boxServices n given₁ octets books₁ in
         let c = asking (b .knows) i _ (b .knows .place) g six in
-        let d = hearing (c .knows) (sent m) frame₂ Closed given₂ from (rw hears₁ closes) in
+        let d = hearing (c .knows) headServices (sent m) frame₂ Closed given₂ from (rw hears₁ closes) in
         record {
           state = d .state;
           box = d .box;
@@ -72,11 +73,12 @@ module _ (i : ℕ) (f : AnswerFields) (g : RequestFields) (sizes : AnswerSizes f
             quiet₁ = still;
             p = n;
             answerRead = frame₁;
+            boxServices = boxServices;
             boxSays = box.Booked;
-            w₃ = world (b .state) (b .box) (boxRead (sent n) frame₁ box.Booked ∷ written);
+            w₃ = world (b .state) (b .box) (boxRead boxServices (sent n) frame₁ box.Booked ∷ written);
             boxReads = b .step;
             newAnswer = new₁;
-            w₄ = world (b .state) (b .box) (boxRead (sent n) frame₁ box.Booked ∷ written);
+            w₄ = world (b .state) (b .box) (boxRead boxServices (sent n) frame₁ box.Booked ∷ written);
             quiet₂ = still;
             length₂ = length frame₂;
             request = held frame₂;
@@ -86,8 +88,9 @@ module _ (i : ℕ) (f : AnswerFields) (g : RequestFields) (sizes : AnswerSizes f
             quiet₃ = still;
             q = m;
             requestRead = frame₂;
+            headServices = headServices;
             headSays = Closed;
-            w₇ = world (d .state) (d .box) (headRead (sent m) frame₂ Closed ∷ requested₁ n);
+            w₇ = world (d .state) (d .box) (headRead headServices (sent m) frame₂ Closed ∷ requested₁ n);
             headReads = d .step;
             newRequest = new₂;
             ea = opened h .en;

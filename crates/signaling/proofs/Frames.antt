@@ -14,6 +14,7 @@ use Rattle.types.specs.PollFlags.{pollOctet}
 use Rattle.types.specs.declared.error_mode.ErrorEntryMode.{ErrorEntryMode}
 use Rattle.types.specs.declared.error_mode.ErrorEntryMode.the-variants.{Terminator, ErrorActive, ErrorCleared, EventOccurred}
 use Rattle.types.specs.declared.poll_flags.PRFlag.{PRFlag}
+use Rattle.services.proofs.Tables.{tables-hold}
 use Rattle.section.specs.Write.{padded}
 use Rattle.control.specs.ASnd.{asndBytes, asndSection}
 use Rattle.frame.specs.Write.{frameBytes}
@@ -45,9 +46,9 @@ abbrev pub Good : List ErrorEntry → Type 0
 Good [] = Unit {0}
 Good (e ∷ es) = ((isRaisable e ≡ true) × Numbers e) × Good es
 
--- the octets are an answer of this head, with its EN and its batch
+-- the octets are an answer of this head, whatever the table, with its EN and its batch
 pub record Says (bs : List ℕ) (h : Head) : Type 0 where
-  pub status : responseIn bs ≡ heard.Status (node (h .id))
+  pub status : (services : List ℕ) → responseIn services bs ≡ heard.Status (node (h .id))
   pub fields : StatusFields
   pub read : readFields (statusPayload bs) ≡ said.Status fields
   pub en : fields .«en_flag» ≡ h .en
@@ -122,17 +123,17 @@ module _ (f : AnswerFields) (h : Head) (sizes : AnswerSizes f) (good : Good (h .
   payload =
       ap (λ (l : List ℕ). statusBytes l (h .batch) ++ behind) (same-head (statusFields f (h .en)) (f .«static_error_bit_field»))
 
-  pub is-status : readFrame (answerFrame f h) ≡ frame.Frame (ASnd (answerASnd f (h .id) .frame))
+  pub is-status : (services : List ℕ) → readFrame services (answerFrame f h) ≡ frame.Frame (ASnd (answerASnd f (h .id) .frame))
   unfolding answerFrame frameBytes asndSection padded
-  is-status =
-      section-back (answerASnd f (h .id) .«eth_header») (asndSection (answerASnd f (h .id) .frame) (answerPayload f h))
+  is-status services =
+      section-back services (answerASnd f (h .id) .«eth_header») (asndSection (answerASnd f (h .id) .frame) (answerPayload f h))
       (record { destination = sizes .destination; source = sizes .source; ethertype = refl }) (omega arith)
-      ∙ asnd-back (answerASnd f (h .id) .frame) (answerPayload f h)
+      ∙ asnd-back services (answerASnd f (h .id) .frame) (answerPayload f h) (tables-hold .status services)
 
   pub answer-reads : Says (answerFrame f h) h
   answer-reads =
       record {
-        status = rw is-status;
+        status = λ services. rw (is-status services);
         fields = fields;
         read = rw payload (status-reads-back .fields fields (f .«static_error_bit_field») (h .batch) behind (min-le-right _ 7));
         en = refl;
@@ -144,9 +145,9 @@ module _ (f : AnswerFields) (h : Head) (sizes : AnswerSizes f) (good : Good (h .
 
 -- ---- the request
 
-pub request-reads : (j : ℕ) (f : RequestFields) (ea : Bool) → length (f .«source_mac» .0) ≡ 6
-    → readFrame (requestFrame j f ea) ≡ frame.Frame (SoA (requestSoA j f ea .frame))
+pub request-reads : (services : List ℕ) (j : ℕ) (f : RequestFields) (ea : Bool) → length (f .«source_mac» .0) ≡ 6
+    → readFrame services (requestFrame j f ea) ≡ frame.Frame (SoA (requestSoA j f ea .frame))
 unfolding requestFrame deserializeFrame
-request-reads j f ea six =
-    frames-read-back .reads (requestSoA j f ea .«eth_header») (SoA (requestSoA j f ea .frame)) []
+request-reads services j f ea six =
+    frames-read-back .reads services (requestSoA j f ea .«eth_header») (SoA (requestSoA j f ea .frame)) []
     (record { destination = refl; source = six; ethertype = refl }) refl .frame

@@ -135,7 +135,7 @@ module _ {i : ℕ} {ea : Bool} {book : List ErrorEntry} {c : Tally} (t : Inv i e
 
   -- ---- the head reads
 
-  module _ (q : ℕ) (bs : List ℕ) (le : c .requests .at ≤ q) (at : getElem? (c .requests .frames) q ≡ some bs) where
+  module _ (services : List ℕ) (q : ℕ) (bs : List ℕ) (le : c .requests .at ≤ q) (at : getElem? (c .requests .frames) q ≡ some bs) where
     head-passes : Inv i ea book (onRequests (gives (sent q)) c)
     head-passes =
         record {
@@ -152,9 +152,9 @@ module _ {i : ℕ} {ea : Bool} {book : List ErrorEntry} {c : Tally} (t : Inv i e
           room = t .room;
         }
 
-    head-closes : eaTold i bs ≡ heard.Ea (h .en) → Inv i ea book (onRequests (gives (sent q)) (onRuled (becomes (λ g. afterAcknowledge Closed g)) c))
+    head-closes : eaTold services i bs ≡ heard.Ea (h .en) → Inv i ea book (onRequests (gives (sent q)) (onRuled (becomes (λ g. afterAcknowledge Closed g)) c))
     head-closes me =
-        let (same, past) = requests-fresh (t .requests) q bs le at me in
+        let (same, past) = requests-fresh (t .requests) q bs le at services me in
         let was : c .ruled .isBooked ≡ true = t .since ∙ ap (λ (b : Bool). Bool·beq b (h .en)) same ∙ beq-same (h .en) in
         record {
           id = t .id;
@@ -170,13 +170,13 @@ module _ {i : ℕ} {ea : Bool} {book : List ErrorEntry} {c : Tally} (t : Inv i e
           room = t .room;
         }
 
-    head-by : (x b : Bool) → eaTold i bs ≡ heard.Ea x → not (isEmpty (h .batch)) && Bool·beq (h .en) x ≡ b
+    head-by : (x b : Bool) → eaTold services i bs ≡ heard.Ea x → not (isEmpty (h .batch)) && Bool·beq (h .en) x ≡ b
         → Inv i ea book (onRequests (gives (sent q)) (onRuled (becomes (λ g. afterAcknowledge (pick b Closed Kept) g)) c))
     head-by x false me e = head-passes
     head-by x true me e =
         head-closes (me ∙ ap heard.Ea (sym (beq-true (h .en) x (both (not (isEmpty (h .batch))) (Bool·beq (h .en) x) e .1))))
 
-    pub head-reads : (s : Heard) → eaTold i bs ≡ s → Inv i ea book (onRequests (gives (sent q)) (onRuled (becomes (λ g. afterAcknowledge (acknowledgeAnswer s g) g)) c))
+    pub head-reads : (s : Heard) → eaTold services i bs ≡ s → Inv i ea book (onRequests (gives (sent q)) (onRuled (becomes (λ g. afterAcknowledge (acknowledgeAnswer s g) g)) c))
     unfolding eaAnswer
     head-reads (heard.Refused e) me = head-passes
     head-reads heard.Nothing me = head-passes

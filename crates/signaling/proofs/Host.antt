@@ -1,9 +1,14 @@
 -- What `flags` told may be put into a frame of the box's host.
 -- Assumes nothing.
+use Prim.Native.Nat.{ℕ}
 use mathlib.Core.Bool.{Bool, false}
 use mathlib.Core.Path.{_≡_, refl, ap, _∙_}
+use mathlib.Core.List.{List}
 use mathlib.Core.Option.{Option, none, some}
 use Rattle.control.specs.declared.soa.SoAFlags.{SoAFlags}
+use Rattle.reporter.specs.Rules.{eaTold}
+use Rattle.reporter.specs.declared.acknowledge.Heard.the-variants as heard
+use Rattle.reporter.proofs.AnyTable.{any-table}
 use Rattle.collector.specs.Layout.{accountOf}
 use Rattle.collector.specs.Rules.{Account, flagsAnswer}
 use Rattle.collector.specs.declared.FlagsAnswer.{FlagsAnswer}
@@ -24,9 +29,14 @@ no-ea : (o : Option Account) → flagging.NotRegistered ≡ flagsAnswer o → fa
 no-ea none e = refl
 no-ea (some p) e = clash cc
 
+-- EA is the same under every table
+pub same-ea : (services others : List ℕ) (i : ℕ) (bs : List ℕ) {x y : Bool} → eaTold services i bs ≡ heard.Ea x → eaTold others i bs ≡ heard.Ea y → y ≡ x
+same-ea services others i bs {x} me hears = let z = any-table .ea services others i bs x me in cc
+
 pub flags-tell : FlagsTell
 flags-tell =
     record {
-      tells = λ i s bs f c me ea hears. let e : ea ≡ f .ea = cc in e ∙ flags-ea f (accountOf s i) (c .answer);
-      unregistered = λ i s bs c me ea hears. let e : ea ≡ false = cc in e ∙ no-ea (accountOf s i) (c .answer);
+      tells = λ services i s bs f c me others ea hears. same-ea services others i bs me hears ∙ flags-ea f (accountOf s i) (c .answer);
+      unregistered = λ services i s bs c me others ea hears. same-ea services others i bs me hears ∙ no-ea (accountOf s i) (c .answer);
+      silent = λ services i s bs none others ea hears. absurd (none ea (any-table .ea others services i bs ea hears));
     }

@@ -19,6 +19,10 @@ use Rattle.signaling.proofs.Frames.{Good}
 
 -- ---- what the frames say
 
+-- octets that give head i an EA, under whichever table, give this one
+abbrev pub Carries : ℕ → Bool → List ℕ → Type 0
+Carries i ea bs = (services : List ℕ) (x : Bool) → eaTold services i bs ≡ heard.Ea x → x ≡ ea
+
 unfoldable pub enSaid : List ℕ → Bool
 enSaid bs = enIn (statusIn bs .fields)
 
@@ -38,9 +42,8 @@ pub record Answers (en ea : Bool) (batch : List ErrorEntry) (sent : List (List �
 -- The requests to this head that can still be given to it. Those sent since EA last changed carry EA, those sent before the
 -- opposite bit. Where no batch is open or the open one is not booked, none from before that change can still be given to the head.
 pub record Requests (i : ℕ) (en ea : Bool) (batch : List ErrorEntry) (sent : List (List ℕ)) (at turned : ℕ) : Type 0 where
-  pub old : (q : ℕ) (f : List ℕ) (x : Bool) → at ≤ q → getElem? sent q ≡ some f → eaTold i f ≡ heard.Ea x → q < turned
-      → x ≡ not ea
-  pub new : (q : ℕ) (f : List ℕ) (x : Bool) → at ≤ q → getElem? sent q ≡ some f → eaTold i f ≡ heard.Ea x → turned ≤ q → x ≡ ea
+  pub old : (q : ℕ) (f : List ℕ) → at ≤ q → getElem? sent q ≡ some f → q < turned → Carries i (not ea) f
+  pub new : (q : ℕ) (f : List ℕ) → at ≤ q → getElem? sent q ≡ some f → turned ≤ q → Carries i ea f
   pub closed : batch ≡ [] → turned ≤ at
   pub unread : ea ≡ not en → turned ≤ at
   pub range : turned ≤ length sent
@@ -57,8 +60,8 @@ pub record Inv (i : ℕ) (ea : Bool) (book : List ErrorEntry) (c : Tally) : Type
   pub id : c .ruled .head .id ≡ i
   pub batch : Good (c .ruled .head .batch)
   pub waiting : Good (c .ruled .head .waiting)
-  -- the box reads an answer as one of node i
-  pub source : (p : ℕ) (bs : List ℕ) → getElem? (c .answers .frames) p ≡ some bs → responseIn bs ≡ boxHears.Status (node i)
+  -- the box reads an answer as one of node i, whatever the table
+  pub source : (p : ℕ) (bs : List ℕ) → getElem? (c .answers .frames) p ≡ some bs → (services : List ℕ) → responseIn services bs ≡ boxHears.Status (node i)
   pub answers : Answers (c .ruled .head .en) ea (c .ruled .head .batch) (c .answers .frames) (c .answers .at) (c .ruled .openedAt)
   pub turned : ℕ
   pub requests : Requests i (c .ruled .head .en) ea (c .ruled .head .batch) (c .requests .frames) (c .requests .at) turned

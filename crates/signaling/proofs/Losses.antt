@@ -7,27 +7,33 @@ use mathlib.Core.List.{List, [], _∷_}
 use mathlib.Core.Option.{some}
 use native.Mathlib.Omega.{arith}
 use lib.ListN.{take, getElem?}
+use Rattle.services.specs.Table.{ds301}
 use Rattle.reporter.specs.Calls as reporter
 use Rattle.reporter.specs.Layout.{headOf, acknowledgeBytes}
 use Rattle.reporter.specs.Rules.{Head, freshHead, answerFrame, eaAnswer, acknowledgeAnswer, afterAcknowledge, eaTold}
 use Rattle.reporter.specs.declared.ReadAnswer.the-variants.{Closed}
+use Rattle.reporter.proofs.Meaning.{reads-means}
 use Rattle.collector.specs.Rules.{Account, bookAnswer, requestFrame}
 use Rattle.collector.specs.declared.ReadAnswer.the-variants as box
 use Rattle.signaling.specs.Calls.{Origin, sent, foreign, headRead, boxRead, Log, World, tally, Delivered}
-use Rattle.signaling.specs.Example.{five, here, madeStatus, FreeEaLoses, BuiltAheadLoses, MadeStatusLoses}
+use Rattle.signaling.specs.Example.{five, house, here, madeStatus, FreeEaLoses, BuiltAheadLoses, MadeStatusLoses}
 use Rattle.signaling.proofs.Callable.{hears}
 use Rattle.signaling.proofs.Example.{waits, between, place, answerOf, requestOf, first-closed, Reached, reachedWorld, from, runs, next, read-twice, close-first, answer-second, original, reached-answered, reached-first}
-use Rattle.signaling.proofs.ExampleFrames.{fields, asked, first, second, answer-octets, second-says, made-says, made-octets, made-other, made-source, hears-ea, first-length, second-length, request-length}
+use Rattle.signaling.proofs.ExampleFrames.{fields, asked, first, second, second-says, made-says, made-octets, made-other, made-source, hears-ea, first-length, second-length, request-length}
 use Rattle.signaling.proofs.Facts.{clash}
 use Rattle.signaling.proofs.Making.{sent-whole, hearing, knowing, books-it, asking}
 
 -- the head reads a frame that closes its batch, wherever the frame comes from
-closed-by : {v : World} {l : Log} {h : Head} {p : Account} (r : Reached v l h p) (bs : List ℕ) → acknowledgeAnswer (eaTold (h .id) bs) h ≡ Closed
-    → reporter.Reads bs Closed (r .state) (acknowledgeBytes Closed (r .state)) × (headOf (acknowledgeBytes Closed (r .state)) ≡ afterAcknowledge Closed h)
-closed-by {h} r bs ok =
-    let e : acknowledgeAnswer (eaTold (headOf (r .state) .id) bs) (headOf (r .state)) ≡ Closed = rw (r .knows .means) ok in
-    let c = rw e at (hears (r .state) bs (r .knows .headSize)) in
-    (c .0, c .0 .head ∙ ap (afterAcknowledge Closed) (r .knows .means))
+closed-by : {v : World} {l : Log} {h : Head} {p : Account} (r : Reached v l h p) (bs : List ℕ)
+    → ((services : List ℕ) → acknowledgeAnswer (eaTold services (h .id) bs) h ≡ Closed)
+    → ((services : List ℕ) → reporter.Reads services bs Closed (r .state) (acknowledgeBytes Closed (r .state)))
+    × (headOf (acknowledgeBytes Closed (r .state)) ≡ afterAcknowledge Closed h)
+closed-by {h} r bs ok = (
+  λ services.
+      let e : acknowledgeAnswer (eaTold services (headOf (r .state) .id) bs) (headOf (r .state)) ≡ Closed = rw (r .knows .means) (ok services) in
+      (rw e at (hears services (r .state) bs (r .knows .headSize))) .0,
+  reads-means (r .state) (r .knows .headSize) Closed ∙ ap (afterAcknowledge Closed) (r .knows .means),
+)
 
 -- ---- a frame with any EA
 
@@ -35,14 +41,14 @@ pub free-ea-loses : FreeEaLoses
 unfolding asked eaAnswer
 free-ea-loses =
     let r = reached-answered in
-    let c = closed-by r (requestFrame 7 asked true) (rw (hears-ea true)) in
+    let c = closed-by r (requestFrame 7 asked true) (λ services. rw (hears-ea services true)) in
     record {
       w = reachedWorld r;
       run = runs original (r .onward);
       entries = refl;
       place = r .knows .place;
       frame = requestFrame 7 asked true;
-      gives = hears-ea true;
+      gives = λ services. hears-ea services true;
       after = acknowledgeBytes Closed (r .state);
       reads = c .0;
       left = c .1;
@@ -55,20 +61,20 @@ unfolding asked eaAnswer
 built-ahead-loses =
     let b = reached-answered in
     let r = answer-second (close-first (read-twice (from b))) in
-    let c = closed-by r (requestFrame 7 asked false) (rw (hears-ea false)) in
+    let c = closed-by r (requestFrame 7 asked false) (λ services. rw (hears-ea services false)) in
     record {
       v = reachedWorld b;
       before = runs original (b .onward);
       frame = requestFrame 7 asked false;
-      gives = hears-ea false;
-      built = λ ea e. rw (b .knows .place) cc (hears-ea false);
+      gives = λ services. hears-ea services false;
+      built = λ services ea e. rw (b .knows .place) (cc (hears-ea services false));
       w = reachedWorld r;
       onward = r .onward;
       run = runs (runs original (b .onward)) (r .onward);
       entries = refl;
       place = r .knows .place;
       holds = r .knows .means;
-      late = λ told. clash (cc (rw (r .knows .place) at (told false (hears-ea false))));
+      late = λ told. clash (cc (rw (r .knows .place) at (told ds301 false (hears-ea ds301 false))));
       after = acknowledgeBytes Closed (r .state);
       reads = c .0;
       left = c .1;
@@ -81,14 +87,14 @@ twice-other a bs zero ne e = ne cc
 twice-other a bs (suc zero) ne e = ne cc
 twice-other a bs (suc (suc p)) ne e = clash cc
 
-not-delivered : (o : Origin) → Delivered 7 o (madeStatus fields) (tally 7 first-closed .answers) → ⊥
-not-delivered (sent p) d = twice-other _ (madeStatus fields) p (λ e. made-other (e ∙ sent-whole (answerFrame fields first))) (d .1)
-not-delivered foreign ne = made-source ne
+not-delivered : (services : List ℕ) (o : Origin) → Delivered services 7 o (madeStatus fields) (tally 7 first-closed .answers) → ⊥
+not-delivered services (sent p) d = twice-other _ (madeStatus fields) p (λ e. made-other (e ∙ sent-whole (answerFrame fields first))) (d .1)
+not-delivered services foreign ne = made-source services ne
 
 -- its answer is known, and the next request closes the batch
 abbrev second-lost : Log
 second-lost =
-    headRead (sent 3) (requestFrame 7 asked false) Closed ∷ requestOf 7 false ∷ boxRead (sent 2) (answerFrame fields second) box.Known
+    headRead ds301 (sent 3) (requestFrame 7 asked false) Closed ∷ requestOf 7 false ∷ boxRead house (sent 2) (answerFrame fields second) box.Known
     ∷ answerOf second
     ∷ first-closed
 
@@ -99,12 +105,12 @@ lose-second r =
     (next
     (next (answer-second r)
     (λ s b k.
-    knowing k (answerFrame fields second) second second-says refl 2
-    (omega arith, ap some (sent-whole (answerFrame fields second))) (answer-octets .1) refl))
+    knowing k (answerFrame fields second) second second-says refl house 2
+    (omega arith, ap some (sent-whole (answerFrame fields second))) refl))
     (λ s b k. asking k 7 _ (k .place) asked refl))
     (λ s b k.
-    hearing k (sent 3) (requestFrame 7 asked false) Closed (omega arith, ap some (sent-whole (requestFrame 7 asked false))) refl
-    (rw (hears-ea false)))
+    hearing k ds301 (sent 3) (requestFrame 7 asked false) Closed (omega arith, ap some (sent-whole (requestFrame 7 asked false))) refl
+    (rw (hears-ea ds301 false)))
 
 pub made-status-loses : MadeStatusLoses
 unfolding bookAnswer

@@ -2,7 +2,7 @@
 -- Assumes nothing.
 use Prim.Native.Nat.{ℕ, _≤_}
 use mathlib.Core.Bool.{false}
-use mathlib.Core.Path.{_≡_, refl, ap, _∙_}
+use mathlib.Core.Path.{_≡_, refl, sym, ap, _∙_}
 use mathlib.Core.List.{List, [], _∷_, _++_}
 use mathlib.Core.Option.{some}
 use native.Mathlib.Omega.{arith}
@@ -26,7 +26,8 @@ use Rattle.reporter.specs.declared.acknowledge.Heard.the-variants as heard
 use Rattle.collector.specs.Calls as collector
 use Rattle.collector.specs.Layout as layout
 use Rattle.collector.specs.Layout.{collectorLength, boxOf, accountOf, freshBytes, registerBytes, takeBytes}
-use Rattle.collector.specs.Rules.{withBook, withEa, Account, Same, freshAccount, registerAnswer, afterRegister, bookAnswer, readAnswer, readCause, requestFrame, responseIn}
+use Rattle.collector.specs.Rules.{withBook, withEa, Account, Same, freshAccount, registerAnswer, afterRegister, bookAnswer, readAnswer, readCause, whenBooked, afterBooking, requestFrame, responseIn, statusIn}
+use Rattle.collector.specs.declared.ReadAnswer.{ReadAnswer as BoxReadAnswer}
 use Rattle.collector.specs.declared.ReadAnswer.the-variants as box
 use Rattle.collector.specs.declared.RegisterAnswer.the-variants.{Registered}
 use Rattle.collector.specs.declared.RequestAnswer.the-variants as requesting
@@ -146,66 +147,75 @@ module _ {i : ℕ} {s b : List ℕ} {l : Log} {h : Head} {p : Account} (k : Know
       let c = rw q at (raises s e (k .headSize) n) in
       by-head (raise e r (raiseBytes r e s) (c .0)) (c .1) (c .0 .head ∙ rw (k .means)) (rw (k .rules, ok))
 
-  pub answering : (f : AnswerFields) → AnswerSizes f → answerLength (length (opened h .batch)) ≤ 200
+  pub answering : (services : List ℕ) (f : AnswerFields) → AnswerSizes f → answerLength (length (opened h .batch)) ≤ 200
       → Next i s b l (answered (write.Written (length (answerFrame f (opened h)))) (held (answerFrame f (opened h)))) (opened h) p
-  answering f sizes small =
-      let a = rw (k .means) at (answers s f sizes target (k .headSize)) in
+  answering services f sizes small =
+      let a = rw (k .means) at (answers services s f sizes target (k .headSize)) in
       let fits : length (answerFrame f (opened h)) ≤ 200 = rw (rw (k .means) at (a .0 .size)) small in
       let c = rw (is-written (answerFrame f (opened h)) fits, is-held (answerFrame f (opened h)) fits) at a in
-      by-head (answer f _ _ target (held (answerFrame f (opened h))) (c .0)) (c .1) (c .0 .head ∙ rw (k .means)) (rw (k .rules))
+      by-head (answer services f _ _ target (held (answerFrame f (opened h))) (c .0)) (c .1) (c .0 .head ∙ rw (k .means)) (rw (k .rules))
 
-  pub hearing : (o : Origin) (bs : List ℕ) (r : ReadAnswer) → Delivered 240 o bs (tally i l .requests) → h .id ≡ i
-      → acknowledgeAnswer (eaTold i bs) h ≡ r → Next i s b l (headRead o bs r) (afterAcknowledge r h) p
-  hearing o bs r given same ok =
-      let q : acknowledgeAnswer (eaTold (headOf s .id) bs) (headOf s) ≡ r =
-      rw (k .means) (ap (λ (n : ℕ). acknowledgeAnswer (eaTold n bs) h) same ∙ ok) in
-      let c = rw q at (hears s bs (k .headSize)) in
-      by-head (headReads o bs r (acknowledgeBytes r s) given (c .0)) (c .1) (c .0 .head ∙ rw (k .means)) (rw (k .rules, ok))
+  pub hearing : (services : List ℕ) (o : Origin) (bs : List ℕ) (r : ReadAnswer) → Delivered services 240 o bs (tally i l .requests) → h .id ≡ i
+      → acknowledgeAnswer (eaTold services i bs) h ≡ r → Next i s b l (headRead services o bs r) (afterAcknowledge r h) p
+  hearing services o bs r given same ok =
+      let q : acknowledgeAnswer (eaTold services (headOf s .id) bs) (headOf s) ≡ r =
+      rw (k .means) (ap (λ (n : ℕ). acknowledgeAnswer (eaTold services n bs) h) same ∙ ok) in
+      let c = rw q at (hears services s bs (k .headSize)) in
+      by-head (headReads services o bs r (acknowledgeBytes r s) given (c .0)) (c .1) (c .0 .head ∙ rw (k .means)) (rw (k .rules, ok))
 
   -- ---- the box's calls
 
-  module _ (bs : List ℕ) (g : Head) (says : Says bs g) (from : g .id ≡ i) where
-    read-as : readAnswer bs (boxOf b) ≡ bookAnswer (g .en) (g .batch) p
-    unfolding readAnswer
-    read-as = rw (says .status, from, k .place, says .read, says .en, says .entries)
+  -- a frame that is not booked
+  pub passing : (services : List ℕ) (o : Origin) (bs : List ℕ) (r : BoxReadAnswer) → Delivered services i o bs (tally i l .answers)
+      → readAnswer services bs (boxOf b) ≡ r
+      → ((A : Type 0) (x y : A) → whenBooked r x y ≡ y)
+      → Next i s b l (boxRead services o bs r) h p
+  passing services o bs r given ok stays =
+      let c : collector.Reads services bs r b b =
+      record {
+        answer = sym ok;
+        cause = ap readCause (sym ok);
+        box = rw (stays _ (afterBooking (responseIn services bs) (statusIn bs) (boxOf b)) (boxOf b)) (record { accounts = λ j. refl; vacant = refl });
+        bytes = sym (stays _ _ b);
+      } in
+      by-box (boxReads services o bs r b given c) (k .boxSize) (k .place) refl
 
-    pub knowing : (q : ℕ) → Delivered i (sent q) bs (tally i l .answers) → Octets bs → bookAnswer (g .en) (g .batch) p ≡ box.Known
-        → Next i s b l (boxRead (sent q) bs box.Known) h p
-    knowing q given octets ok =
-        let c = rw (read-as, ok) at (books b bs (k .boxSize) octets) in
-        by-box (boxReads (sent q) bs box.Known b given (c .0)) (k .boxSize) (k .place) refl
+  module _ (bs : List ℕ) (g : Head) (says : Says bs g) (from : g .id ≡ i) where
+    read-as : (services : List ℕ) → readAnswer services bs (boxOf b) ≡ bookAnswer (g .en) (g .batch) p
+    unfolding readAnswer
+    read-as services = rw (says .status services, from, k .place, says .read, says .en, says .entries)
+
+    pub knowing : (services : List ℕ) (q : ℕ) → Delivered services i (sent q) bs (tally i l .answers) → bookAnswer (g .en) (g .batch) p ≡ box.Known
+        → Next i s b l (boxRead services (sent q) bs box.Known) h p
+    knowing services q given ok = passing services (sent q) bs box.Known given (read-as services ∙ ok) (λ A x y. refl)
+
+    -- the octets of the box when it has booked it, the same under every table
+    abbrev booked : List ℕ
+    booked = layout.bookingBytes (boxHears.Status (node (g .id))) (statusIn bs) b
 
     -- the box books it, wherever it comes from
     pub books-it : Octets bs → bookAnswer (g .en) (g .batch) p ≡ box.Booked
-        → collector.Reads bs box.Booked b (layout.responseBytes box.Booked bs b)
-        × Knows i s (layout.responseBytes box.Booked bs b) l h (withEa (g .en) (withBook (p .book ++ g .batch) p))
+        → ((services : List ℕ) → collector.Reads services bs box.Booked b booked)
+        × Knows i s booked l h (withEa (g .en) (withBook (p .book ++ g .batch) p))
     books-it octets ok =
-        let c = rw (read-as, ok) at (books b bs (k .boxSize) octets) in (
-          c .0,
+        let c : (services : List ℕ) → collector.Reads services bs box.Booked b booked × (length booked ≡ collectorLength) =
+        λ services. rw (read-as services, ok, says .status services) at (books services b bs (k .boxSize) octets) in (
+          λ services. c services .0,
           record {
             headSize = k .headSize;
-            boxSize = c .1;
+            boxSize = c [] .1;
             means = k .means;
             rules = k .rules;
-            place = c .0 .box .accounts i ∙ rw (says .status, from, eq-eqb i i refl, k .place, says .read, says .en, says .entries);
+            place = c [] .0 .box .accounts i ∙ rw (says .status [], from, eq-eqb i i refl, k .place, says .read, says .en, says .entries);
           },
         )
 
-    pub booking : (q : ℕ) → Delivered i (sent q) bs (tally i l .answers) → Octets bs → bookAnswer (g .en) (g .batch) p ≡ box.Booked
-        → Next i s b l (boxRead (sent q) bs box.Booked) h (withEa (g .en) (withBook (p .book ++ g .batch) p))
-    booking q given octets ok =
+    pub booking : (services : List ℕ) (q : ℕ) → Delivered services i (sent q) bs (tally i l .answers) → Octets bs
+        → bookAnswer (g .en) (g .batch) p ≡ box.Booked
+        → Next i s b l (boxRead services (sent q) bs box.Booked) h (withEa (g .en) (withBook (p .book ++ g .batch) p))
+    booking services q given octets ok =
         let c = books-it octets ok in
-        by-box (boxReads (sent q) bs box.Booked _ given (c .0)) (c .1 .boxSize) (c .1 .place) refl
-
-  -- a frame that is no StatusResponse
-  pub passing : (o : Origin) (bs : List ℕ) → Delivered i o bs (tally i l .answers) → responseIn bs ≡ boxHears.Other
-      → Next i s b l (boxRead o bs box.NotStatusResponse) h p
-  unfolding readAnswer
-  passing o bs given other =
-      let e : box.NotStatusResponse ≡ readAnswer bs (boxOf b) = rw other in
-      let c : collector.Reads bs box.NotStatusResponse b b =
-      record { answer = e; cause = ap readCause e; box = record { accounts = λ j. refl; vacant = refl }; bytes = refl } in
-      by-box (boxReads o bs box.NotStatusResponse b given c) (k .boxSize) (k .place) refl
+        by-box (boxReads services (sent q) bs box.Booked booked given (c .0 services)) (c .1 .boxSize) (c .1 .place) refl
 
   -- another head is registered, and has a place of its own
   pub registering : (j : ℕ) → eqb i j ≡ false → registerAnswer j (boxOf b) ≡ Registered
@@ -232,5 +242,5 @@ module _ {i : ℕ} {s b : List ℕ} {l : Log} {h : Head} {p : Account} (k : Know
       refl
 
   -- a frame of the box's host
-  pub hosting : (bs : List ℕ) → eaTold i bs ≡ heard.Ea (p .ea) → Next i s b l (hosted bs) h p
-  hosting bs tells = by-box (hosts bs (λ ea e. rw (k .place) cc)) (k .boxSize) (k .place) refl
+  pub hosting : (bs : List ℕ) → ((services : List ℕ) → eaTold services i bs ≡ heard.Ea (p .ea)) → Next i s b l (hosted bs) h p
+  hosting bs tells = by-box (hosts bs (λ services ea e. rw (k .place) (cc (tells services)))) (k .boxSize) (k .place) refl

@@ -58,11 +58,11 @@ opened-fewer h = open-fewer h (h .batch) (h .waiting) refl refl
 -- ---- the head's reading
 
 -- a request that carries this bit
-pub head-hears : {i : ℕ} {w v : World} {o : Origin} {bs : List ℕ} {r : ReadAnswer} {x : Bool} → eaTold i bs ≡ heard.Ea x
+pub head-hears : {i : ℕ} {w v : World} {services : List ℕ} {o : Origin} {bs : List ℕ} {r : ReadAnswer} {x : Bool} → eaTold services i bs ≡ heard.Ea x
     → Held i w
-    → Step i w (headRead o bs r) v
+    → Step i w (headRead services o bs r) v
     → headIn v ≡ afterAcknowledge (eaAnswer x (headIn w)) (headIn w)
-head-hears me t (headReads o bs r after d c) = head-now t bs r after c ∙ rw me
+head-hears me t (headReads services o bs r after d c) = head-now t services bs r after c ∙ rw me
 
 closed-by : (h : Head) (b : List ErrorEntry) → h .batch ≡ b → afterAcknowledge (eaAnswer (h .en) h) h ≡ shut h
 unfolding eaAnswer
@@ -92,11 +92,11 @@ module _ {k : ℕ} where
   few-stays : {i : ℕ} {w v : World} {x : Event} → Step i w x v → NoRaise i x → length (entries (headIn w)) ≤ k
       → length (entries (headIn v)) ≤ k
   few-stays {i} {w} (raise e r after c) unraised few = rw (c .head, not-raised i e r unraised (headIn w)) few
-  few-stays {w} (answer f r after target written c) unraised few = rw (c .head, answered-entries r (headIn w)) few
-  few-stays {w} (headReads o bs r after d c) unraised few =
+  few-stays {w} (answer services f r after target written c) unraised few = rw (c .head, answered-entries r (headIn w)) few
+  few-stays {w} (headReads services o bs r after d c) unraised few =
       elim (read-head r (headIn w)) [ inl e ↦ rw (c .head, e) few | inr e ↦ rw (c .head, e) (shut-few (headIn w) few) ]
   few-stays (register j r after c) unraised few = few
-  few-stays (boxReads o bs r after d c) unraised few = few
+  few-stays (boxReads services o bs r after d c) unraised few = few
   few-stays (request j f r target written c) unraised few = few
   few-stays (takes j r after c) unraised few = few
   few-stays (hosts bs told) unraised few = few

@@ -51,19 +51,19 @@ fits said none room full = clash cc
 fits said (some p) room full = fits-status (said .fields) (said .entries) p room full
 
 -- what the box is given with a new bit carries the open batch, which is not booked, so there is room for it
-room-for : {i p : ℕ} {bs : List ℕ} {w : World} → Ready i w → Roomy i w → Delivered i (sent p) bs (tally i (w .log) .answers)
+room-for : {i p : ℕ} {bs : List ℕ} {w : World} (services : List ℕ) → Ready i w → Roomy i w → Delivered services i (sent p) bs (tally i (w .log) .answers)
     → Bool·beq (enSaid bs) (eaOf (placeFor i w)) ≡ false
     → length (bookOf (placeFor i w)) + length (batchSaid bs) ≤ bookLength
-room-for {i} {p} {bs} {w} y room d new =
+room-for {i} {p} {bs} {w} services y room d new =
     let inv = y .held .inv in
     let (differ, past, bit, same-batch, open?) = answers-fresh (inv .answers) (inv .idle) p bs (d .0) (d .1) (beq-false _ _ new) in
     let en = ruled i (w .log) .en in
     rw (same-batch, ← (y .held .head)) (fits-batch y room (inv .since ∙ ap (λ (b : Bool). Bool·beq b en) differ ∙ beq-not en))
 
-pub room-found : {i p : ℕ} {bs : List ℕ} {r : BoxReadAnswer} {w v : World} → Ready i w → Roomy i w → Step i w (boxRead (sent p) bs r) v
+pub room-found : {i p : ℕ} {services bs : List ℕ} {r : BoxReadAnswer} {w v : World} → Ready i w → Roomy i w → Step i w (boxRead services (sent p) bs r) v
     → r ≡ box.BookFull
     → ⊥
 unfolding readAnswer enSaid batchSaid
-room-found {i} {p} {bs} {w} y room (boxReads from octets told after d c) full =
-    let me = y .held .inv .source p bs (d .1) in
-    fits (statusIn bs) (placeFor i w) (room-for y room d) (rw me at (sym (c .answer) ∙ full))
+room-found {i} {p} {services} {bs} {w} y room (boxReads table from octets told after d c) full =
+    let me = y .held .inv .source p bs (d .1) services in
+    fits (statusIn bs) (placeFor i w) (room-for services y room d) (rw me at (sym (c .answer) ∙ full))

@@ -13,12 +13,11 @@ use borrow.Author.Tests.{eqb-true}
 use Rattle.types.specs.Codes.{pick}
 use Rattle.section.specs.declared.WriteAnswer.the-variants as write
 use Rattle.error_entry.specs.declared.ErrorEntry.{ErrorEntry}
-use Rattle.reporter.specs.Rules.{withBatch, opened, Head, afterRaise, afterAcknowledge, eaTold}
+use Rattle.reporter.specs.Rules.{withBatch, opened, Head, afterRaise, afterAcknowledge}
 use Rattle.reporter.specs.declared.RaiseAnswer.{RaiseAnswer}
 use Rattle.reporter.specs.declared.RaiseAnswer.the-variants.{Raised, EntryInvalid, QueueFull}
 use Rattle.reporter.specs.declared.ReadAnswer.{ReadAnswer}
 use Rattle.reporter.specs.declared.ReadAnswer.the-variants.{Closed, Kept, Ignored, Refused}
-use Rattle.reporter.specs.declared.acknowledge.Heard.the-variants as heard
 use Rattle.collector.specs.Layout.{boxOf}
 use Rattle.collector.specs.Rules.{Said, bookLength, Account, Box, withAccount, afterRegister, afterBooking, afterResponse, withoutFirst, afterTake, responseIn, statusIn}
 use Rattle.collector.specs.declared.ReadAnswer.{ReadAnswer as BoxReadAnswer}
@@ -30,7 +29,7 @@ use Rattle.collector.specs.declared.TakeAnswer.{TakeAnswer}
 use Rattle.collector.specs.declared.TakeAnswer.the-variants as taking
 use Rattle.collector.specs.declared.reading.Heard.{Heard as BoxHeard}
 use Rattle.collector.specs.declared.reading.Heard.the-variants as boxHears
-use Rattle.signaling.specs.Calls.{tally, adds, Tally, nothingYet, sent, foreign, Event, raised, answered, headRead, registered, boxRead, requested, taken, hosted, ifTaken, accepted, handedOut, answersSent, requestsSent, eaOf, World, Step, raise, answer, headReads, register, boxReads, request, takes, hosts}
+use Rattle.signaling.specs.Calls.{tally, adds, Tally, nothingYet, sent, foreign, Event, raised, answered, headRead, registered, boxRead, requested, taken, hosted, ifTaken, accepted, handedOut, answersSent, requestsSent, eaOf, Tells, World, Step, raise, answer, headReads, register, boxReads, request, takes, hosts}
 use Rattle.signaling.specs.Exchanges.{Quiet, NoRepeat, RequestAgain, Quietly, still, next, again, Exchange}
 use Rattle.signaling.proofs.Calls.{read-elsewhere, register-same}
 use Rattle.signaling.proofs.Facts.{clash, either, at-snoc}
@@ -59,13 +58,13 @@ module _ (i : ℕ) (b : Box) (is : IsPlace (b .accounts i)) where
   booking-stays boxHears.Other said = is
   booking-stays (boxHears.Status source) said = with-stays (source .0) _
 
-  read-stays : (bs : List ℕ) (r : BoxReadAnswer) → IsPlace (afterResponse r bs b .accounts i)
-  read-stays bs box.Booked = booking-stays (responseIn bs) (statusIn bs)
-  read-stays bs box.Known = is
-  read-stays bs (box.Refused e) = is
-  read-stays bs box.NotStatusResponse = is
-  read-stays bs box.NotRegistered = is
-  read-stays bs box.BookFull = is
+  read-stays : (services bs : List ℕ) (r : BoxReadAnswer) → IsPlace (afterResponse services r bs b .accounts i)
+  read-stays services bs box.Booked = booking-stays (responseIn services bs) (statusIn bs)
+  read-stays services bs box.Known = is
+  read-stays services bs (box.Refused e) = is
+  read-stays services bs box.NotStatusResponse = is
+  read-stays services bs box.NotRegistered = is
+  read-stays services bs box.BookFull = is
 
   take-stays : (j : ℕ) (r : TakeAnswer) → IsPlace (afterTake r j b .accounts i)
   take-stays j (taking.Taken e) = with-stays j _
@@ -74,10 +73,10 @@ module _ (i : ℕ) (b : Box) (is : IsPlace (b .accounts i)) where
 
 place-stays : {i : ℕ} {w v : World} {x : Event} → Step i w x v → IsPlace (placeFor i w) → IsPlace (placeFor i v)
 place-stays (raise e r after c) y = y
-place-stays (answer f r after target written c) y = y
-place-stays (headReads o bs r after d c) y = y
+place-stays (answer services f r after target written c) y = y
+place-stays (headReads services o bs r after d c) y = y
 place-stays {i} {w} (register j r after c) y = rw (c .box .accounts i) (register-stays i (boxOf (w .box)) y j r)
-place-stays {i} {w} (boxReads o bs r after d c) y = rw (c .box .accounts i) (read-stays i (boxOf (w .box)) y bs r)
+place-stays {i} {w} (boxReads services o bs r after d c) y = rw (c .box .accounts i) (read-stays i (boxOf (w .box)) y services bs r)
 place-stays (request j f r target written c) y = y
 place-stays {i} {w} (takes j r after c) y = rw (c .box .accounts i) (take-stays i (boxOf (w .box)) y j r)
 place-stays (hosts bs told) y = y
@@ -109,10 +108,10 @@ hands-on true taking.NothingBooked es = omega arith
 
 pub room-stays : {i : ℕ} {w v : World} {x : Event} → Step i w x v → NoRaise i x → Roomy i w → Roomy i v
 room-stays {i} {w} (raise e r after c) k y = rw (k (tally i (w .log))) y
-room-stays (answer f r after target written c) k y = y
-room-stays (headReads o bs r after d c) k y = y
+room-stays (answer services f r after target written c) k y = y
+room-stays (headReads services o bs r after d c) k y = y
 room-stays (register j r after c) k y = y
-room-stays (boxReads o bs r after d c) k y = y
+room-stays (boxReads services o bs r after d c) k y = y
 room-stays (request j f r target written c) k y = y
 room-stays {i} {w} (takes j r after c) k y = omega (arith, y, hands-on (eqb j i) r (handedOut i (w .log)))
 room-stays (hosts bs told) k y = y
@@ -122,9 +121,9 @@ quiet-raises-not i (raised e Raised) k = absurd (omega arith)
 quiet-raises-not i (raised e EntryInvalid) k = λ t. refl
 quiet-raises-not i (raised e QueueFull) k = λ t. refl
 quiet-raises-not i (answered r bs) k = λ t. refl
-quiet-raises-not i (headRead o bs r) k = λ t. refl
+quiet-raises-not i (headRead services o bs r) k = λ t. refl
 quiet-raises-not i (registered j r) k = λ t. refl
-quiet-raises-not i (boxRead o bs r) k = λ t. refl
+quiet-raises-not i (boxRead services o bs r) k = λ t. refl
 quiet-raises-not i (requested j r bs) k = λ t. refl
 quiet-raises-not i (taken j r) k = λ t. refl
 quiet-raises-not i (hosted bs) k = λ t. refl
@@ -142,7 +141,7 @@ pub record Calm (i : ℕ) (w v : World) : Type 0 where
   pub answers : (p : ℕ) (a : List ℕ) → getElem? (answersSent i (v .log)) p ≡ some a
       → (getElem? (answersSent i (w .log)) p ≡ some a) ⊎ Says a (headIn v)
   pub requests : (q : ℕ) (f : List ℕ) → getElem? (requestsSent i (v .log)) q ≡ some f
-      → (getElem? (requestsSent i (w .log)) q ≡ some f) ⊎ ((x : Bool) → eaTold i f ≡ heard.Ea x → x ≡ eaOf (placeFor i w))
+      → (getElem? (requestsSent i (w .log)) q ≡ some f) ⊎ Tells i (w .box) f
 
 -- a Take leaves EA
 with-bit : (i j : ℕ) (p : Account) (b : Box) → p .ea ≡ eaOf (b .accounts j) → eaOf (withAccount j p b .accounts i) ≡ eaOf (b .accounts i)
@@ -179,20 +178,20 @@ calm {i} {w} t (raise e r after c) k =
       answers = λ p a y. inl y;
       requests = λ q f y. inl y;
     }
-calm {i} {w} t (answer f (write.Refused e) after target written c) k =
+calm {i} {w} t (answer services f (write.Refused e) after target written c) k =
     record { head = inl (inl (c .head)); bit = refl; answers = λ p a y. inl y; requests = λ q f y. inl y }
-calm {i} {w} t (answer f (write.Written n) after target written c) k =
+calm {i} {w} t (answer services f (write.Written n) after target written c) k =
     record {
       head = inr (c .head);
       bit = refl;
       answers = λ p a y.
           elim (at-snoc (answersSent i (w .log)) (take n written) a p y) [
             | inl z ↦ inl (z .1)
-            | inr z ↦ inr (rw (c .head, ← (z .1)) (answer-says t f n after target written c))
+            | inr z ↦ inr (rw (c .head, ← (z .1)) (answer-says t services f n after target written c))
           ];
       requests = λ q f y. inl y;
     }
-calm {i} {w} t (headReads o bs r after d c) k =
+calm {i} {w} t (headReads services o bs r after d c) k =
     record {
       head = inl (elim (read-head r (headIn w)) [ inl e ↦ inl (c .head ∙ e) | inr e ↦ inr (c .head ∙ e) ]);
       bit = refl;
@@ -206,14 +205,14 @@ calm {i} {w} t (register j r after c) k =
       answers = λ p a y. inl y;
       requests = λ q f y. inl y;
     }
-calm {i} {w} t (boxReads foreign bs r after d c) k =
+calm {i} {w} t (boxReads services foreign bs r after d c) k =
     record {
       head = inl (inl refl);
-      bit = rw (c .box .accounts i, read-elsewhere i bs (boxOf (w .box)) r d);
+      bit = rw (c .box .accounts i, read-elsewhere services i bs (boxOf (w .box)) r d);
       answers = λ p a y. inl y;
       requests = λ q f y. inl y;
     }
-calm {i} {w} t (boxReads (sent p) bs r after d c) k = absurd k
+calm {i} {w} t (boxReads services (sent p) bs r after d c) k = absurd k
 calm {i} {w} t (request j f requesting.NotRegistered target written c) k =
     record { head = inl (inl refl); bit = refl; answers = λ p a y. inl y; requests = λ q f y. inl y }
 calm {i} {w} t (request j f (requesting.Refused e) target written c) k =
@@ -269,7 +268,7 @@ module _ {i : ℕ} (P : World → Type 0) (stays : (w v : World) (x : Event) →
   quiet-stays = stays-with (λ x k. absurd k)
 
   pub requested-stays : {q : ℕ} {bs : List ℕ} {w v : World} → Quietly i (RequestAgain q bs) w v → P w → P v
-  requested-stays = stays-with (λ x k. rw (k .1) (λ t. refl))
+  requested-stays = stays-with (λ x k. rw (k .2) (λ t. refl))
 
   pub until-read : {w v : World} (x : Exchange i w v) → P w → P (x .w₂)
   until-read x y = quiet-stays (x .quiet₁) (stays _ _ _ (x .answers) (λ t. refl) y)
@@ -277,5 +276,5 @@ module _ {i : ℕ} (P : World → Type 0) (stays : (w v : World) (x : Event) →
   pub exchange-stays : {w v : World} → Exchange i w v → P w → P v
   exchange-stays x y =
       let y₃ = stays _ _ _ (x .boxReads) (λ t. refl) (until-read x y) in
-      let y₅ = stays _ _ _ (x .requests) (λ t. refl) (stays-with (λ e k. rw (k .1) (λ t. refl)) (x .quiet₂) y₃) in
+      let y₅ = stays _ _ _ (x .requests) (λ t. refl) (stays-with (λ e k. rw (k .2) (λ t. refl)) (x .quiet₂) y₃) in
       requested-stays (x .quiet₄) (stays _ _ _ (x .headReads) (λ t. refl) (quiet-stays (x .quiet₃) y₅))

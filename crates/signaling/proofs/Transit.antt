@@ -13,7 +13,7 @@ use Rattle.error_entry.specs.declared.ErrorEntry.{ErrorEntry}
 use Rattle.reporter.specs.Rules.{eaTold}
 use Rattle.reporter.specs.declared.acknowledge.Heard.the-variants as heard
 use Rattle.signaling.proofs.Facts.{same-or-not, not-not, opposite, at-snoc, at-lt}
-use Rattle.signaling.proofs.Invariant.{enSaid, batchSaid, Answers, Requests}
+use Rattle.signaling.proofs.Invariant.{Carries, enSaid, batchSaid, Answers, Requests}
 
 -- ---- answers
 
@@ -109,14 +109,13 @@ module _ {i : ℕ} {en ea : Bool} {batch : List ErrorEntry} {sent : List (List �
       }
 
   -- a request to this head carries EA; one to another head says nothing to it
-  pub requests-send : (bs : List ℕ) → ((x : Bool) → eaTold i bs ≡ heard.Ea x → x ≡ ea)
-      → Requests i en ea batch (sent ++ (bs ∷ [])) at turned
+  pub requests-send : (bs : List ℕ) → Carries i ea bs → Requests i en ea batch (sent ++ (bs ∷ [])) at turned
   requests-send bs says =
       record {
-        old = λ q f x hq e me lt.
-            elim (at-snoc sent _ f q e) [ inl h ↦ t .old q f x hq (h .1) me lt | inr h ↦ absurd (omega (arith, t .range, h .0)) ];
-        new = λ q f x hq e me le.
-            elim (at-snoc sent _ f q e) [ inl h ↦ t .new q f x hq (h .1) me le | inr h ↦ says x (rw (h .1) me) ];
+        old = λ q f hq e lt.
+            elim (at-snoc sent _ f q e) [ inl h ↦ t .old q f hq (h .1) lt | inr h ↦ absurd (omega (arith, t .range, h .0)) ];
+        new = λ q f hq e le.
+            elim (at-snoc sent _ f q e) [ inl h ↦ t .new q f hq (h .1) le | inr h ↦ rw (← (h .1)) says ];
         closed = t .closed;
         unread = t .unread;
         range = simp length-append (omega (arith, t .range));
@@ -127,8 +126,8 @@ module _ {i : ℕ} {en ea : Bool} {batch : List ErrorEntry} {sent : List (List �
   pub requests-later : (q : ℕ) → at ≤ q → q < length sent → Requests i en ea batch sent q turned
   requests-later q le lt =
       record {
-        old = λ k f x hk. t .old k f x (omega arith);
-        new = λ k f x hk. t .new k f x (omega arith);
+        old = λ k f hk. t .old k f (omega arith);
+        new = λ k f hk. t .new k f (omega arith);
         closed = λ e. omega (arith, t .closed e);
         unread = λ e. omega (arith, t .unread e);
         range = t .range;
@@ -136,20 +135,20 @@ module _ {i : ℕ} {en ea : Bool} {batch : List ErrorEntry} {sent : List (List �
       }
 
   -- a request to this head whose bit is EN was sent after the batch was booked
-  pub requests-fresh : (q : ℕ) (f : List ℕ) → at ≤ q → getElem? sent q ≡ some f → eaTold i f ≡ heard.Ea en
+  pub requests-fresh : (q : ℕ) (f : List ℕ) → at ≤ q → getElem? sent q ≡ some f → (services : List ℕ) → eaTold services i f ≡ heard.Ea en
       → (ea ≡ en) × (turned ≤ q)
-  requests-fresh q f hq e me =
+  requests-fresh q f hq e services me =
       elim (same-or-not ea en) [
         | inl same ↦
-            elim (le-or-lt turned q) [ inl le ↦ (same, le) | inr lt ↦ opposite en (t .old q f en hq e me lt ∙ ap not same) ]
-        | inr differ ↦ opposite en (t .new q f en hq e me (omega (arith, t .unread differ)) ∙ differ)
+            elim (le-or-lt turned q) [ inl le ↦ (same, le) | inr lt ↦ opposite en (t .old q f hq e lt services en me ∙ ap not same) ]
+        | inr differ ↦ opposite en (t .new q f hq e (omega (arith, t .unread differ)) services en me ∙ differ)
       ]
 
   pub requests-closed : (q : ℕ) → at ≤ q → q < length sent → turned ≤ q → Requests i en ea [] sent q turned
   requests-closed q le lt past =
       record {
-        old = λ k f x hk. t .old k f x (omega arith);
-        new = λ k f x hk. t .new k f x (omega arith);
+        old = λ k f hk. t .old k f (omega arith);
+        new = λ k f hk. t .new k f (omega arith);
         closed = λ e. past;
         unread = λ e. past;
         range = t .range;
@@ -161,8 +160,8 @@ module _ {i : ℕ} {en ea : Bool} {batch : List ErrorEntry} {sent : List (List �
   requests-booked differ open? =
       let past : turned ≤ at = t .unread differ in
       record {
-        old = λ q f x hq e me lt. t .new q f x hq e me (omega arith) ∙ differ;
-        new = λ q f x hq e me le. absurd (omega (arith, at-lt sent f q e));
+        old = λ q f hq e lt. rw differ at (t .new q f hq e (omega arith));
+        new = λ q f hq e le. absurd (omega (arith, at-lt sent f q e));
         closed = λ e. absurd (open? e);
         unread = λ e. opposite en e;
         range = omega arith;

@@ -7,42 +7,43 @@ use mathlib.Core.List.{List, [], _∷_}
 use mathlib.Core.Option.{some}
 use native.Mathlib.Omega.{arith}
 use lib.ListN.{take}
+use Rattle.services.specs.Table.{ds301}
 use Rattle.reporter.specs.Rules.{Head, opened, answerFrame, eaAnswer}
 use Rattle.reporter.specs.declared.ReadAnswer.the-variants.{Closed}
 use Rattle.collector.specs.Rules.{freshAccount, bookAnswer, requestFrame}
 use Rattle.collector.specs.declared.ReadAnswer.the-variants as box
 use Rattle.signaling.specs.Calls.{sent, headRead, boxRead, Log}
-use Rattle.signaling.specs.Example.{five, TwoExchanges}
+use Rattle.signaling.specs.Example.{five, house, TwoExchanges}
 use Rattle.signaling.specs.Exchanges.{done, more, still}
 use Rattle.signaling.proofs.Example.{waits, between, place, answerOf, requestOf, all-raised, reachedWorld, runs, original, reached-raised}
 use Rattle.signaling.proofs.ExampleFrames.{fields, sizes, asked, first, second, answer-octets, first-says, second-says, hears-ea}
 use Rattle.signaling.proofs.Exchanging.{Exchanged, exchanging}
 use Rattle.signaling.proofs.Making.{world, Knows, sent-whole}
 
--- an exchange in which the frames at these places are read
-abbrev exchanged : ℕ → ℕ → Head → Log → Log
-exchanged n m h l =
-    headRead (sent m) (requestFrame 7 asked (h .en)) Closed ∷ requestOf 7 (h .en) ∷ boxRead (sent n) (answerFrame fields h) box.Booked ∷ answerOf h
+-- an exchange in which the frames at these places are read, the request and the answer under these tables
+abbrev exchanged : List ℕ → List ℕ → ℕ → ℕ → Head → Log → Log
+exchanged headServices boxServices n m h l =
+    headRead headServices (sent m) (requestFrame 7 asked (h .en)) Closed ∷ requestOf 7 (h .en) ∷ boxRead boxServices (sent n) (answerFrame fields h) box.Booked ∷ answerOf h
     ∷ l
 
 module _ {s b : List ℕ} where
   exchange₁ : Knows 7 s b all-raised (waits five) freshAccount
-      → Exchanged 7 s b all-raised (exchanged 0 1 first all-raised) between (place true (take 4 five))
+      → Exchanged 7 s b all-raised (exchanged ds301 house 0 1 first all-raised) between (place true (take 4 five))
   unfolding opened asked bookAnswer eaAnswer
   exchange₁ k =
-      exchanging 7 fields asked sizes refl all-raised (waits five) freshAccount 0 1 k (omega arith) first-says refl (answer-octets .0) refl
+      exchanging ds301 house 7 fields asked sizes refl all-raised (waits five) freshAccount 0 1 k (omega arith) first-says refl (answer-octets .0) refl
       (omega arith, ap some (sent-whole (answerFrame fields first)))
       (omega arith)
       (omega arith, ap some (sent-whole (requestFrame 7 asked true)))
       (omega arith)
-      (hears-ea true)
+      (hears-ea ds301 true)
       refl
 
-  exchange₂ : Knows 7 s b (exchanged 0 1 first all-raised) between (place true (take 4 five))
-      → Exchanged 7 s b (exchanged 0 1 first all-raised) (exchanged 1 2 second (exchanged 0 1 first all-raised)) (waits []) (place false five)
+  exchange₂ : Knows 7 s b (exchanged ds301 house 0 1 first all-raised) between (place true (take 4 five))
+      → Exchanged 7 s b (exchanged ds301 house 0 1 first all-raised) (exchanged house ds301 1 2 second (exchanged ds301 house 0 1 first all-raised)) (waits []) (place false five)
   unfolding opened asked bookAnswer eaAnswer
   exchange₂ k =
-      exchanging 7 fields asked sizes refl (exchanged 0 1 first all-raised) between (place true (take 4 five)) 1 2 k (omega arith) second-says
+      exchanging house ds301 7 fields asked sizes refl (exchanged ds301 house 0 1 first all-raised) between (place true (take 4 five)) 1 2 k (omega arith) second-says
       refl
       (answer-octets .1)
       refl
@@ -50,7 +51,7 @@ module _ {s b : List ℕ} where
       (omega arith)
       (omega arith, ap some (sent-whole (requestFrame 7 asked false)))
       (omega arith)
-      (hears-ea false)
+      (hears-ea house false)
       refl
 
 pub two-exchanges : TwoExchanges
@@ -60,7 +61,7 @@ two-exchanges =
     let y = exchange₂ (x .knows) in
     record {
       w = reachedWorld r;
-      v = world (y .state) (y .box) (exchanged 1 2 second (exchanged 0 1 first all-raised));
+      v = world (y .state) (y .box) (exchanged house ds301 1 2 second (exchanged ds301 house 0 1 first all-raised));
       run = runs original (r .onward);
       room = record { account = freshAccount; registered = r .knows .place; free = rw (r .knows .rules) (omega arith) };
       waiting = rw (r .knows .rules);

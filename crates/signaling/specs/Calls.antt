@@ -2,7 +2,8 @@
 -- nothing sent. Each call is any that its contract allows, so this holds of the code. 01's box is the collector, its head the reporter.
 -- Beside the calls stand the frames that the box's host sends by itself; 01's own lists are those without any. A frame of the host that gives
 -- the head an EA gives the box's when it is sent (`Tells`), as `collector::flags` tells it (`FlagsTell`); Example.antt has lists that lose
--- entries by a frame that does not.
+-- entries by a frame that does not. Each Answer and each reading has a table of services of its own (02, CR 1: "An error exchange under any
+-- loaded table books as before"): any octets, more than the 256 that a call can be lent, and others from call to call.
 -- Assumes nothing.
 use Prim.Native.Nat.{ℕ, suc, _≤_}
 use mathlib.Core.Bool.{Bool, true, false, _||_}
@@ -53,9 +54,9 @@ pub data Origin : Type 0 where
 pub data Event : Type 0 where
   raised : ErrorEntry → RaiseAnswer → Event
   answered : WriteAnswer → List ℕ → Event
-  headRead : Origin → List ℕ → ReadAnswer → Event
+  headRead : (services : List ℕ) → Origin → List ℕ → ReadAnswer → Event
   registered : ℕ → RegisterAnswer → Event
-  boxRead : Origin → List ℕ → BoxReadAnswer → Event
+  boxRead : (services : List ℕ) → Origin → List ℕ → BoxReadAnswer → Event
   requested : ℕ → RequestAnswer → List ℕ → Event
   taken : ℕ → TakeAnswer → Event
   hosted : List ℕ → Event
@@ -163,8 +164,8 @@ becomes f s = record { head = f (s .head); openedAt = s .openedAt; isBooked = s 
 abbrev pub raises : ErrorEntry → Head → Head
 raises e h = afterRaise (raiseAnswer e h) e h
 
-abbrev pub hears : ℕ → List ℕ → Head → Head
-hears i bs h = afterAcknowledge (acknowledgeAnswer (eaTold i bs) h) h
+abbrev pub hears : List ℕ → ℕ → List ℕ → Head → Head
+hears services i bs h = afterAcknowledge (acknowledgeAnswer (eaTold services i bs) h) h
 
 abbrev pub answers : WriteAnswer → ℕ → Ruled → Ruled
 answers r next s =
@@ -183,9 +184,9 @@ books o r s = record { head = s .head; openedAt = s .openedAt; isBooked = booksS
 abbrev pub adds : ℕ → Event → Tally → Tally
 adds i (raised e r) t = onEntries (accepts r e) (onRuled (becomes (raises e)) t)
 adds i (answered r bs) t = onAnswers (sends (ifAnswered r bs)) (onRuled (answers r (length (t .answers .frames))) t)
-adds i (headRead o bs r) t = onRequests (gives o) (onRuled (becomes (hears i bs)) t)
+adds i (headRead services o bs r) t = onRequests (gives o) (onRuled (becomes (hears services i bs)) t)
 adds i (registered j r) t = t
-adds i (boxRead o bs r) t = onAnswers (gives o) (onRuled (books o r) t)
+adds i (boxRead services o bs r) t = onAnswers (gives o) (onRuled (books o r) t)
 adds i (requested j r bs) t = onRequests (sends (ifRequested r bs)) t
 adds i (taken j r) t = onEntries (hands (eqb j i) r) t
 adds i (hosted bs) t = onRequests (sends (λ fs. fs ++ (bs ∷ []))) t
@@ -226,7 +227,7 @@ pub record World : Type 0 where
   pub box : List ℕ
   pub log : Log
 
--- "any bytes that `deserialize_frame` refuses or reads with a source other than" i
+-- "any bytes that `deserialize_frame` refuses or reads with a source other than" i, under the table of the reading
 abbrev pub sourceOf : PowerlinkFrame → ℕ
 sourceOf (Soc f) = f .source .0
 sourceOf (PReq f) = f .source .0
@@ -239,35 +240,38 @@ NotFrom i (frame.Refused e) = Unit {0}
 NotFrom i (frame.Frame f) = sourceOf f ≡ i → ⊥
 
 -- what the line does to a frame: it neither alters nor reorders, so what is given is what was sent, at or behind the last place given
-abbrev pub Delivered : ℕ → Origin → List ℕ → Line → Type 0
-Delivered i (sent p) bs l = (l .at ≤ p) × (getElem? (l .frames) p ≡ some bs)
-Delivered i foreign bs l = NotFrom i (readFrame bs)
+abbrev pub Delivered : List ℕ → ℕ → Origin → List ℕ → Line → Type 0
+Delivered services i (sent p) bs l = (l .at ≤ p) × (getElem? (l .frames) p ≡ some bs)
+Delivered services i foreign bs l = NotFrom i (readFrame services bs)
 
 -- EA as the box has it for a head; 0 before the head is registered
 abbrev pub eaOf : Option Account → Bool
 eaOf none = false
 eaOf (some p) = p .ea
 
--- What the box's host may send under 240 on the line of the requests: any octets, as long as those that give head i an EA give the box's
+-- What the box's host may send under 240 on the line of the requests: any octets, as long as those that give head i an EA, under whichever
+-- table, give the box's
 abbrev pub Tells : ℕ → List ℕ → List ℕ → Type 0
-Tells i s bs = (ea : Bool) → eaTold i bs ≡ heard.Ea ea → ea ≡ eaOf (accountOf s i)
+Tells i s bs = (services : List ℕ) (ea : Bool) → eaTold services i bs ≡ heard.Ea ea → ea ≡ eaOf (accountOf s i)
 
 -- One call between the head with ID i and the box, with its event: "the head's Raise, Answer and reading, and the box's registering,
 -- reading, request and Take, these for any ID"; or a frame that the box's host sends. What a call leaves is what its contract says; the other state stays.
 pub data Step (i : ℕ) (w : World) : Event → World → Type 0 where
   raise : (e : ErrorEntry) (r : RaiseAnswer) (after : List ℕ) → reporter.Raises e r (w .head) after
       → Step i w (raised e r) (record { head = after; box = w .box; log = raised e r ∷ w .log })
-  answer : (f : AnswerFields) (r : WriteAnswer) (after target written : List ℕ)
-      → reporter.Answers f r (w .head) after target written
+  answer : (services : List ℕ) (f : AnswerFields) (r : WriteAnswer) (after target written : List ℕ)
+      → reporter.Answers services f r (w .head) after target written
       → Step i w (answered r written) (record { head = after; box = w .box; log = answered r written ∷ w .log })
-  headReads : (o : Origin) (bs : List ℕ) (r : ReadAnswer) (after : List ℕ) → Delivered managingNode o bs (tally i (w .log) .requests)
-      → reporter.Reads bs r (w .head) after
-      → Step i w (headRead o bs r) (record { head = after; box = w .box; log = headRead o bs r ∷ w .log })
+  headReads : (services : List ℕ) (o : Origin) (bs : List ℕ) (r : ReadAnswer) (after : List ℕ)
+      → Delivered services managingNode o bs (tally i (w .log) .requests)
+      → reporter.Reads services bs r (w .head) after
+      → Step i w (headRead services o bs r) (record { head = after; box = w .box; log = headRead services o bs r ∷ w .log })
   register : (j : ℕ) (r : RegisterAnswer) (after : List ℕ) → collector.Registers (node j) r (w .box) after
       → Step i w (registered j r) (record { head = w .head; box = after; log = registered j r ∷ w .log })
-  boxReads : (o : Origin) (bs : List ℕ) (r : BoxReadAnswer) (after : List ℕ) → Delivered i o bs (tally i (w .log) .answers)
-      → collector.Reads bs r (w .box) after
-      → Step i w (boxRead o bs r) (record { head = w .head; box = after; log = boxRead o bs r ∷ w .log })
+  boxReads : (services : List ℕ) (o : Origin) (bs : List ℕ) (r : BoxReadAnswer) (after : List ℕ)
+      → Delivered services i o bs (tally i (w .log) .answers)
+      → collector.Reads services bs r (w .box) after
+      → Step i w (boxRead services o bs r) (record { head = w .head; box = after; log = boxRead services o bs r ∷ w .log })
   request : (j : ℕ) (f : RequestFields) (r : RequestAnswer) (target written : List ℕ)
       → collector.Requests (node j) f r (w .box) target written
       → Step i w (requested j r written) (record { head = w .head; box = w .box; log = requested j r written ∷ w .log })
@@ -326,8 +330,12 @@ pub record Demand3 : Type 0 where
 
 pub record FlagsTell : Type 0 where
   -- a frame that carries what `flags` told is one that the host may send
-  pub tells : (i : ℕ) (s bs : List ℕ) (f : SoAFlags) → collector.Flags (node i) (flagging.Flags f) s → eaTold i bs ≡ heard.Ea (f .ea)
+  pub tells : (services : List ℕ) (i : ℕ) (s bs : List ℕ) (f : SoAFlags) → collector.Flags (node i) (flagging.Flags f) s
+      → eaTold services i bs ≡ heard.Ea (f .ea)
       → Tells i s bs
   -- and where it refuses with 11, one that carries EA 0
-  pub unregistered : (i : ℕ) (s bs : List ℕ) → collector.Flags (node i) flagging.NotRegistered s → eaTold i bs ≡ heard.Ea false
+  pub unregistered : (services : List ℕ) (i : ℕ) (s bs : List ℕ) → collector.Flags (node i) flagging.NotRegistered s
+      → eaTold services i bs ≡ heard.Ea false
       → Tells i s bs
+  -- and so is one that gives the head no EA, under one table and so under all
+  pub silent : (services : List ℕ) (i : ℕ) (s bs : List ℕ) → ((ea : Bool) → eaTold services i bs ≡ heard.Ea ea → ⊥) → Tells i s bs

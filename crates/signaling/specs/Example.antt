@@ -7,9 +7,11 @@ use mathlib.Core.Bool.{true, false}
 use mathlib.Core.Path.{_≡_}
 use mathlib.Core.List.{List, [], _∷_, _++_}
 use mathlib.Core.Option.{some}
-use lib.ListN.{take, drop}
+use lib.ListN.{take, drop, getElem?}
 use Rattle.types.specs.declared.error_mode.ErrorEntryMode.{ErrorEntryMode}
 use Rattle.types.specs.declared.error_mode.ErrorEntryMode.the-variants.{Terminator, ErrorActive, ErrorCleared, EventOccurred}
+use Rattle.types.specs.declared.hal.PowerlinkError.the-variants.{InvalidServiceId}
+use Rattle.services.specs.Table.{tableOf, ds301}
 use Rattle.section.specs.declared.WriteAnswer.{WriteAnswer}
 use Rattle.section.specs.declared.WriteAnswer.the-variants as write
 use Rattle.frame.specs.Write.{frameBytes}
@@ -54,13 +56,17 @@ five =
     entry ErrorActive 0x8161 ∷ entry ErrorCleared 0x8162 ∷ entry EventOccurred 0x8163 ∷ entry ErrorActive 0x8164 ∷ entry ErrorCleared 0x8165
     ∷ []
 
--- the calls and what they answered, without the octets, and the frames of the box's host
+-- a house's table: StatusResponse and a service that DS 301 does not know, without eleven of its own
+abbrev pub house : List ℕ
+house = tableOf (0x02 ∷ 0x20 ∷ [])
+
+-- the calls and what they answered, the readings with their tables, without the octets, and the frames of the box's host
 pub data Call : Type 0 where
   raises : ErrorEntry → RaiseAnswer → Call
   answers : WriteAnswer → Call
-  byHead : Origin → ReadAnswer → Call
+  byHead : List ℕ → Origin → ReadAnswer → Call
   registers : ℕ → RegisterAnswer → Call
-  byBox : Origin → BoxReadAnswer → Call
+  byBox : List ℕ → Origin → BoxReadAnswer → Call
   requests : ℕ → RequestAnswer → Call
   takes : ℕ → TakeAnswer → Call
   hosts : Call
@@ -68,9 +74,9 @@ pub data Call : Type 0 where
 abbrev pub callOf : Event → Call
 callOf (raised e r) = raises e r
 callOf (answered r bs) = answers r
-callOf (headRead o bs r) = byHead o r
+callOf (headRead services o bs r) = byHead services o r
 callOf (registered j r) = registers j r
-callOf (boxRead o bs r) = byBox o r
+callOf (boxRead services o bs r) = byBox services o r
 callOf (requested j r bs) = requests j r
 callOf (taken j r) = takes j r
 callOf (hosted bs) = hosts
@@ -99,21 +105,29 @@ fiveRaised =
 abbrev pub answeredTwice : List Call
 answeredTwice = answers (write.Written 132) ∷ answers (write.Written 132) ∷ []
 
--- a PRes of the other head is no StatusResponse; answer 1 is booked, and its repeat is known
+-- frames from elsewhere: one under the table of DS 301 and an ASnd of service 20h under `house` are no StatusResponse; that ASnd under the
+-- table of DS 301, which does not hold 20h, is refused with 6. Answer 1 is booked under `house`, and its repeat is known under that of DS 301
 abbrev pub readTwice : List Call
-readTwice = byBox foreign box.NotStatusResponse ∷ byBox (sent 1) box.Booked ∷ byBox (sent 1) box.Known ∷ []
-
--- the other head's request and its PRes are ignored; request 1 is lost; request 2 closes the batch, and its repeat closes nothing
-abbrev pub firstClosed : List Call
-firstClosed =
-    byHead (sent 0) head.Ignored ∷ byHead foreign head.Ignored ∷ requests 7 (requesting.Written 60) ∷ requests 7 (requesting.Written 60)
-    ∷ byHead (sent 2) head.Closed
-    ∷ byHead (sent 2) head.Kept
+readTwice =
+    byBox ds301 foreign box.NotStatusResponse ∷ byBox house foreign box.NotStatusResponse
+    ∷ byBox ds301 foreign (box.Refused (InvalidServiceId 0x20))
+    ∷ byBox house (sent 1) box.Booked
+    ∷ byBox ds301 (sent 1) box.Known
     ∷ []
 
--- answer 2 carries the fifth and is booked; a PReq of the box's host, on the line of the requests behind request 2, closes that batch
+-- the other head's request and a frame from elsewhere are ignored; request 1 is lost; request 2 closes the batch under the table of DS 301,
+-- and its repeat under `house` closes nothing
+abbrev pub firstClosed : List Call
+firstClosed =
+    byHead house (sent 0) head.Ignored ∷ byHead ds301 foreign head.Ignored ∷ requests 7 (requesting.Written 60) ∷ requests 7 (requesting.Written 60)
+    ∷ byHead ds301 (sent 2) head.Closed
+    ∷ byHead house (sent 2) head.Kept
+    ∷ []
+
+-- answer 2 carries the fifth and is booked under the table of DS 301; a frame of the box's host, on the line of the requests behind
+-- request 2, closes that batch under `house`
 abbrev pub secondClosed : List Call
-secondClosed = answers (write.Written 72) ∷ byBox (sent 2) box.Booked ∷ hosts ∷ byHead (sent 3) head.Closed ∷ []
+secondClosed = answers (write.Written 72) ∷ byBox ds301 (sent 2) box.Booked ∷ hosts ∷ byHead house (sent 3) head.Closed ∷ []
 
 -- the oldest is taken
 abbrev pub oneTaken : List Call
@@ -123,6 +137,10 @@ pub record LossAndRepeat : Type 0 where
   pub w : World
   pub run : Run 7 w
   pub made : calls (w .log) ≡ atStart ++ (fiveRaised ++ (answeredTwice ++ (readTwice ++ (firstClosed ++ (secondClosed ++ oneTaken)))))
+  -- the ASnd of service 20h: under both tables it is the same frame
+  pub asnd : List ℕ
+  pub held : getElem? (w .log) 14 ≡ some (boxRead house foreign asnd box.NotStatusResponse)
+  pub unheld : getElem? (w .log) 13 ≡ some (boxRead ds301 foreign asnd (box.Refused (InvalidServiceId 0x20)))
   pub entries : accepted 7 (w .log) ≡ five
   pub handed : handedOut 7 (w .log) ≡ take 1 five
   -- the others are booked, and nothing is left at the head
@@ -151,9 +169,9 @@ pub record FreeEaLoses : Type 0 where
   pub entries : accepted 7 (w .log) ≡ five
   pub place : accountOf (w .box) 7 ≡ some (record { ea = false; book = [] })
   pub frame : List ℕ
-  pub gives : eaTold 7 frame ≡ heard.Ea true
+  pub gives : (services : List ℕ) → eaTold services 7 frame ≡ heard.Ea true
   pub after : List ℕ
-  pub reads : reporter.Reads frame head.Closed (w .head) after
+  pub reads : (services : List ℕ) → reporter.Reads services frame head.Closed (w .head) after
   pub left : headOf after ≡ record { id = 7; en = true; batch = []; waiting = entry ErrorCleared 0x8165 ∷ [] }
 
 -- calls that go on from a world
@@ -168,7 +186,7 @@ pub record BuiltAheadLoses : Type 0 where
   pub v : World
   pub before : Run 7 v
   pub frame : List ℕ
-  pub gives : eaTold 7 frame ≡ heard.Ea false
+  pub gives : (services : List ℕ) → eaTold services 7 frame ≡ heard.Ea false
   pub built : Tells 7 (v .box) frame
   pub w : World
   pub onward : Onward 7 v w
@@ -178,7 +196,7 @@ pub record BuiltAheadLoses : Type 0 where
   pub holds : headOf (w .head) ≡ record { id = 7; en = false; batch = entry ErrorCleared 0x8165 ∷ []; waiting = [] }
   pub late : Tells 7 (w .box) frame → ⊥
   pub after : List ℕ
-  pub reads : reporter.Reads frame head.Closed (w .head) after
+  pub reads : (services : List ℕ) → reporter.Reads services frame head.Closed (w .head) after
   pub left : headOf after ≡ record { id = 7; en = false; batch = []; waiting = [] }
 
 -- a StatusResponse of node 7 with EN 0 and no entries, as the writers of frames and of StatusResponses make it: no head is asked
@@ -196,15 +214,15 @@ pub record MadeStatusLoses : Type 0 where
   pub before : accountOf (v .box) 7 ≡ some (record { ea = true; book = take 4 five })
   pub fields : AnswerFields
   -- no step of a list: the head has not sent it, and its source is no other
-  pub strange : (o : Origin) → Delivered 7 o (madeStatus fields) (tally 7 (v .log) .answers) → ⊥
+  pub strange : (services : List ℕ) (o : Origin) → Delivered services 7 o (madeStatus fields) (tally 7 (v .log) .answers) → ⊥
   pub after : List ℕ
-  pub reads : collector.Reads (madeStatus fields) box.Booked (v .box) after
+  pub reads : (services : List ℕ) → collector.Reads services (madeStatus fields) box.Booked (v .box) after
   -- the calls behind it are steps of a list
   pub w : World
   pub onward : Onward 7 (record { head = v .head; box = after; log = v .log }) w
   pub entries : accepted 7 (w .log) ≡ five
   pub made : calls (w .log)
       ≡ calls (v .log)
-      ++ (answers (write.Written 72) ∷ byBox (sent 2) box.Known ∷ requests 7 (requesting.Written 60) ∷ byHead (sent 3) head.Closed ∷ [])
+      ++ (answers (write.Written 72) ∷ byBox house (sent 2) box.Known ∷ requests 7 (requesting.Written 60) ∷ byHead ds301 (sent 3) head.Closed ∷ [])
   pub place : accountOf (w .box) 7 ≡ some (record { ea = false; book = take 4 five })
   pub left : headOf (w .head) ≡ record { id = 7; en = false; batch = []; waiting = [] }

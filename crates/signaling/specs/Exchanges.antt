@@ -32,20 +32,21 @@ Quiet i (raised e Raised) = ⊥
 Quiet i (raised e EntryInvalid) = Unit {0}
 Quiet i (raised e QueueFull) = Unit {0}
 Quiet i (answered r bs) = Unit {0}
-Quiet i (headRead o bs r) = Unit {0}
+Quiet i (headRead services o bs r) = Unit {0}
 Quiet i (registered j r) = Unit {0}
-Quiet i (boxRead (sent p) bs r) = ⊥
-Quiet i (boxRead foreign bs r) = Unit {0}
+Quiet i (boxRead services (sent p) bs r) = ⊥
+Quiet i (boxRead services foreign bs r) = Unit {0}
 Quiet i (requested j r bs) = Unit {0}
 Quiet i (taken j r) = Unit {0}
 Quiet i (hosted bs) = Unit {0}
 
--- "On the line a repeat arrives before any later frame of the same sender": the frame that was read last is read once more
+-- "On the line a repeat arrives before any later frame of the same sender": the frame that was read last is read once more,
+-- under whichever table
 abbrev pub AnswerAgain : ℕ → List ℕ → Event → Type 0
-AnswerAgain p bs x = (r : BoxReadAnswer) × (x ≡ boxRead (sent p) bs r)
+AnswerAgain p bs x = (services : List ℕ) × (r : BoxReadAnswer) × (x ≡ boxRead services (sent p) bs r)
 
 abbrev pub RequestAgain : ℕ → List ℕ → Event → Type 0
-RequestAgain q bs x = (r : ReadAnswer) × (x ≡ headRead (sent q) bs r)
+RequestAgain q bs x = (services : List ℕ) × (r : ReadAnswer) × (x ≡ headRead services (sent q) bs r)
 
 abbrev pub NoRepeat : Event → Type 0
 NoRepeat x = ⊥
@@ -68,9 +69,10 @@ pub record Exchange (i : ℕ) (w v : World) : Type 0 where
   pub quiet₁ : Quietly i NoRepeat w₁ w₂
   pub p : ℕ
   pub answerRead : List ℕ
+  pub boxServices : List ℕ
   pub boxSays : BoxReadAnswer
   pub w₃ : World
-  pub boxReads : Step i w₂ (boxRead (sent p) answerRead boxSays) w₃
+  pub boxReads : Step i w₂ (boxRead boxServices (sent p) answerRead boxSays) w₃
   pub newAnswer : length (answersSent i (w .log)) ≤ p
   pub w₄ : World
   -- nothing in transit "whenever either writes": repeats of the answer come before the box writes
@@ -83,12 +85,13 @@ pub record Exchange (i : ℕ) (w v : World) : Type 0 where
   pub quiet₃ : Quietly i NoRepeat w₅ w₆
   pub q : ℕ
   pub requestRead : List ℕ
+  pub headServices : List ℕ
   pub headSays : ReadAnswer
   pub w₇ : World
-  pub headReads : Step i w₆ (headRead (sent q) requestRead headSays) w₇
+  pub headReads : Step i w₆ (headRead headServices (sent q) requestRead headSays) w₇
   pub newRequest : length (requestsSent i (w₄ .log)) ≤ q
   pub ea : Bool
-  pub mine : eaTold i requestRead ≡ heard.Ea ea
+  pub mine : eaTold headServices i requestRead ≡ heard.Ea ea
   -- and repeats of the request before the head writes again
   pub quiet₄ : Quietly i (RequestAgain q requestRead) w₇ v
 

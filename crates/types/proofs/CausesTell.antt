@@ -8,12 +8,11 @@ use lib.Dec.{eqb, ltb}
 use lib.ListN.{getD}
 use Rattle.types.specs.Causes.{Cause, row, causeOf, errorTold}
 use Rattle.types.specs.CausesTell.{NumbersTell, ErrorsTell, CodesTell}
-use Rattle.types.specs.CodeCauses.{messageCause, stateCause, serviceCause, requestedCause, modeCause}
+use Rattle.types.specs.CodeCauses.{messageCause, stateCause, requestedCause, modeCause}
 use Rattle.types.specs.Codes.{pick}
 use Rattle.types.specs.Messages.{messageOf}
 use Rattle.types.specs.Modes.{modeOf}
 use Rattle.types.specs.RequestedServices.{requestedOf}
-use Rattle.types.specs.Services.{serviceOf}
 use Rattle.types.specs.States.{stateOf}
 use Rattle.types.specs.declared.error_mode.ErrorEntryModeAnswer.{ErrorEntryModeAnswer}
 use Rattle.types.specs.declared.error_mode.ErrorEntryModeAnswer.the-variants as mode
@@ -23,12 +22,10 @@ use Rattle.types.specs.declared.message_type.MessageTypeAnswer.{MessageT
 use Rattle.types.specs.declared.message_type.MessageTypeAnswer.the-variants as message
 use Rattle.types.specs.declared.requested_service.RequestedServiceIdAnswer.{RequestedServiceIdAnswer}
 use Rattle.types.specs.declared.requested_service.RequestedServiceIdAnswer.the-variants as requested
-use Rattle.types.specs.declared.service.ServiceIdAnswer.{ServiceIdAnswer}
-use Rattle.types.specs.declared.service.ServiceIdAnswer.the-variants as service
 use Rattle.types.specs.declared.states.NmtStateAnswer.{NmtStateAnswer}
 use Rattle.types.specs.declared.states.NmtStateAnswer.the-variants as state
 use Rattle.types.proofs.Apart.{apart}
-use Rattle.types.proofs.ReadBack.{message-known, state-known, service-known, requested-known, mode-known}
+use Rattle.types.proofs.ReadBack.{message-known, state-known, requested-known, mode-known}
 
 pub numbers-tell : NumbersTell
 numbers-tell =
@@ -52,6 +49,9 @@ numbers-tell =
       line17 = refl;
       line18 = refl;
       line19 = refl;
+      line20 = refl;
+      line21 = refl;
+      line22 = refl;
     }
 
 -- the first of the values
@@ -129,10 +129,6 @@ state-back : (a : NmtStateAnswer) → codeIn stateOf state.Unknown (stateCause a
 state-back (state.Known s) = state-known s
 state-back (state.Unknown b) = refl
 
-service-back : (a : ServiceIdAnswer) → codeIn serviceOf service.Unknown (serviceCause a) ≡ a
-service-back (service.Known s) = service-known s
-service-back (service.Unknown b) = refl
-
 requested-back : (a : RequestedServiceIdAnswer) → codeIn requestedOf requested.Unknown (requestedCause a) ≡ a
 requested-back (requested.Known s) = requested-known s
 requested-back (requested.Unknown b) = refl
@@ -150,9 +146,6 @@ codes-tell =
       aState = λ s. refl;
       noState = λ b. refl;
       statesApart = apart stateCause (codeIn stateOf state.Unknown) state-back;
-      aService = λ s. refl;
-      noService = λ b. refl;
-      servicesApart = apart serviceCause (codeIn serviceOf service.Unknown) service-back;
       aRequested = λ s. refl;
       noRequested = λ b. refl;
       requestedApart = apart requestedCause (codeIn requestedOf requested.Unknown) requested-back;

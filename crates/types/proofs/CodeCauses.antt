@@ -7,14 +7,13 @@ use mathlib.Core.List.{List, [], _∷_}
 use borrow.Author.Tests.{eqb-true}
 use lib.Dec.{eqb}
 use lib.ListN.{getD}
-use Rattle.types.specs.CauseNumbers.{unknownState, unknownService, unknownRequest}
+use Rattle.types.specs.CauseNumbers.{unknownState, unknownRequest}
 use Rattle.types.specs.Causes.{Cause, row}
-use Rattle.types.specs.CodeCauses.{codeRow, messageCause, stateCause, serviceCause, requestedCause, modeCause, ReadsMessage, ReadsState, ReadsService, ReadsRequested, ReadsMode}
+use Rattle.types.specs.CodeCauses.{codeRow, messageCause, stateCause, requestedCause, modeCause, ReadsMessage, ReadsState, ReadsRequested, ReadsMode}
 use Rattle.types.specs.Codes.{pick, decoded}
 use Rattle.types.specs.Messages.{messageCode, messages, messageOf}
 use Rattle.types.specs.Modes.{modeCode, modes, modeOf}
 use Rattle.types.specs.RequestedServices.{requestedCode, requestedServices, requestedOf}
-use Rattle.types.specs.Services.{serviceCode, services, serviceOf}
 use Rattle.types.specs.States.{stateCode, states, stateOf}
 use Rattle.types.specs.declared.error_mode.ErrorEntryModeAnswer.{ErrorEntryModeAnswer}
 use Rattle.types.specs.declared.error_mode.ErrorEntryModeAnswer.the-variants as mode
@@ -23,9 +22,6 @@ use Rattle.types.specs.declared.message_type.MessageTypeAnswer.the-varia
 use Rattle.types.specs.declared.requested_service.RequestedServiceId.{RequestedServiceId}
 use Rattle.types.specs.declared.requested_service.RequestedServiceIdAnswer.{RequestedServiceIdAnswer}
 use Rattle.types.specs.declared.requested_service.RequestedServiceIdAnswer.the-variants as requested
-use Rattle.types.specs.declared.service.ServiceId.{ServiceId}
-use Rattle.types.specs.declared.service.ServiceIdAnswer.{ServiceIdAnswer}
-use Rattle.types.specs.declared.service.ServiceIdAnswer.the-variants as service
 use Rattle.types.specs.declared.states.NmtState.{NmtState}
 use Rattle.types.specs.declared.states.NmtStateAnswer.{NmtStateAnswer}
 use Rattle.types.specs.declared.states.NmtStateAnswer.the-variants as state
@@ -62,14 +58,6 @@ module _ (b : ℕ) where
         cause = ap stateCause e ∙ decoded-told stateCode state.Known (state.Unknown b) stateCause read b (λ x. refl) states;
       }
 
-  pub service-told : (r : ServiceIdAnswer) → r ≡ serviceOf b → ReadsService b r
-  unfolding serviceOf
-  service-told r e =
-      record {
-        answer = e;
-        cause = ap serviceCause e ∙ decoded-told serviceCode service.Known (service.Unknown b) serviceCause read b (λ x. refl) services;
-      }
-
   pub requested-told : (r : RequestedServiceIdAnswer) → r ≡ requestedOf b → ReadsRequested b r
   unfolding requestedOf
   requested-told r e =
@@ -101,11 +89,6 @@ same-value code n b (x ∷ xs) = split (eqb b (code x)) (same-value code n b xs)
 pub state-code : (b : ℕ) (x : NmtState) → stateOf b ≡ state.Known x → stateCode x ≡ b
 state-code b x e =
     ap (λ (c : Cause). getD (c .returned) 0 0) (ap stateCause (sym e) ∙ state-told b (stateOf b) refl .cause) ∙ same-value stateCode unknownState b states
-
-pub service-code : (b : ℕ) (x : ServiceId) → serviceOf b ≡ service.Known x → serviceCode x ≡ b
-service-code b x e =
-    ap (λ (c : Cause). getD (c .returned) 0 0) (ap serviceCause (sym e) ∙ service-told b (serviceOf b) refl .cause)
-    ∙ same-value serviceCode unknownService b services
 
 pub requested-code : (b : ℕ) (x : RequestedServiceId) → requestedOf b ≡ requested.Known x → requestedCode x ≡ b
 requested-code b x e =

@@ -33,22 +33,6 @@ last-unlisted code d b [] = either (eqb b (code d))
     either false = refl
 last-unlisted code d b (x ∷ xs) = ap (λ r. pick (eqb b (code x)) x r) (last-unlisted code d b xs)
 
--- whether b is the code of one of the values
-abbrev pub listed : {A : Type 0} → (A → ℕ) → List A → ℕ → Bool
-listed code [] b = false
-listed code (x ∷ xs) b = pick (eqb b (code x)) true (listed code xs b)
-
-named-step : {A R : Type 0} (known : A → R) (x y : A) (r : R) (e l : Bool) → (T l → known y ≡ r) → T (pick e true l)
-    → known (pick e x y) ≡ pick e (known x) r
-named-step known x y r true l rest t = refl
-named-step known x y r false l rest t = rest t
-
--- a listed code names the same value, whatever stands for one that is not listed
-pub named : {A R : Type 0} (code : A → ℕ) (known : A → R) (other : R) (d : A) (b : ℕ) (xs : List A)
-    → T (listed code xs b) → known (decoded code (λ x. x) d xs b) ≡ decoded code known other xs b
-named code known other d b [] t = absurd t
-named code known other d b (x ∷ xs) t = named-step known x _ _ (eqb b (code x)) (listed code xs b) (named code known other d b xs) t
-
 -- the test passes at each of the n numbers from i on
 abbrev pub every : (ℕ → Bool) → ℕ → ℕ → Bool
 every f zero i = true

@@ -8,4 +8,3 @@ pub mod Modes
 pub mod PollBack
 pub mod Priorities
 pub mod ReadBack
-pub mod ServiceLaws

@@ -4,7 +4,6 @@ use mathlib.Core.Path.{_≡_, refl}
 use Rattle.types.specs.Messages.{messageCode, messageOf}
 use Rattle.types.specs.States.{stateCode, stateOf}
 use Rattle.types.specs.PollFlags.{priorityCode, priorityIn}
-use Rattle.types.specs.Services.{serviceCode, serviceOf}
 use Rattle.types.specs.RequestedServices.{requestedCode, requestedOf}
 use Rattle.types.specs.Modes.{modeCode, modeOf}
 use Rattle.types.specs.ReadBack.{CodesReadBack}
@@ -16,9 +15,6 @@ use Rattle.types.specs.declared.states.NmtState.the-variants.{NmtGsOff, 
 use Rattle.types.specs.declared.states.NmtStateAnswer.the-variants as state
 use Rattle.types.specs.declared.poll_flags.PRFlag.{PRFlag}
 use Rattle.types.specs.declared.poll_flags.PRFlag.the-variants.{PrioNmtRequest, High3, High2, High1, PrioGenericRequest, Low3, Low2, Low1}
-use Rattle.types.specs.declared.service.ServiceId.{ServiceId}
-use Rattle.types.specs.declared.service.ServiceId.the-variants.{IdentResponse, StatusResponse, NmtRequest, NmtCommand, Sdo, NMTPublishTime, NMTPublishNMTState, NMTPublishNodeState, NMTPublishNodeList, NMTPublishEmergNew, NMTPublishHeartbeat, NMTPublishActiveNodes}
-use Rattle.types.specs.declared.service.ServiceIdAnswer.the-variants as service
 use Rattle.types.specs.declared.requested_service.RequestedServiceId.{RequestedServiceId}
 use Rattle.types.specs.declared.requested_service.RequestedServiceId.the-variants.{NoService, IdentRequest, StatusRequest, NmtRequestInvite, UnspecifiedInvite}
 use Rattle.types.specs.declared.requested_service.RequestedServiceIdAnswer.the-variants as requested
@@ -60,21 +56,6 @@ priority-known Low3 = refl
 priority-known Low2 = refl
 priority-known Low1 = refl
 
-pub service-known : (x : ServiceId) → serviceOf (serviceCode x) ≡ service.Known x
-unfolding serviceOf
-service-known IdentResponse = refl
-service-known StatusResponse = refl
-service-known NmtRequest = refl
-service-known NmtCommand = refl
-service-known Sdo = refl
-service-known NMTPublishTime = refl
-service-known NMTPublishNMTState = refl
-service-known NMTPublishNodeState = refl
-service-known NMTPublishNodeList = refl
-service-known NMTPublishEmergNew = refl
-service-known NMTPublishHeartbeat = refl
-service-known NMTPublishActiveNodes = refl
-
 pub requested-known : (x : RequestedServiceId) → requestedOf (requestedCode x) ≡ requested.Known x
 unfolding requestedOf
 requested-known NoService = refl
@@ -96,7 +77,6 @@ codes-read-back =
       messages = message-known;
       states = state-known;
       priorities = priority-known;
-      services = service-known;
       requestedServices = requested-known;
       modes = mode-known;
     }

@@ -1,4 +1,4 @@
--- 01's table of causes, the column "Number". The names are those of include/powerlink.h.
+-- 01's table of causes, the column "Number", and the numbers that 02 adds. The names are those of include/powerlink.h.
 -- Assumes nothing.
 use Prim.Native.Nat.{ℕ}
 
@@ -77,3 +77,17 @@ unknownVersion = 18
 -- record cut, mode 0 or ID not 1 to 239
 abbrev pub recordInvalid : ℕ
 recordInvalid = 19
+
+-- ---- 02, CR 1
+
+-- table of services under 5 bytes, or its mark or version wrong
+abbrev pub notATable : ℕ
+notATable = 20
+
+-- its IDs not strictly ascending
+abbrev pub notAscending : ℕ
+notAscending = 21
+
+-- 2 not among them
+abbrev pub withoutStatusResponse : ℕ
+withoutStatusResponse = 22

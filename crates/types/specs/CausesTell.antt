@@ -4,13 +4,12 @@ use Prim.Native.Nat.{ℕ}
 use mathlib.Core.Path.{_≡_}
 use mathlib.Core.List.{[], _∷_}
 use lib.ListN.{getD}
-use Rattle.types.specs.CauseNumbers.{tooShort, notPowerlink, invalidFrame, unknownMessage, unknownState, unknownService, unknownRequest, entryInvalid, queueFull, notStatusResponse, notRegistered, bookFull, idOutOfRange, idRegistered, fourRegistered, nothingBooked, notAJournal, unknownVersion, recordInvalid}
+use Rattle.types.specs.CauseNumbers.{tooShort, notPowerlink, invalidFrame, unknownMessage, unknownState, unknownService, unknownRequest, entryInvalid, queueFull, notStatusResponse, notRegistered, bookFull, idOutOfRange, idRegistered, fourRegistered, nothingBooked, notAJournal, unknownVersion, recordInvalid, notATable, notAscending, withoutStatusResponse}
 use Rattle.types.specs.Causes.{row, causeOf, errorTold}
-use Rattle.types.specs.CodeCauses.{messageCause, stateCause, serviceCause, requestedCause, modeCause}
+use Rattle.types.specs.CodeCauses.{messageCause, stateCause, requestedCause, modeCause}
 use Rattle.types.specs.Messages.{messageCode}
 use Rattle.types.specs.Modes.{modeCode}
 use Rattle.types.specs.RequestedServices.{requestedCode}
-use Rattle.types.specs.Services.{serviceCode}
 use Rattle.types.specs.States.{stateCode}
 use Rattle.types.specs.declared.error_mode.ErrorEntryMode.{ErrorEntryMode}
 use Rattle.types.specs.declared.error_mode.ErrorEntryModeAnswer.{ErrorEntryModeAnswer}
@@ -23,9 +22,6 @@ use Rattle.types.specs.declared.message_type.MessageTypeAnswer.the-varia
 use Rattle.types.specs.declared.requested_service.RequestedServiceId.{RequestedServiceId}
 use Rattle.types.specs.declared.requested_service.RequestedServiceIdAnswer.{RequestedServiceIdAnswer}
 use Rattle.types.specs.declared.requested_service.RequestedServiceIdAnswer.the-variants as requested
-use Rattle.types.specs.declared.service.ServiceId.{ServiceId}
-use Rattle.types.specs.declared.service.ServiceIdAnswer.{ServiceIdAnswer}
-use Rattle.types.specs.declared.service.ServiceIdAnswer.the-variants as service
 use Rattle.types.specs.declared.states.NmtState.{NmtState}
 use Rattle.types.specs.declared.states.NmtStateAnswer.{NmtStateAnswer}
 use Rattle.types.specs.declared.states.NmtStateAnswer.the-variants as state
@@ -51,6 +47,10 @@ pub record NumbersTell : Type 0 where
   pub line17 : notAJournal ≡ 17
   pub line18 : unknownVersion ≡ 18
   pub line19 : recordInvalid ≡ 19
+  -- 02, CR 1
+  pub line20 : notATable ≡ 20
+  pub line21 : notAscending ≡ 21
+  pub line22 : withoutStatusResponse ≡ 22
 
 -- the errors of frames, with the column "Returned"
 pub record ErrorsTell : Type 0 where
@@ -73,9 +73,6 @@ pub record CodesTell : Type 0 where
   pub aState : (s : NmtState) → stateCause (state.Known s) ≡ row 0 (stateCode s ∷ [])
   pub noState : (b : ℕ) → stateCause (state.Unknown b) ≡ row 5 (b ∷ [])
   pub statesApart : (a b : NmtStateAnswer) → stateCause a ≡ stateCause b → a ≡ b
-  pub aService : (s : ServiceId) → serviceCause (service.Known s) ≡ row 0 (serviceCode s ∷ [])
-  pub noService : (b : ℕ) → serviceCause (service.Unknown b) ≡ row 6 (b ∷ [])
-  pub servicesApart : (a b : ServiceIdAnswer) → serviceCause a ≡ serviceCause b → a ≡ b
   pub aRequested : (s : RequestedServiceId) → requestedCause (requested.Known s) ≡ row 0 (requestedCode s ∷ [])
   pub noRequested : (b : ℕ) → requestedCause (requested.Unknown b) ≡ row 7 (b ∷ [])
   pub requestedApart : (a b : RequestedServiceIdAnswer) → requestedCause a ≡ requestedCause b → a ≡ b

@@ -3,13 +3,12 @@
 use Prim.Native.Nat.{ℕ}
 use mathlib.Core.Path.{_≡_}
 use mathlib.Core.List.{List, [], _∷_}
-use Rattle.types.specs.CauseNumbers.{unknownMessage, unknownState, unknownService, unknownRequest, entryInvalid}
+use Rattle.types.specs.CauseNumbers.{unknownMessage, unknownState, unknownRequest, entryInvalid}
 use Rattle.types.specs.Causes.{Cause, row}
 use Rattle.types.specs.Codes.{decoded}
 use Rattle.types.specs.Messages.{messageCode, messages, messageOf}
 use Rattle.types.specs.Modes.{modeCode, modes, modeOf}
 use Rattle.types.specs.RequestedServices.{requestedCode, requestedServices, requestedOf}
-use Rattle.types.specs.Services.{serviceCode, services, serviceOf}
 use Rattle.types.specs.States.{stateCode, states, stateOf}
 use Rattle.types.specs.declared.error_mode.ErrorEntryModeAnswer.{ErrorEntryModeAnswer}
 use Rattle.types.specs.declared.error_mode.ErrorEntryModeAnswer.the-variants as mode
@@ -17,8 +16,6 @@ use Rattle.types.specs.declared.message_type.MessageTypeAnswer.{MessageT
 use Rattle.types.specs.declared.message_type.MessageTypeAnswer.the-variants as message
 use Rattle.types.specs.declared.requested_service.RequestedServiceIdAnswer.{RequestedServiceIdAnswer}
 use Rattle.types.specs.declared.requested_service.RequestedServiceIdAnswer.the-variants as requested
-use Rattle.types.specs.declared.service.ServiceIdAnswer.{ServiceIdAnswer}
-use Rattle.types.specs.declared.service.ServiceIdAnswer.the-variants as service
 use Rattle.types.specs.declared.states.NmtStateAnswer.{NmtStateAnswer}
 use Rattle.types.specs.declared.states.NmtStateAnswer.the-variants as state
 
@@ -31,10 +28,6 @@ messageCause (message.Unknown b) = row unknownMessage (b ∷ [])
 abbrev pub stateCause : NmtStateAnswer → Cause
 stateCause (state.Known s) = row 0 (stateCode s ∷ [])
 stateCause (state.Unknown b) = row unknownState (b ∷ [])
-
-abbrev pub serviceCause : ServiceIdAnswer → Cause
-serviceCause (service.Known s) = row 0 (serviceCode s ∷ [])
-serviceCause (service.Unknown b) = row unknownService (b ∷ [])
 
 abbrev pub requestedCause : RequestedServiceIdAnswer → Cause
 requestedCause (requested.Known s) = row 0 (requestedCode s ∷ [])
@@ -60,9 +53,6 @@ ReadsMessage b r = ReadsCode messageCause (messageOf b) (codeRow messageCode mes
 
 abbrev pub ReadsState : ℕ → NmtStateAnswer → Type 0
 ReadsState b r = ReadsCode stateCause (stateOf b) (codeRow stateCode states unknownState b) r
-
-abbrev pub ReadsService : ℕ → ServiceIdAnswer → Type 0
-ReadsService b r = ReadsCode serviceCause (serviceOf b) (codeRow serviceCode services unknownService b) r
 
 abbrev pub ReadsRequested : ℕ → RequestedServiceIdAnswer → Type 0
 ReadsRequested b r = ReadsCode requestedCause (requestedOf b) (codeRow requestedCode requestedServices unknownRequest b) r

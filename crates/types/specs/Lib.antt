@@ -12,5 +12,4 @@ pub mod Nodes
 pub mod PollFlags
 pub mod ReadBack
 pub mod RequestedServices
-pub mod Services
 pub mod States

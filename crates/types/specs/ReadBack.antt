@@ -5,7 +5,6 @@ use Rattle.types.specs.Messages.{messageCode, messageOf}
 use Rattle.types.specs.Modes.{modeCode, modeOf}
 use Rattle.types.specs.PollFlags.{priorityCode, priorityIn}
 use Rattle.types.specs.RequestedServices.{requestedCode, requestedOf}
-use Rattle.types.specs.Services.{serviceCode, serviceOf}
 use Rattle.types.specs.States.{stateCode, stateOf}
 use Rattle.types.specs.declared.error_mode.ErrorEntryMode.{ErrorEntryMode}
 use Rattle.types.specs.declared.error_mode.ErrorEntryModeAnswer.the-variants as mode
@@ -14,8 +13,6 @@ use Rattle.types.specs.declared.message_type.MessageTypeAnswer.the-varia
 use Rattle.types.specs.declared.poll_flags.PRFlag.{PRFlag}
 use Rattle.types.specs.declared.requested_service.RequestedServiceId.{RequestedServiceId}
 use Rattle.types.specs.declared.requested_service.RequestedServiceIdAnswer.the-variants as requested
-use Rattle.types.specs.declared.service.ServiceId.{ServiceId}
-use Rattle.types.specs.declared.service.ServiceIdAnswer.the-variants as service
 use Rattle.types.specs.declared.states.NmtState.{NmtState}
 use Rattle.types.specs.declared.states.NmtStateAnswer.the-variants as state
 
@@ -23,6 +20,5 @@ pub record CodesReadBack : Type 0 where
   pub messages : (m : MessageType) → messageOf (messageCode m) ≡ message.Known m
   pub states : (s : NmtState) → stateOf (stateCode s) ≡ state.Known s
   pub priorities : (p : PRFlag) → priorityIn (priorityCode p) ≡ p
-  pub services : (s : ServiceId) → serviceOf (serviceCode s) ≡ service.Known s
   pub requestedServices : (s : RequestedServiceId) → requestedOf (requestedCode s) ≡ requested.Known s
   pub modes : (m : ErrorEntryMode) → modeOf (modeCode m) ≡ mode.Known m

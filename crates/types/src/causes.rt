@@ -1,4 +1,4 @@
-// The numbers of 01's table of causes, which a refusal returns. The names are those of include/powerlink.h.
+// The numbers of 01's table of causes, and of those that 02 adds, which a refusal returns. The names are those of include/powerlink.h.
 
 // Input or target shorter than needed.
 pub const TOO_SHORT: u8 = 1;
@@ -56,3 +56,12 @@ pub const UNKNOWN_VERSION: u8 = 18;
 
 // Record cut, mode 0 or ID not 1 to 239.
 pub const RECORD_INVALID: u8 = 19;
+
+// Table of services under 5 bytes, or its mark or version wrong (02, CR 1).
+pub const NOT_A_TABLE: u8 = 20;
+
+// Its IDs not strictly ascending.
+pub const NOT_ASCENDING: u8 = 21;
+
+// 2, which is StatusResponse, not among them.
+pub const WITHOUT_STATUS_RESPONSE: u8 = 22;

@@ -12,7 +12,6 @@ pub mod mapping;
 pub mod message_type;
 pub mod poll_flags;
 pub mod requested_service;
-pub mod service;
 pub mod states;
 
 // A POWERLINK node ID. Any octet is one: what a frame holds is kept as it stands.

@@ -1,7 +1,7 @@
 //! Asynchronous Send (EPSG DS 301, 4.6.1.1.6).
 use super::{EthernetHeader, MacAddress, NewFrame};
-use crate::codes::ServiceId;
 use crate::ffi;
+use crate::services::{ServiceId, Services};
 use crate::types::{NodeId, C_DLL_MULTICAST_ASND};
 use crate::Error;
 
@@ -42,16 +42,21 @@ impl ASndFrame {
     }
 
     /// Writes the frame without its Ethernet header: 4 octets and the payload, padded with zeros to
-    /// 46, or a refusal of a shorter target (1).
-    pub fn serialize(&self, payload: &[u8], target: &mut [u8]) -> Result<usize, Error> {
-        ffi::serialize_asnd(self, payload, target)
+    /// 46. Refused are a shorter target (1), then a service that the table does not hold (6).
+    pub fn serialize(
+        &self,
+        services: &Services,
+        payload: &[u8],
+        target: &mut [u8],
+    ) -> Result<usize, Error> {
+        ffi::serialize_asnd(services, self, payload, target)
     }
 }
 
 impl NewFrame<'_, ASndFrame> {
-    /// Writes the whole frame: 18 octets and the payload, padded with zeros to 60, or a refusal of
-    /// a shorter target (1).
-    pub fn write_frame(&self, target: &mut [u8]) -> Result<usize, Error> {
-        ffi::new_asnd(self, target)
+    /// Writes the whole frame: 18 octets and the payload, padded with zeros to 60. Refused are a
+    /// shorter target (1), then a service that the table does not hold (6).
+    pub fn write_frame(&self, services: &Services, target: &mut [u8]) -> Result<usize, Error> {
+        ffi::new_asnd(services, self, target)
     }
 }

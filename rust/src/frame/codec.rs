@@ -7,29 +7,32 @@ use crate::codes::{MessageType, PRFlag, RSFlag};
 use crate::common::{NetTime, RelativeTime};
 use crate::ffi;
 use crate::numbers::{code, flag, narrow};
+use crate::services::{ServiceId, Services};
 use crate::types::{EPLVersion, NodeId, PDOVersion};
 use crate::Error;
 
 /// Reads a frame, from its Ethernet header on. Tested are, in this order: 14 octets (1), the
 /// EtherType (2), that a section follows (3), its message type (4), then the kind's own rules (1,
-/// 3, 5, 6, 7).
+/// 3, 5, 6, 7), of which 6 is an ASnd whose service the table does not hold.
 ///
 /// The payload of an ASnd whose section has exactly 46 octets loses the zeros at its end, since it
 /// may be padded.
 ///
 /// ```
-/// use powerlink::{deserialize_frame, Error, PowerlinkFrame};
+/// use powerlink::{deserialize_frame, Error, PowerlinkFrame, Services};
 ///
+/// let services = Services::default();
 /// let mut octets = [0; 24];
 /// octets[12..15].copy_from_slice(&[0x88, 0xAB, 3]);
-/// let frame = deserialize_frame(&octets)?;
+/// let frame = deserialize_frame(&services, &octets)?;
 /// assert!(matches!(frame.frame, PowerlinkFrame::PReq(preq) if preq.payload_size == 0));
 ///
-/// assert_eq!(deserialize_frame(&octets[..13]), Err(Error::BufferTooShort));
+/// let refused = deserialize_frame(&services, &octets[..13]);
+/// assert_eq!(refused, Err(Error::BufferTooShort));
 /// # Ok::<(), Error>(())
 /// ```
-pub fn deserialize_frame(buffer: &[u8]) -> Result<Frame<'_>, Error> {
-    let values = ffi::deserialize_frame(buffer)?;
+pub fn deserialize_frame<'a>(services: &Services, buffer: &'a [u8]) -> Result<Frame<'a>, Error> {
+    let values = ffi::deserialize_frame(services, buffer)?;
     let start: usize = narrow(values[3]);
     let len: usize = narrow(values[4]);
     Ok(Frame {
@@ -98,7 +101,7 @@ fn frame_of(values: &[u64; 16]) -> PowerlinkFrame {
         MessageType::ASnd => PowerlinkFrame::ASnd(ASndFrame {
             destination,
             source,
-            service_id: code(values[5]),
+            service_id: ServiceId(narrow(values[5])),
         }),
     }
 }
@@ -107,8 +110,10 @@ fn frame_of(values: &[u64; 16]) -> PowerlinkFrame {
 /// `new` has made is better written with `write_frame`, which is one call of the library; this
 /// joins two, and the joining is not proved.
 ///
-/// Refuses with 1 where the target is too short, and leaves it as it was.
+/// Refused are a target that is too short (1), then an ASnd whose service the table does not hold
+/// (6); either leaves the target as it was.
 pub fn serialize_frame(
+    services: &Services,
     eth_header: &EthernetHeader,
     frame: &PowerlinkFrame,
     payload: &[u8],
@@ -118,7 +123,7 @@ pub fn serialize_frame(
     let Some((front, section)) = target.split_at_mut_checked(14) else {
         return Err(Error::BufferTooShort);
     };
-    let len = frame.serialize(payload, section)?;
+    let len = frame.serialize(services, payload, section)?;
     Ok(serialize_eth_header(eth_header, front)? + len)
 }
 

@@ -22,6 +22,7 @@ pub use soa::{SoAFlags, SoAFrame};
 pub use soc::{SocFlags, SocFrame};
 pub use status_response::{ErrorEntries, StaticErrorBitField, StatusFields, StatusResponse};
 
+use crate::services::Services;
 use crate::Error;
 
 /// A frame of one of the five kinds, but for its Ethernet header and its payload.
@@ -41,14 +42,20 @@ pub enum PowerlinkFrame {
 
 impl PowerlinkFrame {
     /// Writes the frame without its Ethernet header, padded with zeros to 46 octets, and gives how
-    /// many were written. SoC and SoA have no payload: what is lent as one is left aside.
-    pub fn serialize(&self, payload: &[u8], target: &mut [u8]) -> Result<usize, Error> {
+    /// many were written. SoC and SoA have no payload: what is lent as one is left aside. Refused
+    /// are a shorter target (1), then an ASnd whose service the table does not hold (6).
+    pub fn serialize(
+        &self,
+        services: &Services,
+        payload: &[u8],
+        target: &mut [u8],
+    ) -> Result<usize, Error> {
         match self {
             PowerlinkFrame::Soc(frame) => frame.serialize(target),
             PowerlinkFrame::PReq(frame) => frame.serialize(payload, target),
             PowerlinkFrame::PRes(frame) => frame.serialize(payload, target),
             PowerlinkFrame::SoA(frame) => frame.serialize(target),
-            PowerlinkFrame::ASnd(frame) => frame.serialize(payload, target),
+            PowerlinkFrame::ASnd(frame) => frame.serialize(services, payload, target),
         }
     }
 }
@@ -93,8 +100,14 @@ pub struct Frame<'a> {
 
 impl Frame<'_> {
     /// Writes the whole frame: see [`serialize_frame`].
-    pub fn write_frame(&self, target: &mut [u8]) -> Result<usize, Error> {
-        serialize_frame(&self.eth_header, &self.frame, self.payload, target)
+    pub fn write_frame(&self, services: &Services, target: &mut [u8]) -> Result<usize, Error> {
+        serialize_frame(
+            services,
+            &self.eth_header,
+            &self.frame,
+            self.payload,
+            target,
+        )
     }
 }
 

@@ -1,9 +1,9 @@
 //! Each cause at its smallest input, and the order of the tests.
-use crate::{answer, entry, framed, request_fields};
+use crate::{answer, entry, framed, request_fields, DS301};
 use powerlink::*;
 
 fn refused(octets: &[u8]) -> Error {
-    deserialize_frame(octets).unwrap_err()
+    deserialize_frame(DS301, octets).unwrap_err()
 }
 
 #[test]
@@ -24,10 +24,10 @@ fn too_short() {
     // A payload that does not fit.
     let preq = [3, 0, 0, 0, 0, 0, 0, 0, 1, 0];
     assert_eq!(refused(&framed(&preq)), Error::BufferTooShort);
-    assert!(deserialize_frame(&framed(&[&preq[..], &[9]].concat())).is_ok());
+    assert!(deserialize_frame(DS301, &framed(&[&preq[..], &[9]].concat())).is_ok());
     let pres = [4, 255, 0, 0, 0, 0, 0, 0, 1, 0];
     assert_eq!(refused(&framed(&pres)), Error::BufferTooShort);
-    assert!(deserialize_frame(&framed(&[&pres[..], &[9]].concat())).is_ok());
+    assert!(deserialize_frame(DS301, &framed(&[&pres[..], &[9]].concat())).is_ok());
 }
 
 #[test]
@@ -126,7 +126,7 @@ fn what_the_box_does_not_book() {
     the_box.register(NodeId(7)).unwrap();
     let before = *the_box.as_bytes();
     let mut refuse = |octets: &[u8], cause| {
-        assert_eq!(the_box.read(octets), Err(cause));
+        assert_eq!(the_box.read(DS301, octets), Err(cause));
         assert_eq!(the_box.as_bytes(), &before);
     };
     refuse(&[], Error::BufferTooShort);
@@ -164,7 +164,7 @@ fn what_the_head_does_not_read() {
     head.raise(&entry(1)).unwrap();
     let before = *head.as_bytes();
     let mut refuse = |octets: &[u8], cause| {
-        assert_eq!(head.read(octets), Err(cause));
+        assert_eq!(head.read(DS301, octets), Err(cause));
         assert_eq!(head.as_bytes(), &before);
     };
     refuse(&[], Error::BufferTooShort);
@@ -255,6 +255,9 @@ fn numbers_and_texts() {
         Error::NotAJournal,
         Error::UnknownVersion,
         Error::RecordInvalid,
+        Error::NotATable,
+        Error::NotAscending,
+        Error::WithoutStatusResponse,
     ];
     let mut texts = Vec::new();
     for (error, number) in all.into_iter().zip(1..) {
@@ -265,5 +268,5 @@ fn numbers_and_texts() {
         assert!(!texts.contains(&text), "{text}");
         texts.push(text);
     }
-    assert_eq!(texts.len(), 19);
+    assert_eq!(texts.len(), 22);
 }

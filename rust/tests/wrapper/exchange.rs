@@ -1,7 +1,7 @@
 //! The exchange between heads and box.
 use crate::{
     answer, answer_fields, entry, framed, ident_request, preq, request, request_fields, Direction,
-    Numbers,
+    Numbers, DS301,
 };
 use powerlink::*;
 
@@ -47,19 +47,25 @@ fn with_a_loss_and_a_repeat() {
     let repeat = answer(&mut head, 7);
     assert_eq!(repeat, lost);
     // A request from before the booking closes nothing.
-    assert_eq!(head.read(&request(&the_box, 7)), Ok(ReporterRead::Kept));
-    assert_eq!(the_box.read(&repeat), Ok(CollectorRead::Booked));
-    assert_eq!(the_box.read(&repeat), Ok(CollectorRead::Known));
+    assert_eq!(
+        head.read(DS301, &request(&the_box, 7)),
+        Ok(ReporterRead::Kept)
+    );
+    assert_eq!(the_box.read(DS301, &repeat), Ok(CollectorRead::Booked));
+    assert_eq!(the_box.read(DS301, &repeat), Ok(CollectorRead::Known));
 
     let acknowledge = request(&the_box, 7);
-    assert_eq!(head.read(&acknowledge), Ok(ReporterRead::Closed));
-    assert_eq!(head.read(&acknowledge), Ok(ReporterRead::Kept));
+    assert_eq!(head.read(DS301, &acknowledge), Ok(ReporterRead::Closed));
+    assert_eq!(head.read(DS301, &acknowledge), Ok(ReporterRead::Kept));
     let rest = answer(&mut head, 7);
     assert_eq!(codes(&rest), [5, 6]);
     // A late repeat of the request does not close the new batch.
-    assert_eq!(head.read(&acknowledge), Ok(ReporterRead::Kept));
-    assert_eq!(the_box.read(&rest), Ok(CollectorRead::Booked));
-    assert_eq!(head.read(&request(&the_box, 7)), Ok(ReporterRead::Closed));
+    assert_eq!(head.read(DS301, &acknowledge), Ok(ReporterRead::Kept));
+    assert_eq!(the_box.read(DS301, &rest), Ok(CollectorRead::Booked));
+    assert_eq!(
+        head.read(DS301, &request(&the_box, 7)),
+        Ok(ReporterRead::Closed)
+    );
     assert_eq!(codes(&answer(&mut head, 7)), []);
 
     for code in 1..=6 {
@@ -85,7 +91,7 @@ fn octets_of_an_answer() {
         },
     };
     let mut target = [0xEE; 73];
-    assert_eq!(head.answer(&fields, &mut target), Ok(72));
+    assert_eq!(head.answer(DS301, &fields, &mut target), Ok(72));
     let expected: [&[u8]; 6] = [
         &[8, 9, 10, 11, 12, 13, 2, 3, 4, 5, 6, 7, 0x88, 0xAB],
         &[6, 255, 7, 2, 0x30, 0x35, 0x4D, 0, 0, 0],
@@ -104,7 +110,7 @@ fn a_refused_answer_opens_no_batch() {
     head.raise(&entry(1)).unwrap();
     let before = *head.as_bytes();
     let mut target = [0xEE; 71];
-    let refused = head.answer(&answer_fields(7), &mut target);
+    let refused = head.answer(DS301, &answer_fields(7), &mut target);
     assert_eq!(refused, Err(Error::BufferTooShort));
     assert_eq!(target, [0xEE; 71]);
     assert_eq!(head.as_bytes(), &before);
@@ -122,7 +128,7 @@ fn octets_of_a_request() {
     assert_eq!(request(&the_box, 7), expected);
     // EA is what was booked last.
     head.raise(&entry(1)).unwrap();
-    the_box.read(&answer(&mut head, 7)).unwrap();
+    the_box.read(DS301, &answer(&mut head, 7)).unwrap();
     expected[18] = 0x04;
     assert_eq!(request(&the_box, 7), expected);
 }
@@ -131,7 +137,7 @@ fn octets_of_a_request() {
 fn what_gives_ea() {
     let (mut head, mut the_box) = pair();
     head.raise(&entry(1)).unwrap();
-    the_box.read(&answer(&mut head, 7)).unwrap();
+    the_box.read(DS301, &answer(&mut head, 7)).unwrap();
     let soa = |source, target| framed(&[5, 255, source, 0xFD, 4, 0, 2, target, 0x20]);
     let preq = |source, destination| framed(&[3, destination, source, 0, 4, 0, 0, 0, 0, 0]);
     // From another node, for another node, or of another kind.
@@ -142,11 +148,11 @@ fn what_gives_ea() {
         preq(240, 8),
         answer(&mut head, 7),
     ] {
-        assert_eq!(head.read(&frame), Ok(ReporterRead::Ignored));
+        assert_eq!(head.read(DS301, &frame), Ok(ReporterRead::Ignored));
     }
-    assert_eq!(head.read(&preq(240, 7)), Ok(ReporterRead::Closed));
-    assert_eq!(head.read(&preq(240, 7)), Ok(ReporterRead::Kept));
-    assert_eq!(head.read(&soa(240, 7)), Ok(ReporterRead::Kept));
+    assert_eq!(head.read(DS301, &preq(240, 7)), Ok(ReporterRead::Closed));
+    assert_eq!(head.read(DS301, &preq(240, 7)), Ok(ReporterRead::Kept));
+    assert_eq!(head.read(DS301, &soa(240, 7)), Ok(ReporterRead::Kept));
 }
 
 #[test]
@@ -158,32 +164,44 @@ fn a_full_book() {
             head.raise(&entry(4 * batch + i)).unwrap();
         }
         assert_eq!(
-            the_box.read(&answer(&mut head, 7)),
+            the_box.read(DS301, &answer(&mut head, 7)),
             Ok(CollectorRead::Booked)
         );
-        assert_eq!(head.read(&request(&the_box, 7)), Ok(ReporterRead::Closed));
+        assert_eq!(
+            head.read(DS301, &request(&the_box, 7)),
+            Ok(ReporterRead::Closed)
+        );
     }
     // A known answer is known, though the book is full.
     assert_eq!(
-        the_box.read(&answer(&mut head, 7)),
+        the_box.read(DS301, &answer(&mut head, 7)),
         Ok(CollectorRead::Known)
     );
     head.raise(&entry(64)).unwrap();
     head.raise(&entry(65)).unwrap();
     let batch = answer(&mut head, 7);
     let full = *the_box.as_bytes();
-    assert_eq!(the_box.read(&batch), Err(Error::BookFull));
+    assert_eq!(the_box.read(DS301, &batch), Err(Error::BookFull));
     assert_eq!(the_box.as_bytes(), &full);
-    assert_eq!(head.read(&request(&the_box, 7)), Ok(ReporterRead::Kept));
+    assert_eq!(
+        head.read(DS301, &request(&the_box, 7)),
+        Ok(ReporterRead::Kept)
+    );
     // One place is not enough for two.
     assert_eq!(the_box.take(HEAD), Ok(entry(0)));
-    assert_eq!(the_box.read(&answer(&mut head, 7)), Err(Error::BookFull));
+    assert_eq!(
+        the_box.read(DS301, &answer(&mut head, 7)),
+        Err(Error::BookFull)
+    );
     assert_eq!(the_box.take(HEAD), Ok(entry(1)));
     assert_eq!(
-        the_box.read(&answer(&mut head, 7)),
+        the_box.read(DS301, &answer(&mut head, 7)),
         Ok(CollectorRead::Booked)
     );
-    assert_eq!(head.read(&request(&the_box, 7)), Ok(ReporterRead::Closed));
+    assert_eq!(
+        head.read(DS301, &request(&the_box, 7)),
+        Ok(ReporterRead::Closed)
+    );
     assert_eq!(drain(&mut the_box, HEAD), (2..66).collect::<Vec<_>>());
 }
 
@@ -199,15 +217,21 @@ fn heads_are_kept_apart() {
         for i in 0..id {
             head.raise(&entry(100 * id as u16 + i as u16)).unwrap();
         }
-        assert_eq!(the_box.read(&answer(head, id)), Ok(CollectorRead::Booked));
+        assert_eq!(
+            the_box.read(DS301, &answer(head, id)),
+            Ok(CollectorRead::Booked)
+        );
     }
     for (id, head) in (1..).zip(&mut heads) {
         let other = id % 4 + 1;
         assert_eq!(
-            head.read(&request(&the_box, other)),
+            head.read(DS301, &request(&the_box, other)),
             Ok(ReporterRead::Ignored)
         );
-        assert_eq!(head.read(&request(&the_box, id)), Ok(ReporterRead::Closed));
+        assert_eq!(
+            head.read(DS301, &request(&the_box, id)),
+            Ok(ReporterRead::Closed)
+        );
     }
     for id in 1..=4u8 {
         let expected: Vec<u16> = (0..id).map(|i| 100 * id as u16 + i as u16).collect();
@@ -237,7 +261,7 @@ fn nothing_lost_and_nothing_twice() {
                 2 => requests.sent.push(request(&the_box, 7)),
                 3 => {
                     if let Some(frame) = answers.arrives(&mut numbers) {
-                        match the_box.read(frame) {
+                        match the_box.read(DS301, frame) {
                             Ok(_) | Err(Error::BookFull) => {}
                             Err(cause) => panic!("{cause}"),
                         }
@@ -245,7 +269,7 @@ fn nothing_lost_and_nothing_twice() {
                 }
                 4..=6 => {
                     if let Some(frame) = requests.arrives(&mut numbers) {
-                        assert!(head.read(frame).is_ok());
+                        assert!(head.read(DS301, frame).is_ok());
                     }
                 }
                 // The host's own frames, with the flags of the moment of sending.
@@ -265,12 +289,12 @@ fn nothing_lost_and_nothing_twice() {
         let mut target = [0; 132];
         for _ in 0..20 {
             taken.extend(drain(&mut the_box, HEAD));
-            let n = head.answer(&answer_fields(7), &mut target).unwrap();
-            the_box.read(&target[..n]).unwrap();
+            let n = head.answer(DS301, &answer_fields(7), &mut target).unwrap();
+            the_box.read(DS301, &target[..n]).unwrap();
             let n = the_box
                 .request(HEAD, &request_fields(), &mut target)
                 .unwrap();
-            head.read(&target[..n]).unwrap();
+            head.read(DS301, &target[..n]).unwrap();
         }
         taken.extend(drain(&mut the_box, HEAD));
         assert_eq!(taken, raised);

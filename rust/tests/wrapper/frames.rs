@@ -1,5 +1,5 @@
 //! Frames of every kind, written and read back.
-use crate::{framed, Numbers};
+use crate::{framed, Numbers, DS301};
 use powerlink::*;
 
 const US: MacAddress = MacAddress([2, 0, 0, 0, 0, 9]);
@@ -24,16 +24,20 @@ fn agree<'a, F>(
     assert_eq!(write(&mut target), Ok(n));
     assert_eq!(&target[..n], expected, "write_frame");
     assert_eq!(&target[n..], &[0xEE; 5], "past the end");
-    assert_eq!(deserialize_frame(&target[..n]), Ok(frame), "read back");
+    assert_eq!(
+        deserialize_frame(DS301, &target[..n]),
+        Ok(frame),
+        "read back"
+    );
 
     target.fill(0xEE);
-    assert_eq!(frame.write_frame(&mut target), Ok(n));
+    assert_eq!(frame.write_frame(DS301, &mut target), Ok(n));
     assert_eq!(&target[..n], expected, "Frame::write_frame");
     assert_eq!(&target[n..], &[0xEE; 5], "past the end");
 
     target.fill(0xEE);
     assert_eq!(
-        frame.frame.serialize(frame.payload, &mut target),
+        frame.frame.serialize(DS301, frame.payload, &mut target),
         Ok(n - 14)
     );
     assert_eq!(&target[..n - 14], &expected[14..], "serialize");
@@ -42,12 +46,15 @@ fn agree<'a, F>(
     for short in [0, 1, 13, 14, n - 1] {
         let mut target = vec![0xEE; short];
         assert_eq!(write(&mut target), Err(Error::BufferTooShort));
-        assert_eq!(frame.write_frame(&mut target), Err(Error::BufferTooShort));
+        assert_eq!(
+            frame.write_frame(DS301, &mut target),
+            Err(Error::BufferTooShort)
+        );
         assert_eq!(target, vec![0xEE; short], "a refused writer has written");
     }
     let mut target = vec![0xEE; n - 15];
     assert_eq!(
-        frame.frame.serialize(frame.payload, &mut target),
+        frame.frame.serialize(DS301, frame.payload, &mut target),
         Err(Error::BufferTooShort)
     );
     assert_eq!(target, vec![0xEE; n - 15], "a refused writer has written");
@@ -170,9 +177,9 @@ fn asnd() {
     // The last octet is never 0, so that nothing is trimmed.
     for len in [0, 1, 41, 42, 43, 255, 256, 1490, 1500] {
         let payload: Vec<u8> = (0..len).map(|i| i as u8 | 1).collect();
-        let new = ASndFrame::new(US, THEM, NodeId(240), NodeId(7), ServiceId::Sdo, &payload);
+        let new = ASndFrame::new(US, THEM, NodeId(240), NodeId(7), ServiceId::SDO, &payload);
         let expected = octets(&THEM.0, &US.0, &[&[0x06, 240, 7, 0x05], &payload]);
-        agree(new, |target| new.write_frame(target), &expected);
+        agree(new, |target| new.write_frame(DS301, target), &expected);
     }
 }
 
@@ -183,17 +190,23 @@ fn an_asnd_of_the_smallest_size_loses_the_zeros_at_its_end() {
     section[3] = 2;
     section[4] = 0xAA;
     assert_eq!(
-        deserialize_frame(&framed(&section)).unwrap().payload,
+        deserialize_frame(DS301, &framed(&section)).unwrap().payload,
         [0xAA]
     );
     section.push(0);
     assert_eq!(
-        deserialize_frame(&framed(&section)).unwrap().payload.len(),
+        deserialize_frame(DS301, &framed(&section))
+            .unwrap()
+            .payload
+            .len(),
         43
     );
     section.truncate(45);
     assert_eq!(
-        deserialize_frame(&framed(&section)).unwrap().payload.len(),
+        deserialize_frame(DS301, &framed(&section))
+            .unwrap()
+            .payload
+            .len(),
         41
     );
 }
@@ -204,7 +217,7 @@ fn a_payload_is_a_part_of_what_was_read() {
     section[0] = 3;
     section[8] = 5;
     let frame = framed(&section);
-    let payload = deserialize_frame(&frame).unwrap().payload;
+    let payload = deserialize_frame(DS301, &frame).unwrap().payload;
     assert_eq!(payload.as_ptr(), frame[24..].as_ptr());
     assert_eq!(payload.len(), 5);
 }
@@ -267,7 +280,7 @@ fn fields_of_any_value_are_kept() {
     let mut target = [0; 46];
     assert_eq!(soc.serialize(&mut target), Ok(46));
     assert_eq!(
-        deserialize_frame(&framed(&target))
+        deserialize_frame(DS301, &framed(&target))
             .unwrap()
             .frame
             .into_soc(),
@@ -353,11 +366,11 @@ fn any_octets() {
             section[3] = 1 + numbers.below(5) as u8;
         }
         let octets = framed(&section);
-        if let Ok(frame) = deserialize_frame(&octets) {
+        if let Ok(frame) = deserialize_frame(DS301, &octets) {
             read += 1;
             let mut target = [0; 200];
-            let n = frame.write_frame(&mut target).unwrap();
-            let again = deserialize_frame(&target[..n]).unwrap();
+            let n = frame.write_frame(DS301, &mut target).unwrap();
+            let again = deserialize_frame(DS301, &target[..n]).unwrap();
             assert_eq!(
                 (again.eth_header, again.frame),
                 (frame.eth_header, frame.frame)

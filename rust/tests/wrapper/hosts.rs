@@ -1,6 +1,6 @@
 //! What a host does beside the exchange: frames of its own, saving and restarts. tests/c/restarts.c
 //! of the repository has a list of calls for each mistake.
-use crate::{answer, entry, ident_request, preq, request, Direction, Numbers};
+use crate::{answer, entry, ident_request, preq, request, Direction, Numbers, DS301};
 use powerlink::*;
 
 const HEAD: NodeId = NodeId(7);
@@ -15,8 +15,14 @@ fn fresh_box() -> Collector {
 /// The first entry is booked and acknowledged; the answer with the second is lost.
 fn second_answer_is_lost(head: &mut Reporter, the_box: &mut Collector) {
     head.raise(&entry(1)).unwrap();
-    assert_eq!(the_box.read(&answer(head, 7)), Ok(CollectorRead::Booked));
-    assert_eq!(head.read(&request(the_box, 7)), Ok(ReporterRead::Closed));
+    assert_eq!(
+        the_box.read(DS301, &answer(head, 7)),
+        Ok(CollectorRead::Booked)
+    );
+    assert_eq!(
+        head.read(DS301, &request(the_box, 7)),
+        Ok(ReporterRead::Closed)
+    );
     head.raise(&entry(2)).unwrap();
     answer(head, 7);
 }
@@ -26,10 +32,10 @@ fn a_frame_without_the_flags_loses_an_entry() {
     for frame in [preq(7, false), ident_request(7, SoAFlags::default())] {
         let (mut head, mut the_box) = (Reporter::new(HEAD).unwrap(), fresh_box());
         second_answer_is_lost(&mut head, &mut the_box);
-        assert_eq!(head.read(&frame), Ok(ReporterRead::Closed));
+        assert_eq!(head.read(DS301, &frame), Ok(ReporterRead::Closed));
         // The next answer has no entries; that its EN is new is all that the box can see.
         let next = answer(&mut head, 7);
-        assert_eq!(the_box.read(&next), Ok(CollectorRead::Booked));
+        assert_eq!(the_box.read(DS301, &next), Ok(CollectorRead::Booked));
         assert_eq!(the_box.take(HEAD), Ok(entry(1)));
         assert_eq!(the_box.take(HEAD), Err(Error::NothingBooked));
     }
@@ -57,10 +63,16 @@ fn with_the_flags_of_the_moment_nothing_is_lost() {
             er: false
         }
     );
-    assert_eq!(head.read(&preq(7, flags.ea)), Ok(ReporterRead::Kept));
-    assert_eq!(head.read(&ident_request(7, flags)), Ok(ReporterRead::Kept));
+    assert_eq!(head.read(DS301, &preq(7, flags.ea)), Ok(ReporterRead::Kept));
+    assert_eq!(
+        head.read(DS301, &ident_request(7, flags)),
+        Ok(ReporterRead::Kept)
+    );
     // Built ahead, the same PReq would have lost the second entry.
-    assert_eq!(head.read(&preq(7, early.ea)), Ok(ReporterRead::Closed));
+    assert_eq!(
+        head.read(DS301, &preq(7, early.ea)),
+        Ok(ReporterRead::Closed)
+    );
 }
 
 #[test]
@@ -73,11 +85,11 @@ fn flags_of_a_head_that_is_not_registered() {
     head.raise(&entry(1)).unwrap();
     let frame = answer(&mut head, 7);
     assert!(head.en());
-    assert_eq!(the_box.read(&frame), Err(Error::NotRegistered));
-    assert_eq!(head.read(&preq(7, false)), Ok(ReporterRead::Kept));
+    assert_eq!(the_box.read(DS301, &frame), Err(Error::NotRegistered));
+    assert_eq!(head.read(DS301, &preq(7, false)), Ok(ReporterRead::Kept));
     the_box.register(HEAD).unwrap();
     assert_eq!(
-        the_box.read(&answer(&mut head, 7)),
+        the_box.read(DS301, &answer(&mut head, 7)),
         Ok(CollectorRead::Booked)
     );
 }
@@ -100,7 +112,7 @@ fn a_copy_of_ea_that_is_renewed_before_the_next_reading() {
                 2 => {
                     copy = the_box.flags(HEAD).unwrap();
                     if let Some(frame) = to_box.arrives(&mut numbers) {
-                        the_box.read(frame).unwrap();
+                        the_box.read(DS301, frame).unwrap();
                     }
                 }
                 3 => copy = the_box.flags(HEAD).unwrap(),
@@ -108,7 +120,7 @@ fn a_copy_of_ea_that_is_renewed_before_the_next_reading() {
                 5 => to_head.sent.push(ident_request(7, copy)),
                 _ => {
                     if let Some(frame) = to_head.arrives(&mut numbers) {
-                        head.read(frame).unwrap();
+                        head.read(DS301, frame).unwrap();
                     }
                 }
             }
@@ -182,7 +194,7 @@ impl HeadHost {
             self.raised += 1;
         }
         if let Some(frame) = frame {
-            self.head.read(frame).unwrap();
+            self.head.read(DS301, frame).unwrap();
         }
         let frame = answer(&mut self.head, 7);
         self.save(power)?;
@@ -221,7 +233,7 @@ impl BoxHost {
         power: &mut Power,
     ) -> Result<(), Cut> {
         if let Some(frame) = frame {
-            self.the_box.read(frame).unwrap();
+            self.the_box.read(DS301, frame).unwrap();
         }
         while let Ok(taken) = self.the_box.take(HEAD) {
             power.burn()?;
@@ -266,11 +278,16 @@ fn power_cuts_lose_nothing_and_list_nothing_twice() {
         }
         // On a good line, all that is left arrives.
         for _ in 0..20 {
-            the_box.the_box.read(&answer(&mut head.head, 7)).unwrap();
+            the_box
+                .the_box
+                .read(DS301, &answer(&mut head.head, 7))
+                .unwrap();
             the_box
                 .cycle(None, &mut line.to_head, &mut Power(0))
                 .unwrap();
-            head.head.read(&request(&the_box.the_box, 7)).unwrap();
+            head.head
+                .read(DS301, &request(&the_box.the_box, 7))
+                .unwrap();
         }
         assert_eq!(the_box.journal, (0..head.raised).collect::<Vec<_>>());
         listed += the_box.journal.len();

@@ -6,11 +6,16 @@ mod errors;
 mod exchange;
 mod frames;
 mod hosts;
+mod house;
 mod journals;
+mod services;
 mod states;
 mod status;
 
 use powerlink::*;
+
+/// The table of whoever has no other.
+pub const DS301: &Services = &Services::DS301;
 
 /// An entry that can be raised, told apart by its code.
 pub fn entry(error_code: u16) -> ErrorEntry {
@@ -55,7 +60,7 @@ pub fn request_fields() -> RequestFields {
 /// The octets that a head answers with.
 pub fn answer(head: &mut Reporter, id: u8) -> Vec<u8> {
     let mut frame = vec![0xEE; 200];
-    let n = head.answer(&answer_fields(id), &mut frame).unwrap();
+    let n = head.answer(DS301, &answer_fields(id), &mut frame).unwrap();
     frame.truncate(n);
     frame
 }

@@ -1,5 +1,5 @@
 //! States by their octets.
-use crate::{answer, answer_fields, entry, request, request_fields, Numbers};
+use crate::{answer, answer_fields, entry, request, request_fields, Numbers, DS301};
 use powerlink::*;
 
 #[test]
@@ -11,7 +11,7 @@ fn a_state_goes_on_from_its_octets() {
         head.raise(&entry(code)).unwrap();
     }
     let batch = answer(&mut head, 7);
-    the_box.read(&batch).unwrap();
+    the_box.read(DS301, &batch).unwrap();
 
     // Both are switched off and on again between the booking and its acknowledgement.
     let kept = *head.as_bytes();
@@ -22,10 +22,13 @@ fn a_state_goes_on_from_its_octets() {
     assert_eq!(the_box.as_bytes(), &kept);
 
     assert_eq!(answer(&mut head, 7), batch);
-    assert_eq!(the_box.read(&batch), Ok(CollectorRead::Known));
-    assert_eq!(head.read(&request(&the_box, 7)), Ok(ReporterRead::Closed));
+    assert_eq!(the_box.read(DS301, &batch), Ok(CollectorRead::Known));
     assert_eq!(
-        the_box.read(&answer(&mut head, 7)),
+        head.read(DS301, &request(&the_box, 7)),
+        Ok(ReporterRead::Closed)
+    );
+    assert_eq!(
+        the_box.read(DS301, &answer(&mut head, 7)),
         Ok(CollectorRead::Booked)
     );
     for code in 0..6 {
@@ -51,6 +54,7 @@ fn states_are_send_and_sync() {
     fn both<T: Send + Sync>() {}
     both::<Reporter>();
     both::<Collector>();
+    both::<Services>();
 }
 
 /// Every pattern is a state: each call ends in one of its answers.
@@ -69,12 +73,12 @@ fn any_octets_are_a_state() {
             "{raised:?}"
         );
         let mut frame = [0; 132];
-        let n = head.answer(&answer_fields(7), &mut frame).unwrap();
+        let n = head.answer(DS301, &answer_fields(7), &mut frame).unwrap();
         assert!([60, 72, 92, 112, 132].contains(&n), "{n}");
         let frame = &frame[..n];
         let status = StatusResponse::deserialize(&frame[18..]).unwrap();
         assert_eq!(head.en(), status.fields.en_flag);
-        let heard = head.read(&request(&the_box, 7));
+        let heard = head.read(DS301, &request(&the_box, 7));
         assert!(heard.is_ok(), "{heard:?}");
 
         let mut octets = [0; COLLECTOR_LEN];
@@ -93,11 +97,11 @@ fn any_octets_are_a_state() {
                     "{taken:?}"
                 );
                 assert_eq!(requested, Ok(60));
-                let soa = deserialize_frame(&target).unwrap().frame.into_soa();
+                let soa = deserialize_frame(DS301, &target).unwrap().frame.into_soa();
                 assert_eq!(any_box.flags(NodeId(id)), Ok(soa.unwrap().flags));
             }
         }
-        let read = any_box.read(frame);
+        let read = any_box.read(DS301, frame);
         let known = [Error::NotRegistered, Error::BookFull];
         assert!(
             read.map_or_else(|cause| known.contains(&cause), |_| true),

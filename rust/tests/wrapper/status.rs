@@ -1,5 +1,5 @@
 //! StatusResponses, written and read back.
-use crate::{answer, entry, framed};
+use crate::{answer, entry, framed, DS301};
 use powerlink::*;
 
 fn fields() -> StatusFields {
@@ -162,7 +162,7 @@ fn an_answer_without_entries_is_read_untrimmed() {
     let mut head = Reporter::new(NodeId(7)).unwrap();
     let frame = answer(&mut head, 7);
     assert_eq!(frame.len(), 60);
-    let trimmed = deserialize_frame(&frame).unwrap().payload;
+    let trimmed = deserialize_frame(DS301, &frame).unwrap().payload;
     assert_eq!(trimmed.len(), 3);
     assert_eq!(
         StatusResponse::deserialize(trimmed).unwrap_err(),
@@ -174,9 +174,9 @@ fn an_answer_without_entries_is_read_untrimmed() {
     // The box reads it so.
     let mut the_box = Collector::new();
     the_box.register(NodeId(7)).unwrap();
-    assert_eq!(the_box.read(&frame), Ok(CollectorRead::Known));
+    assert_eq!(the_box.read(DS301, &frame), Ok(CollectorRead::Known));
     assert_eq!(
-        the_box.read(&framed(&frame[14..])),
+        the_box.read(DS301, &framed(&frame[14..])),
         Ok(CollectorRead::Known)
     );
 }

@@ -4,8 +4,22 @@ use crate::case::*;
 /// The octets of a box, as the header has them.
 const COLLECTOR_LEN: usize = 5184;
 
+/// The header's table of DS 301: the twelve services that the Rust knows.
+static SERVICES: [u8; 256] = {
+    let known = [0, 1, 1, 1, 1, 1, 0, 0, 0, 0, 0, 1, 0, 1, 1, 1, 1, 1, 1];
+    let mut table = [0; 256];
+    let mut id = 0;
+    while id < known.len() {
+        table[id] = known[id];
+        id += 1;
+    }
+    table
+};
+
 unsafe extern "C" {
-    fn powerlink_deserialize_frame(buffer: *const u8, len: usize, values: *mut u64, octet: *mut u8) -> u8;
+    fn powerlink_deserialize_frame_v2(
+        services: *const u8, buffer: *const u8, len: usize, values: *mut u64, octet: *mut u8,
+    ) -> u8;
     fn powerlink_deserialize_eth_header(
         buffer: *const u8, len: usize, destination: *mut u8, source: *mut u8, ether_type: *mut u16,
     ) -> u8;
@@ -35,9 +49,9 @@ unsafe extern "C" {
         destination: u8, source: u8, state: u8, ea: bool, er: bool, requested_service: u8, target_node: u8,
         epl_version: u8, target: *mut u8, target_len: usize, written: *mut usize, octet: *mut u8,
     ) -> u8;
-    fn powerlink_serialize_asnd(
-        destination: u8, source: u8, service: u8, payload: *const u8, payload_len: usize, target: *mut u8,
-        target_len: usize, written: *mut usize, octet: *mut u8,
+    fn powerlink_serialize_asnd_v2(
+        services: *const u8, destination: u8, source: u8, service: u8, payload: *const u8, payload_len: usize,
+        target: *mut u8, target_len: usize, written: *mut usize, octet: *mut u8,
     ) -> u8;
     fn powerlink_serialize_eth_header(
         destination: *const u8, source: *const u8, ether_type: u16, target: *mut u8, target_len: usize,
@@ -75,14 +89,14 @@ unsafe extern "C" {
         source_mac: *const u8, state: u8, ea: bool, er: bool, requested_service: u8, target_node: u8,
         epl_version: u8, target: *mut u8, target_len: usize, written: *mut usize, octet: *mut u8,
     ) -> u8;
-    fn powerlink_new_asnd(
-        source_mac: *const u8, dest_mac: *const u8, target_node: u8, source: u8, service: u8, payload: *const u8,
-        payload_len: usize, target: *mut u8, target_len: usize, written: *mut usize, octet: *mut u8,
+    fn powerlink_new_asnd_v2(
+        services: *const u8, source_mac: *const u8, dest_mac: *const u8, target_node: u8, source: u8, service: u8,
+        payload: *const u8, payload_len: usize, target: *mut u8, target_len: usize, written: *mut usize, octet: *mut u8,
     ) -> u8;
-    fn powerlink_collector_new_v1(state: *mut u8) -> u8;
+    fn powerlink_collector_new_v2(state: *mut u8) -> u8;
     fn powerlink_collector_register(state: *mut u8, id: u8) -> u8;
-    fn powerlink_collector_read(
-        state: *mut u8, buffer: *const u8, len: usize, outcome: *mut u8, octet: *mut u8,
+    fn powerlink_collector_read_v2(
+        state: *mut u8, services: *const u8, buffer: *const u8, len: usize, outcome: *mut u8, octet: *mut u8,
     ) -> u8;
     fn powerlink_collector_take(state: *mut u8, id: u8, values: *mut u64) -> u8;
 }
@@ -100,10 +114,11 @@ pub fn answer(case: &Case, out: &mut Out) {
     let target = out.target.as_mut_ptr();
     let values = (&raw mut out.values).cast::<u64>();
     let (written, said) = (&raw mut out.written, &raw mut out.octet);
+    let services = SERVICES.as_ptr();
     // Sound: each pointer has the octets behind it that the header asks for, none is null, and no two overlap.
     unsafe {
         out.cause = match case.call {
-            FRAME => powerlink_deserialize_frame(a, a_len, values, said),
+            FRAME => powerlink_deserialize_frame_v2(services, a, a_len, values, said),
             ETH => {
                 let mut ether_type = out.values[0] as u16;
                 let (to, from) = out.octets.split_at_mut(6);
@@ -137,7 +152,9 @@ pub fn answer(case: &Case, out: &mut Out) {
             WRITE_SOA => powerlink_serialize_soa(
                 octet(0), octet(1), octet(2), flag(3), flag(4), octet(5), octet(6), octet(7), target, len, written, said,
             ),
-            WRITE_ASND => powerlink_serialize_asnd(octet(0), octet(1), octet(2), a, a_len, target, len, written, said),
+            WRITE_ASND => powerlink_serialize_asnd_v2(
+                services, octet(0), octet(1), octet(2), a, a_len, target, len, written, said,
+            ),
             WRITE_ETH => powerlink_serialize_eth_header(a, b, half(0), target, len, written),
             WRITE_PL => powerlink_serialize_pl_header(octet(0), octet(1), octet(2), target, len, written, said),
             WRITE_ENTRY => powerlink_serialize_entry(
@@ -158,8 +175,8 @@ pub fn answer(case: &Case, out: &mut Out) {
             NEW_SOA => powerlink_new_soa(
                 a, octet(0), flag(1), flag(2), octet(3), octet(4), octet(5), target, len, written, said,
             ),
-            NEW_ASND => powerlink_new_asnd(
-                a, b, octet(0), octet(1), octet(2), c, c_len, target, len, written, said,
+            NEW_ASND => powerlink_new_asnd_v2(
+                services, a, b, octet(0), octet(1), octet(2), c, c_len, target, len, written, said,
             ),
             other => panic!("no call {other}"),
         };
@@ -201,11 +218,12 @@ pub fn boxed(id: u8, frame: &[u8]) -> Boxed {
     let mut state = [0u8; COLLECTOR_LEN];
     let (mut outcome, mut octet) = (0xFF, 0);
     unsafe {
-        assert_eq!(powerlink_collector_new_v1(state.as_mut_ptr()), 0);
+        assert_eq!(powerlink_collector_new_v2(state.as_mut_ptr()), 0);
         assert_eq!(powerlink_collector_register(state.as_mut_ptr(), id), 0);
         let before = state;
-        let cause =
-            powerlink_collector_read(state.as_mut_ptr(), frame.as_ptr(), frame.len(), &mut outcome, &mut octet);
+        let cause = powerlink_collector_read_v2(
+            state.as_mut_ptr(), SERVICES.as_ptr(), frame.as_ptr(), frame.len(), &mut outcome, &mut octet,
+        );
         if cause != 0 {
             assert!(state == before && outcome == 0xFF, "a refusal changed the box or its outcome: {frame:02X?}");
             return Boxed::Refused(cause, octet);

@@ -19,9 +19,10 @@ returns c =
 returns-2 : tie.Need-returns-2
 unfolding readFrame deserializeFrame
 returns-2 c =
-    let f = c .before .before .before .args .buffer .now in
-    let q : Refused BufferTooShort ≡ readFrame f = rw (← frame-short f (c .before .if1 .left)) in
-    record { read = rw (c .eth-header-at .ensures, ← q); frame = frame-told f _ q }
+    let a = c .before .before .before .args in
+    let f = a .buffer .now in
+    let q : Refused BufferTooShort ≡ readFrame (a .services .now) f = rw (← frame-short f (c .before .if1 .left)) in
+    record { read = rw (c .eth-header-at .ensures, ← q); frame = frame-told (a .services .now) f _ q }
 
 pub deserialize-frame-spec : {M : Type 1} → statement M
 deserialize-frame-spec =

@@ -10,14 +10,14 @@ returns : tie.Need-returns
 unfolding readFrame
 returns c =
     let m = c .before in
-    frame-told _ _ (rw (← m .before .before .kind-of .ensures, m .e .given .1))
+    frame-told _ _ _ (rw (← m .before .before .kind-of .ensures, m .e .given .1))
 
 returns-2 : tie.Need-returns-2
 unfolding readFrame
 returns-2 c =
     let t = c .before in
     let m = t .before .before in
-    frame-told _ _ (rw (← m .before .before .kind-of .ensures, m .kind .given .1, c .read-kind .ensures, t .tail .ensures .octets))
+    frame-told _ _ _ (rw (← m .before .before .kind-of .ensures, m .kind .given .1, c .read-kind .ensures, t .tail .ensures .octets))
 
 pub read-frame-spec : {M : Type 1} → statement M
 read-frame-spec =

@@ -14,13 +14,13 @@ returns : tie.Need-returns
 returns c =
     let h = c .before .before .before in
     let a = h .before .before .args in
-    reads-refused (a .state .now) (a .buffer .now) _ (sym (c .before .e .given .1) ∙ h .hear .ensures)
+    reads-refused (a .services .now) (a .state .now) (a .buffer .now) _ (sym (c .before .e .given .1) ∙ h .hear .ensures)
 
 returns-2 : tie.Need-returns-2
 returns-2 c =
     let h = c .before .before in
     let a = h .before .before .args in
-    reads-other (a .state .now) (a .buffer .now) (sym (c .enum-told .given .1) ∙ h .hear .ensures)
+    reads-other (a .services .now) (a .state .now) (a .buffer .now) (sym (c .enum-told .given .1) ∙ h .hear .ensures)
 
 returns-3 : tie.Need-returns-3
 returns-3 c =
@@ -28,7 +28,7 @@ returns-3 c =
     let w = t .before .before .before in
     let h = w .before .before in
     let a = h .before .before .args in
-    reads-status (a .state .now) (a .buffer .now) (c .read-status .ensures .1) (λ i. omega (arith, h .before .shared-slice-known .given i))
+    reads-status (a .services .now) (a .state .now) (a .buffer .now) (c .read-status .ensures .1) (λ i. omega (arith, h .before .shared-slice-known .given i))
     (w .source .given .0 .0) (sym (w .source .given .1) ∙ h .hear .ensures) _
     (t .payload .ensures .octets ∙ take-all (length (a .buffer .now)) (drop asndPayloadAt (a .buffer .now)) (simp length-drop (omega arith))) _ _
     (c .read-status .ensures .0)

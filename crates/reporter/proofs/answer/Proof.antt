@@ -21,14 +21,14 @@ returns c =
     let a = f .before .before .before .before .args in
     let s = a .state .now in
     let o = c .open-batch .ensures in
-    answers (a .fields) s (sizes (f .before .before .before .before)) _ _ _ _ _ (n .n .given .1) (f .answer-frame .ensures) (ap headOf (o .0) ∙ opens-means s (o .1)) (o .0)
+    answers (a .fields) s (a .services .now) (sizes (f .before .before .before .before)) _ _ _ _ _ (n .n .given .1) (f .answer-frame .ensures) (ap headOf (o .0) ∙ opens-means s (o .1)) (o .0)
 
 returns-2 : tie.Need-returns-2
 returns-2 c =
     let e = c .before in
     let f = e .before .before .before .before in
     let a = f .before .before .before .before .args in
-    answers (a .fields) (a .state .now) (sizes (f .before .before .before .before)) _ _ _ _ _ (e .e .given .1) (f .answer-frame .ensures) refl refl
+    answers (a .fields) (a .state .now) (a .services .now) (sizes (f .before .before .before .before)) _ _ _ _ _ (e .e .given .1) (f .answer-frame .ensures) refl refl
 
 pub answer-spec : {M : Type 1} → statement M
 answer-spec =

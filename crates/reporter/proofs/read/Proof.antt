@@ -13,14 +13,14 @@ returns c =
     let e = c .before in
     let h = e .before .before in
     let a = h .before .before .before .args in
-    reads (a .buffer .now) (a .state .now) _ _ _ (sym (e .e .given .1) ∙ h .hear .ensures) refl refl refl
+    reads (a .services .now) (a .buffer .now) (a .state .now) _ _ _ (sym (e .e .given .1) ∙ h .hear .ensures) refl refl refl
 
 returns-2 : tie.Need-returns-2
 unfolding headOf
 returns-2 c =
     let h = c .before .before in
     let a = h .before .before .before .args in
-    reads (a .buffer .now) (a .state .now) _ _ _ (sym (c .enum-told .given .1) ∙ h .hear .ensures) refl refl refl
+    reads (a .services .now) (a .buffer .now) (a .state .now) _ _ _ (sym (c .enum-told .given .1) ∙ h .hear .ensures) refl refl refl
 
 returns-3 : tie.Need-returns-3
 unfolding headOf
@@ -29,7 +29,7 @@ returns-3 c =
     let h = e .before .before in
     let a = h .before .before .before .args in
     let k = c .acknowledge .ensures in
-    reads (a .buffer .now) (a .state .now) _ _ _ (sym (e .ea .given .1) ∙ h .hear .ensures) (k .answer) (k .head) (k .bytes)
+    reads (a .services .now) (a .buffer .now) (a .state .now) _ _ _ (sym (e .ea .given .1) ∙ h .hear .ensures) (k .answer) (k .head) (k .bytes)
 
 pub read-spec : {M : Type 1} → statement M
 read-spec =

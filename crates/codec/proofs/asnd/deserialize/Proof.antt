@@ -13,6 +13,6 @@ deserialize-spec =
     (search needs)
     (search needs)
     (search needs)
-    (λ c. rw (c .fields .ensures) (rw (c .before .before .service .given .1) at (c .before .before .before .before .judge .ensures)))
-    (λ c. rw (c .enum-told .given .1) at (c .before .before .judge .ensures))
+    (λ c. let v = c .before in rw (c .fields .ensures) (rw (v .enum-told .given .1) at (v .before .before .judge .ensures)))
+    (λ c. rw (c .enum-told2 .given .1) at (c .before .before .judge .ensures))
     (λ c. rw (c .before .b .given .1) at (c .before .before .before .judge .ensures)))

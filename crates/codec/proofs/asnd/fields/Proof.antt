@@ -10,4 +10,5 @@ fields-spec =
     (tie.spec
     (search needs)
     (search needs)
-    (λ c. rw (c .byte-at2 .ensures, c .before .byte-at .ensures)))
+    (search needs)
+    (λ c. rw (c .byte-at3 .ensures, c .before .byte-at2 .ensures, c .before .before .byte-at .ensures)))

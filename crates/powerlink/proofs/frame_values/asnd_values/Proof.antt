@@ -11,5 +11,4 @@ asnd-values-spec =
     (search needs)
     (search needs)
     (search needs)
-    (search needs)
-    (λ c. rw (c .to-u8 .ensures)))
+    (search needs))

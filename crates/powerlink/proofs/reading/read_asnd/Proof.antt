@@ -11,14 +11,14 @@ returns : tie.Need-returns
 returns c =
     let p = c .before in
     let f = p .before in
-    let m = f .before .before in
-    section-frame _ _ _ _ _ (ASnd (f .fields .result)) (rw (f .fields .ensures) (rw (m .service .given .1) at (m .before .before .judge .ensures)))
+    let m = f .before in
+    section-frame _ _ _ _ _ (ASnd (f .fields .result)) (rw (f .fields .ensures) (rw (m .enum-told .given .1) at (m .before .before .judge .ensures)))
     (rw (p .payload-place .ensures) at (c .asnd-values .ensures))
 
 returns-2 : tie.Need-returns-2
 returns-2 c =
     let m = c .before .before in
-    section-refused _ _ _ _ _ _ BufferTooShort (rw (m .enum-told .given .1) at (m .before .before .judge .ensures)) (c .refusal .ensures)
+    section-refused _ _ _ _ _ _ BufferTooShort (rw (m .enum-told2 .given .1) at (m .before .before .judge .ensures)) (c .refusal .ensures)
 
 returns-3 : tie.Need-returns-3
 returns-3 c =

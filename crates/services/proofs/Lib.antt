@@ -1,0 +1,5 @@
+pub mod CausesTell
+pub mod Ids
+pub mod Laws
+pub mod Loading
+pub mod Tables

@@ -1,0 +1,4 @@
+pub mod CausesTell
+pub mod Ids
+pub mod Load
+pub mod Table
