@@ -2,7 +2,7 @@
 use crate::inputs::{Random, Targets};
 use crate::ours::*;
 use crate::rows::{Group, Row, Side, calls, changes};
-use plain::{AnswerFields, Collector, CollectorRead, Reporter, ReporterRead, RequestFields};
+use plain::{AnswerFields, Collector, CollectorRead, ExchangeError, Reporter, ReporterRead, RequestFields};
 use powerlink_rs::frame::error::ErrorEntry;
 use powerlink_rs::types::{EPLVersion, NodeId};
 use std::hint::black_box;
@@ -101,7 +101,7 @@ impl ReporterPair {
         let mut reporter = ReporterPair { ours: [0; REPORTER_LEN], theirs: Reporter::new(NodeId(id)).expect("an ID") };
         assert_eq!(unsafe { powerlink_reporter_new_v2(&mut reporter.ours, id) }, 0);
         for _ in 0..waiting {
-            let entry = random.entry();
+            let entry = random.history_entry();
             assert_eq!((our_raise(&mut reporter.ours, &entry), reporter.theirs.raise(entry)), (0, Ok(())));
         }
         reporter
@@ -166,6 +166,33 @@ impl CollectorPair {
             [e.error_code as u64, time.seconds as u64, time.nanoseconds as u64, e.additional_information]
         );
     }
+}
+
+/// Where the entries of an answer begin: behind the Ethernet header, the fields of the ASnd and the front of the StatusResponse.
+const ENTRIES_AT: usize = 14 + 4 + 14;
+
+const ENTRY_LEN: usize = 20;
+
+/// Both sides refuse a status entry, and leave those of a frame out of the book.
+fn status_entries_stay_out(fields: &AnswerFields, random: &mut Random) {
+    let mut reporter = ReporterPair::new(IDS[0], 4, random);
+    let mut entry = random.history_entry();
+    entry.entry_type.is_status_entry = true;
+    assert_eq!(
+        (our_raise(&mut reporter.ours, &entry), reporter.theirs.raise(entry)),
+        (23, Err(ExchangeError::StatusEntry))
+    );
+    // The second and the fourth of four become status entries on the way.
+    let mut frame = reporter.answer(fields);
+    for entry in [1, 3] {
+        frame[ENTRIES_AT + entry * ENTRY_LEN + 1] |= 0x80;
+    }
+    let mut both = CollectorPair::new(&IDS);
+    both.read(&frame, CollectorRead::Booked);
+    both.take(IDS[0]);
+    both.take(IDS[0]);
+    let ours = unsafe { powerlink_collector_take(&mut both.ours, IDS[0], &mut [0; 8]) };
+    assert_eq!((ours, both.theirs.take(NodeId(IDS[0]))), (16, Err(ExchangeError::NothingBooked)));
 }
 
 struct Rows<'a> {
@@ -328,10 +355,11 @@ pub fn rows(random: &mut Random, rows: &mut Vec<Row>) {
         static_error_bit_field: random.field(),
     };
     let request = RequestFields { source_mac: random.mac(), nmt_state: random.state(), epl_version: EPLVersion(0x20) };
+    status_entries_stay_out(&fields, &mut Random(1));
 
     // The reporter. Entries wait; then a batch is open.
     let fresh: Vec<ReporterPair> = (0..REPORTERS).map(|_| ReporterPair::new(id, 0, random)).collect();
-    let entries: Vec<ErrorEntry> = (0..16).map(|_| random.entry()).collect();
+    let entries: Vec<ErrorEntry> = (0..16).map(|_| random.history_entry()).collect();
     let mine = entries.clone();
     rows.reporter_changes(
         "raise",
@@ -341,7 +369,7 @@ pub fn rows(random: &mut Random, rows: &mut Vec<Row>) {
         move |s| entries.iter().for_each(|e| _ = black_box(&s.raise(*black_box(e)))),
     );
     let full = ReporterPair::new(id, 16, random);
-    let entry = random.entry();
+    let entry = random.history_entry();
     rows.reporter_calls(
         "raise, refused: queue full",
         &full,
@@ -396,7 +424,7 @@ pub fn rows(random: &mut Random, rows: &mut Vec<Row>) {
         let mut reporter = ReporterPair::new(id, 0, random);
         for _ in 0..16 {
             for _ in 0..4 {
-                let entry = random.entry();
+                let entry = random.history_entry();
                 assert_eq!((our_raise(&mut reporter.ours, &entry), reporter.theirs.raise(entry)), (0, Ok(())));
             }
             answers.push(reporter.answer(&fields));

@@ -115,6 +115,13 @@ impl Random {
         }
     }
 
+    /// An entry that a head of ours takes.
+    pub fn history_entry(&mut self) -> ErrorEntry {
+        let mut entry = self.entry();
+        entry.entry_type.is_status_entry = false;
+        entry
+    }
+
     pub fn status(&mut self, entries: usize) -> StatusResponsePayload {
         let entries = (0..entries).map(|_| self.entry()).collect();
         StatusResponsePayload::new(self.flag(), self.flag(), self.pr(), self.rs(), self.state(), self.field(), entries)

@@ -1,6 +1,6 @@
 //! The error exchange as one would write it in plain Rust on top of powerlink-rs: the same rules and limits as crates
-//! reporter and collector (01, "Error exchange"), with structs behind `&mut`, fixed arrays as rings, and powerlink-rs's own
-//! functions for every frame.
+//! reporter and collector (01, "Error exchange", and 02, CR 2), with structs behind `&mut`, fixed arrays as rings, and
+//! powerlink-rs's own functions for every frame.
 use powerlink_rs::PowerlinkError;
 use powerlink_rs::common::NetTime;
 use powerlink_rs::frame::basic::MacAddress;
@@ -22,6 +22,7 @@ const ETH_HEADER: usize = 14;
 pub enum ExchangeError {
     Frame(PowerlinkError),
     EntryInvalid,
+    StatusEntry,
     QueueFull,
     NotStatusResponse,
     NotRegistered,
@@ -119,6 +120,9 @@ impl Reporter {
     pub fn raise(&mut self, entry: ErrorEntry) -> Result<(), ExchangeError> {
         if entry.entry_type.mode == ErrorEntryMode::Terminator || entry.entry_type.profile > 0x0FFF {
             return Err(ExchangeError::EntryInvalid);
+        }
+        if entry.entry_type.is_status_entry {
+            return Err(ExchangeError::StatusEntry);
         }
         if self.entries.len - self.open >= WAITING_MAX {
             return Err(ExchangeError::QueueFull);
@@ -244,10 +248,12 @@ impl Collector {
         if status.en_flag == node.ea {
             return Ok(CollectorRead::Known);
         }
-        if status.error_entries.len() > BOOK_MAX - node.book.len {
+        // Status entries stay out of the book.
+        let bookable = || status.error_entries.iter().filter(|entry| !entry.entry_type.is_status_entry);
+        if bookable().count() > BOOK_MAX - node.book.len {
             return Err(ExchangeError::BookFull);
         }
-        for entry in &status.error_entries {
+        for entry in bookable() {
             node.book.push(*entry);
         }
         node.ea = status.en_flag;

@@ -48,8 +48,15 @@ extern "C" {
  * Version 2 has tables of services: powerlink_services_load and powerlink_services_contains are new; who reads or writes
  * an ASnd takes a table. It is the first parameter of powerlink_deserialize_frame, powerlink_serialize_asnd and
  * powerlink_new_asnd, and stands behind the state of powerlink_reporter_answer, powerlink_reporter_read and
- * powerlink_collector_read. With POWERLINK_DS301_SERVICES each of them answers as in version 1. The octets of a state are
- * as in version 1: what was saved there goes on here. */
+ * powerlink_collector_read. With POWERLINK_DS301_SERVICES each of them answers as in version 1, but for what follows. The
+ * octets of a state are as in version 1: what was saved there goes on here.
+ *
+ * Later in version 2, with no parameter and no length changed, so that a program built with version 2 before it links as it
+ * is: powerlink_reporter_raise answers 23 for a status entry, one with bit 15 set, and powerlink_collector_read leaves such
+ * entries out of the book. A program that knows the causes up to 22 has to expect 23, and one that raised its faults with
+ * `status_entry` raises them without. A reporter's state that was saved before may hold status entries: they are sent, and
+ * not booked. If they are to be listed, the reporter is emptied before the collector is changed: until its answers carry
+ * no entry. Those in a saved book are taken as before. */
 #define POWERLINK_VERSION 2
 #define powerlink_reporter_new powerlink_reporter_new_v2
 #define powerlink_collector_new powerlink_collector_new_v2
@@ -126,7 +133,7 @@ enum {
     POWERLINK_QUEUE_FULL = 9,              /* 16 entries are waiting */
     POWERLINK_NOT_STATUS_RESPONSE = 10,    /* the frame is another one */
     POWERLINK_NOT_REGISTERED = 11,
-    POWERLINK_BOOK_FULL = 12,              /* fewer free places than entries of the batch */
+    POWERLINK_BOOK_FULL = 12,              /* fewer free places than entries of the batch with bit 15 clear */
     POWERLINK_ID_OUT_OF_RANGE = 13,        /* a controlled node's ID is 1 to 239 */
     POWERLINK_ID_REGISTERED = 14,
     POWERLINK_FOUR_REGISTERED = 15,
@@ -136,7 +143,8 @@ enum {
     POWERLINK_RECORD_INVALID = 19,         /* a record has mode 0 or above 3, or an ID that is not 1 to 239 */
     POWERLINK_NOT_A_TABLE = 20,            /* a table of services has under 5 octets, or another mark or version */
     POWERLINK_NOT_ASCENDING = 21,          /* its IDs are not strictly ascending */
-    POWERLINK_WITHOUT_STATUS_RESPONSE = 22      /* 2, StatusResponse, is not among them */
+    POWERLINK_WITHOUT_STATUS_RESPONSE = 22, /* 2, StatusResponse, is not among them */
+    POWERLINK_IS_STATUS_ENTRY = 23         /* an entry to raise has bit 15 set, `status_entry` */
 };
 
 /* ---- Codes */
@@ -293,7 +301,7 @@ enum {
 /* Of powerlink_collector_read. */
 enum {
     POWERLINK_KNOWN = 0, /* EN equals EA: taken for a batch that was booked before, or none was sent */
-    POWERLINK_BOOKED = 1 /* the batch is in the book, and EA is changed */
+    POWERLINK_BOOKED = 1 /* the batch is in the book, without its status entries, or has no others; EA is changed */
 };
 
 /* ---- Tables of services
@@ -549,8 +557,16 @@ uint8_t powerlink_new_asnd(
  * Tables. Reading and answering take a table of services, any one, each end its own and each call another if need be: what
  * is booked and acknowledged does not depend on it.
  *
- * Whole frames. What is read is the whole frame, as long as it was received. Of a StatusResponse that was cut behind
- * its first entries these are booked, and the others are lost: nothing in it tells how long it was.
+ * Status entries. An entry with bit 15 set and mode 1 to 3 shows what is wrong now; nodes of another supplier send it in
+ * every answer. The collector does not book it: an answer may arrive with status entries put at any places among its
+ * entries, by whom ever, and the same is booked and acknowledged as of the answer that was sent. Mode 0 ends the entries,
+ * with bit 15 too. A reporter does not take one: 23; a fault that is to be listed is raised with bit 15 clear. Who shows
+ * status entries walks every answer, known ones too, with powerlink_entry_step, over the octets from 18 on. Answers that
+ * carry them are longer than POWERLINK_ANSWER_MAX:
+ *
+ * Whole frames. What is read is the whole frame, as long as it was received, up to the 1,514 octets of Ethernet. Of a
+ * StatusResponse that was cut behind its first entries these are booked, and the others are lost: nothing in it tells how
+ * long it was.
  *
  * Order. Frames of one sender arrive in the order of sending. Queues with priorities, in a switch or in the host, do
  * not change it.
@@ -614,8 +630,9 @@ uint8_t powerlink_new_asnd(
  * Tests: 13. Refused: nothing is written. */
 uint8_t powerlink_reporter_new(uint8_t state[POWERLINK_ARRAY(POWERLINK_REPORTER_LEN)], uint8_t id);
 
-/* An entry joins the waiting ones, last.
- * Tests: 8, 9. Refused: nothing is written. */
+/* An entry joins the waiting ones, last. With `status_entry`, bit 15, it is refused (23), since the collector would not book
+ * it: a fault that is to be listed is raised without. A mode above 3 is 8, as mode 0 is, whatever `status_entry` is.
+ * Tests: 8, 23, 9. Refused: nothing is written. */
 uint8_t powerlink_reporter_raise(
     uint8_t state[POWERLINK_ARRAY(POWERLINK_REPORTER_LEN)],
     bool status_entry, bool send_to_queue, uint8_t mode, uint16_t profile, uint16_t code,
@@ -660,12 +677,15 @@ uint8_t powerlink_collector_new(uint8_t state[POWERLINK_ARRAY(POWERLINK_COLLECTO
  * Tests: 13, 14, 15. Refused: nothing is written. */
 uint8_t powerlink_collector_register(uint8_t state[POWERLINK_ARRAY(POWERLINK_COLLECTOR_LEN)], uint8_t id);
 
-/* Reads a frame: the batch of a registered node's StatusResponse goes into its book of 64 entries, whole, unless EN
- * says that it was booked before. The frame's destination is not tested; a new EN without entries is booked too.
+/* Reads a frame: the batch of a registered node's StatusResponse goes into its book of 64 entries, unless EN says that it
+ * was booked before. Booked are the entries with bit 15 clear, all of them and in their order; status entries, those with
+ * bit 15 set, are left out wherever they stand, and need no place. An entry of mode 0 ends the batch, whatever its bit 15
+ * is. Where EN is new and there is no entry, or status entries alone, nothing goes into the book, EA becomes EN, and the
+ * outcome is booked. The frame's destination is not tested.
  * `outcome`: POWERLINK_KNOWN or _BOOKED; where booked, the state is saved before the next frame leaves.
- * Tests: those of powerlink_deserialize_frame, 10, 11, 1 and 5 of the StatusResponse, then 12, where the batch is not
- * known: the node sends it again, and powerlink_collector_take makes room. A batch of more than 64 never finds it; a
- * reporter's has at most four.
+ * Tests: those of powerlink_deserialize_frame, 10, 11, 1 and 5 of the StatusResponse; then it is known, whatever its entries
+ * are; then 12, where it has more entries with bit 15 clear than places are free: the node sends it again, and
+ * powerlink_collector_take makes room. There is never room for more than 64; a reporter's batch has at most four.
  * Refused: nothing is written, but `octet` with 4 to 7. */
 uint8_t powerlink_collector_read(
     uint8_t state[POWERLINK_ARRAY(POWERLINK_COLLECTOR_LEN)],
@@ -698,8 +718,9 @@ uint8_t powerlink_collector_take(
 
 /* ---- The journal, which the program `journal` lists */
 
-/* Writes a record: `id` and the 20 octets of the entry, of whose profile the low 12 bits are written. The journal
- * begins with POWERLINK_JOURNAL_START, which the caller writes.
+/* Writes a record: `id` and the 20 octets of the entry, of whose profile the low 12 bits are written. Any entry is taken, a
+ * status entry too, and listed as a fault is: bit 15 has no column. The journal begins with POWERLINK_JOURNAL_START,
+ * which the caller writes.
  * Tests: 1, 19. Refused: nothing is written. */
 uint8_t powerlink_journal_record(
     uint8_t id, bool status_entry, bool send_to_queue, uint8_t mode, uint16_t profile, uint16_t code,

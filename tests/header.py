@@ -202,7 +202,7 @@ EXPORTED = re.compile(
 # The causes of a contract, in the order of their tests (01: "Causes"); those of `deserialize_frame` are said in words.
 ORDERS = {
     'WritesTo': [1], 'EthRead': [1], 'PlRead': [1, 4], 'StatusRead': [1, 5], 'FieldRead': [1], 'EntryRead': [1], 'StepRead': [],
-    'ReporterMakes': [13], 'ReporterRaises': [8, 9], 'ReporterAnswers': [1, 5], 'ReporterEn': [], 'CollectorMakes': [],
+    'ReporterMakes': [13], 'ReporterRaises': [8, 23, 9], 'ReporterAnswers': [1, 5], 'ReporterEn': [], 'CollectorMakes': [],
     'CollectorRegisters': [13, 14, 15], 'CollectorFlags': [11], 'CollectorRequests': [11, 1, 5], 'CollectorTakes': [11, 16],
     'JournalRecords': [1, 19], 'JournalWhole': [17, 18], 'ServicesContain': [],
 }

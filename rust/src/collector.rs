@@ -44,11 +44,11 @@ pub struct RequestFields {
 /// and goes to the head with every [request](Collector::request).
 #[derive(Debug, Clone, Copy, PartialEq, Eq, Hash)]
 pub enum CollectorRead {
-    /// EN differs from EA: the batch is new. Its entries are in the book now, all of them, in their
-    /// order, and EA is EN, so that the next request acknowledges the batch.
+    /// EN differs from EA: the batch is new. Its entries with bit 15 clear, if it has any, are in the
+    /// book now, in their order, and EA is EN, so that the next request acknowledges the batch.
     Booked,
     /// EN equals EA: the batch was booked before, and this is a repeat of it, or no batch was sent
-    /// yet. Nothing has changed.
+    /// yet. Nothing has changed, whatever the entries are.
     Known,
 }
 
@@ -66,12 +66,18 @@ impl Collector {
         ffi::collector_register(&mut self.0, id)
     }
 
-    /// Reads a frame: the batch of a registered head's StatusResponse goes into its book, whole,
-    /// unless it is there already. Refused are what [`deserialize_frame`](crate::deserialize_frame)
-    /// refuses (1 to 7), a frame that is no StatusResponse (10), one from a node that is not
-    /// registered (11), a payload under 14 octets (1) or with an unknown state (5), and a new batch
-    /// with more entries than the book has free places (12), which the head sends again; one of more
-    /// than 64 never finds them. Where it was booked, the state is saved before the next frame leaves.
+    /// Reads a frame: the batch of a registered head's StatusResponse goes into its book, unless it is
+    /// there already. Booked are the entries with bit 15 clear, all of them and in their order. Status
+    /// entries, those with bit 15 set, show what is wrong now, and heads of another supplier send them
+    /// in every answer: they are left out, wherever they stand, and need no place. An entry with the
+    /// terminator's mode ends the batch, whatever its bit 15 is. Of a new batch without entries, or of
+    /// status entries alone, nothing is booked; EA becomes EN, as of any other.
+    ///
+    /// Refused are what [`deserialize_frame`](crate::deserialize_frame) refuses (1 to 7), a frame that
+    /// is no StatusResponse (10), one from a node that is not registered (11), a payload under 14
+    /// octets (1) or with an unknown state (5), and a new batch with more entries to book than the
+    /// book has free places (12), which the head sends again; more than 64 never find them. Where it
+    /// was booked, the state is saved before the next frame leaves.
     pub fn read(&mut self, services: &Services, buffer: &[u8]) -> Result<CollectorRead, Error> {
         Ok(match ffi::collector_read(&mut self.0, services, buffer)? {
             0 => CollectorRead::Known,

@@ -30,7 +30,7 @@ pub enum Error {
     NotStatusResponse,
     /// 11: the node is not registered.
     NotRegistered,
-    /// 12: the node's book has fewer free places than the batch has entries.
+    /// 12: the node's book has fewer free places than the batch has entries that are to be booked.
     BookFull,
     /// 13: the ID of a head is not one of 1 to 239.
     IdOutOfRange,
@@ -52,10 +52,12 @@ pub enum Error {
     NotAscending,
     /// 22: the IDs of a table of services have no 2, which is StatusResponse.
     WithoutStatusResponse,
+    /// 23: the raised entry is a status entry: bit 15 of its type is set.
+    StatusEntry,
 }
 
 impl Error {
-    /// The number of the cause: 1 to 22.
+    /// The number of the cause: 1 to 23.
     pub fn number(self) -> u8 {
         match self {
             Error::BufferTooShort => 1,
@@ -80,6 +82,7 @@ impl Error {
             Error::NotATable => 20,
             Error::NotAscending => 21,
             Error::WithoutStatusResponse => 22,
+            Error::StatusEntry => 23,
         }
     }
 
@@ -120,6 +123,7 @@ impl Error {
             20 => Error::NotATable,
             21 => Error::NotAscending,
             22 => Error::WithoutStatusResponse,
+            23 => Error::StatusEntry,
             _ => panic!("libpowerlink.a answers with {cause}, which is no cause"),
         })
     }
@@ -148,7 +152,9 @@ impl fmt::Display for Error {
             Error::QueueFull => write!(f, "16 entries are waiting already"),
             Error::NotStatusResponse => write!(f, "frame is no StatusResponse"),
             Error::NotRegistered => write!(f, "node is not registered"),
-            Error::BookFull => write!(f, "book has fewer free places than the batch has entries"),
+            Error::BookFull => {
+                write!(f, "book has fewer free places than the batch has entries to book")
+            }
             Error::IdOutOfRange => write!(f, "node ID is not one of 1 to 239"),
             Error::IdRegistered => write!(f, "node is registered already"),
             Error::Full => write!(f, "four nodes are registered"),
@@ -164,6 +170,7 @@ impl fmt::Display for Error {
             Error::NotATable => write!(f, "no table of services: under 5 octets, or its mark is not PLS, or its version not 1"),
             Error::NotAscending => write!(f, "IDs of a table of services are not strictly ascending"),
             Error::WithoutStatusResponse => write!(f, "table of services has no 2, which is StatusResponse"),
+            Error::StatusEntry => write!(f, "entry to raise is a status entry: bit 15 is set"),
         }
     }
 }

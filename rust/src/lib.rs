@@ -54,7 +54,7 @@
 //!     nmt_state: NmtState::NmtOperational,
 //!     static_error_bit_field: StaticErrorBitField::default(),
 //! };
-//! let mut line = [0; 132];
+//! let mut line = [0; 1514]; // Ethernet's longest frame: 132 octets do for our heads alone.
 //! let n = head.answer(&services, &fields, &mut line)?;
 //! assert_eq!(the_box.read(&services, &line[..n])?, CollectorRead::Booked);
 //! assert_eq!(the_box.read(&services, &line[..n])?, CollectorRead::Known);
@@ -93,6 +93,15 @@
 //! **Frames of a head.** Its StatusResponses come from [`Reporter::answer`] alone; its PRes has the
 //! EN of [`Reporter::en`]. EN flips when an answer opens a batch, and not when an entry is raised:
 //! it does not tell that entries wait, so that the box sends every head a request again and again.
+//!
+//! **Status entries.** An entry with bit 15 set and mode 1 to 3 shows what is wrong now, and heads of
+//! another supplier send it in every answer. The box does not book it: an answer may arrive with
+//! status entries put at any places among its entries, by whom ever, and the same is booked and
+//! acknowledged as of the answer that was sent. Mode 0 ends the entries, with bit 15 too. A head of
+//! ours does not take one ([`Error::StatusEntry`]): a fault that is to be listed is raised with
+//! bit 15 clear. Who shows status entries reads every answer, known ones too, with
+//! [`StatusResponse::deserialize`] of the octets from 18 on. Answers that carry them are longer than
+//! the 132 octets of ours:
 //!
 //! **Whole frames.** A frame is read as long as it was received: of a StatusResponse that is cut
 //! behind its first entries these are booked, and the others are lost. A head of another supplier
@@ -190,7 +199,11 @@ mod types;
 /// from, unless it is said here.
 ///
 /// Version 2 has tables of [`Services`]. Its states have the octets of version 1: what was saved
-/// there goes on here.
+/// there goes on here. Later in version 2 came [`Error::StatusEntry`], and that the box leaves status
+/// entries out of its book, which changes no parameter and no length. A head's state that was saved
+/// before may hold some: they are sent, and not booked. If they are to be listed, the head is emptied
+/// before the box is changed: until its answers carry no entry. Those in a saved book are taken as
+/// before.
 pub const VERSION: u32 = 2;
 
 pub use codes::{

@@ -67,7 +67,9 @@ impl Reporter {
     }
 
     /// An entry joins the waiting ones, last. Refused are an entry with the terminator's mode or a
-    /// profile above 4,095 (8), and a 17th waiting entry (9).
+    /// profile above 4,095 (8), a status entry, whose bit 15 is set (23), since the box would not
+    /// book it, and a 17th waiting entry (9), in this order. A fault that is to be listed is raised
+    /// with bit 15 clear.
     pub fn raise(&mut self, entry: &ErrorEntry) -> Result<(), Error> {
         ffi::reporter_raise(&mut self.0, entry)
     }

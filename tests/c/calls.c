@@ -89,9 +89,9 @@ static void head_hears(uint8_t outcome)
     printf("head reads: %s\n", outcome == POWERLINK_CLOSED ? "closed" : "kept");
 }
 
-static uint8_t raise_as(uint8_t mode, uint16_t profile)
+static uint8_t raise_as(bool status_entry, uint8_t mode, uint16_t profile)
 {
-    return powerlink_reporter_raise(head, true, false, mode, profile, 1, 1, 1, 1);
+    return powerlink_reporter_raise(head, status_entry, false, mode, profile, 1, 1, 1, 1);
 }
 
 /* Refused by what is asked of head and box. */
@@ -104,9 +104,11 @@ static void refused_by_the_exchange(void)
     memcpy(before, entry, sizeof entry);
     want("a new head 0", powerlink_reporter_new(head, 0), POWERLINK_ID_OUT_OF_RANGE);
     want("a new head 240", powerlink_reporter_new(head, MN), POWERLINK_ID_OUT_OF_RANGE);
-    want("raising mode 0", raise_as(0, 2), POWERLINK_ENTRY_INVALID);
-    want("raising mode 4", raise_as(4, 2), POWERLINK_ENTRY_INVALID);
-    want("raising profile 4096", raise_as(1, 4096), POWERLINK_ENTRY_INVALID);
+    want("raising mode 0", raise_as(false, 0, 2), POWERLINK_ENTRY_INVALID);
+    want("raising mode 4", raise_as(false, 4, 2), POWERLINK_ENTRY_INVALID);
+    want("raising profile 4096", raise_as(false, 1, 4096), POWERLINK_ENTRY_INVALID);
+    want("raising a status entry of mode 0", raise_as(true, 0, 2), POWERLINK_ENTRY_INVALID);
+    want("raising a status entry", raise_as(true, 1, 2), POWERLINK_IS_STATUS_ENTRY);
     want("registering 0", powerlink_collector_register(box, 0), POWERLINK_ID_OUT_OF_RANGE);
     want("registering twice", powerlink_collector_register(box, HEAD), POWERLINK_ID_REGISTERED);
     want("taking of node 8", powerlink_collector_take(box, 8, entry), POWERLINK_NOT_REGISTERED);
@@ -259,7 +261,7 @@ int main(void)
 
     for (code = 1; code <= 16; code++)
         raise_entry(code);
-    want("a 17th waiting entry", raise_as(POWERLINK_ERROR_ACTIVE, 2), POWERLINK_QUEUE_FULL);
+    want("a 17th waiting entry", raise_as(false, POWERLINK_ERROR_ACTIVE, 2), POWERLINK_QUEUE_FULL);
     printf("a 17th waiting entry is refused\n");
     return 0;
 }

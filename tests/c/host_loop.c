@@ -37,6 +37,7 @@ static void burn(void)
         longjmp(power_cut, 1);
 }
 
+/* The heads here are ours. Another supplier's answers are longer, and are received into 1,514 octets. */
 struct frame {
     uint8_t octets[POWERLINK_ANSWER_MAX];
     size_t len;

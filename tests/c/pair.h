@@ -44,7 +44,7 @@ static inline void new_pair(void)
 static inline void raise_entry(uint16_t code)
 {
     want("Raise",
-        powerlink_reporter_raise(head, true, false, POWERLINK_ERROR_ACTIVE, 2, code, code, code + 1u, code + 2u),
+        powerlink_reporter_raise(head, false, true, POWERLINK_ERROR_ACTIVE, 2, code, code, code + 1u, code + 2u),
         POWERLINK_DONE);
 }
 
@@ -96,8 +96,8 @@ static inline void take(uint16_t code)
 {
     uint64_t v[POWERLINK_ENTRY_VALUES];
     want("Take", powerlink_collector_take(box, HEAD, v), POWERLINK_DONE);
-    want("status entry", v[POWERLINK_ENTRY_STATUS_ENTRY], 1);
-    want("send to queue", v[POWERLINK_ENTRY_SEND_TO_QUEUE], 0);
+    want("status entry", v[POWERLINK_ENTRY_STATUS_ENTRY], 0);
+    want("send to queue", v[POWERLINK_ENTRY_SEND_TO_QUEUE], 1);
     want("mode", v[POWERLINK_ENTRY_MODE], POWERLINK_ERROR_ACTIVE);
     want("profile", v[POWERLINK_ENTRY_PROFILE], 2);
     want("code", v[POWERLINK_ENTRY_CODE], code);

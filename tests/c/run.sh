@@ -66,11 +66,12 @@ for call in $(sed -n 's/^#define \(powerlink_[a-z_]*\) powerlink_.*_v[0-9]*$/\1/
 done
 echo 'a header of another version does not link'
 
-for program in calls services host_frames restarts host_loop any_header journal; do
+for program in calls services status_entries host_frames restarts host_loop any_header journal; do
     cc -std=c99 $warned "tests/c/$program.c" "$lib" -o "$out/$program"
 done
 "$out/calls"
 "$out/services"
+"$out/status_entries"
 "$out/host_frames"
 "$out/restarts"
 mkdir "$out/host"

@@ -609,7 +609,7 @@ static void all_signaling(void)
     for (i = 0; i <= 4; i++) {
         for (j = 0; j < i; j++)
             want("raise",
-                powerlink_reporter_raise(reporter, j & 1, j & 2, (uint8_t)(1 + j % 3), (uint16_t)(j + 1),
+                powerlink_reporter_raise(reporter, false, j & 2, (uint8_t)(1 + j % 3), (uint16_t)(j + 1),
                     (uint16_t)(0x8000 + i), 100 + i, 200 + j, 300 + i),
                 0);
         fresh();
@@ -617,6 +617,9 @@ static void all_signaling(void)
             powerlink_reporter_answer(reporter, table, mac_a, mac_b, i & 1, (uint8_t)i, (uint8_t)i, POWERLINK_OPERATIONAL,
                 field, frame, sizeof frame, &frame_len, &octet),
             0);
+        /* Bit 15, which a node of ours does not send, and one of another supplier does. */
+        for (j = 1; j < i; j += 2)
+            frame[ASND_FRONT + FRONT + j * ENTRY + 1] |= 0x80;
         emit("", v);
         want("the box's reading", powerlink_collector_read(collector, table, frame, frame_len, &outcome, &octet), 0);
         fresh();

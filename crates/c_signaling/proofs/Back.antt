@@ -187,7 +187,7 @@ module _ (i : ℕ) (s : Site) where
       }
 
   box-back : (services : List ℕ) (from : Origin) (bs : List ℕ) (r : BoxReadAnswer) (after : List ℕ)
-      → signaling.Delivered services i from bs (signaling.tally i (events (s .log)) .answers)
+      → signaling.Reaches services i from bs (signaling.tally i (events (s .log)) .answers)
       → collector.Reads services bs r (s .box) after
       → Comes i s (byBox after (boxRead services from bs r ∷ []))
   box-back services from bs r after d c =

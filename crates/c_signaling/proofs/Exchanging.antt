@@ -19,7 +19,7 @@ use Rattle.types.specs.declared.states.NmtStateAnswer.the-variants as state
 use Rattle.section.specs.Write.{Coded}
 use Rattle.section.specs.declared.WriteAnswer.the-variants as write
 use Rattle.error_entry.specs.declared.ErrorEntry.{ErrorEntry}
-use Rattle.reporter.specs.declared.RaiseAnswer.the-variants.{EntryInvalid, QueueFull}
+use Rattle.reporter.specs.declared.RaiseAnswer.the-variants.{EntryInvalid, StatusEntry, QueueFull}
 use Rattle.collector.specs.CausesTell as box
 use Rattle.collector.specs.Layout.{accountOf, boxOf}
 use Rattle.collector.specs.Rules.{Account, requestCause, readAnswer, readCause}
@@ -77,14 +77,15 @@ Each P (x ∷ l) = P x × Each P l
 
 -- a Raise that does not answer 0
 module _ (i : ℕ) where
-  refused-quiet : (e : ErrorEntry) (invalid : Bool) → Quiet i (raised e (pick invalid EntryInvalid QueueFull))
-  refused-quiet e true = tt
-  refused-quiet e false = tt
+  refused-quiet : (e : ErrorEntry) (invalid status : Bool) → Quiet i (raised e (pick invalid EntryInvalid (pick status StatusEntry QueueFull)))
+  refused-quiet e true status = tt
+  refused-quiet e false true = tt
+  refused-quiet e false false = tt
 
   raise-quiet : (g : Raising) (m : ErrorEntryModeAnswer) (r : ℕ) → (r ≡ 0 → ⊥) → Each (Quiet i) (raiseEvents g m r)
   raise-quiet g (mode.Unknown b) r h = tt
   raise-quiet g (mode.Known m) r h =
-      either (eqb r 0) (λ t. absurd (h (eqb-true r 0 t))) (λ t. (rw t (refused-quiet (raisedEntry g m) (eqb r 8)), tt))
+      either (eqb r 0) (λ t. absurd (h (eqb-true r 0 t))) (λ t. (rw t (refused-quiet (raisedEntry g m) (eqb r 8) (eqb r 23)), tt))
 
   answer-quiet : (m : NmtStateAnswer) (r : ℕ) (t : List ℕ) (n : ℕ) → Each (Quiet i) (answerEvents m r t n)
   answer-quiet (state.Unknown b) r t n = tt
@@ -125,8 +126,8 @@ module _ {i : ℕ} {Again : Event → Type 0} where
 none-again : (x : Call) → CNoRepeat x → Each NoRepeat (eventsOf x)
 none-again x k = absurd k
 
-answer-again : (p : ℕ) (bs : List ℕ) (x : Call) → CAnswerAgain p bs x → Each (AnswerAgain p bs) (eventsOf x)
-answer-again p bs x k = rw (k .4) ((_, _, refl), tt)
+answer-again : (p : ℕ) (x : Call) → CAnswerAgain p x → Each (AnswerAgain p) (eventsOf x)
+answer-again p x k = rw (k .5) ((_, _, _, refl), tt)
 
 request-again : (q : ℕ) (bs : List ℕ) (x : Call) → CRequestAgain q bs x → Each (RequestAgain q bs) (eventsOf x)
 request-again q bs x k = rw (k .4) ((_, _, refl), tt)
@@ -150,7 +151,7 @@ exchange x =
       boxReads = the-step (called (x .boxReads));
       newAnswer = x .newAnswer;
       w₄ = worldOf (x .w₄);
-      quiet₂ = quietly (answer-again (x .p) (x .answerRead)) (x .quiet₂);
+      quiet₂ = quietly (answer-again (x .p)) (x .quiet₂);
       length₂ = x .length₂;
       request = x .request;
       w₅ = worldOf (x .w₅);

@@ -1,3 +1,4 @@
+pub mod AsSent
 pub mod Back
 pub mod Demand3
 pub mod Exchanging

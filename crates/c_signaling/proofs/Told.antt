@@ -18,7 +18,7 @@ use Rattle.error_entry.proofs.Values.{values-tell}
 use Rattle.reporter.specs.CausesTell.{raiseTold, writeTold, readTold}
 use Rattle.reporter.specs.Rules.{raiseCause, readCause}
 use Rattle.reporter.specs.declared.RaiseAnswer.{RaiseAnswer}
-use Rattle.reporter.specs.declared.RaiseAnswer.the-variants.{Raised, EntryInvalid, QueueFull}
+use Rattle.reporter.specs.declared.RaiseAnswer.the-variants.{Raised, EntryInvalid, StatusEntry, QueueFull}
 use Rattle.reporter.specs.declared.ReadAnswer.{ReadAnswer}
 use Rattle.reporter.specs.declared.ReadAnswer.the-variants.{Closed, Kept, Ignored, Refused}
 use Rattle.collector.specs.CausesTell as box
@@ -39,6 +39,7 @@ use Rattle.c_signaling.specs.Log.{reading}
 pub raise-number : (a : RaiseAnswer) → raiseTold (row (raiseCause a .number) []) ≡ a
 raise-number Raised = refl
 raise-number EntryInvalid = refl
+raise-number StatusEntry = refl
 raise-number QueueFull = refl
 
 pub register-number : (a : RegisterAnswer) → box.registerTold (row (rules.registerCause a .number) []) ≡ a

@@ -22,7 +22,7 @@ use Rattle.types.specs.Causes.{errorTold}
 use Rattle.error_entry.specs.Values.{entryTold}
 use Rattle.error_entry.specs.declared.ErrorEntry.{ErrorEntry}
 use Rattle.reporter.specs.Rules.{whenRaised}
-use Rattle.reporter.specs.declared.RaiseAnswer.the-variants.{Raised, EntryInvalid, QueueFull}
+use Rattle.reporter.specs.declared.RaiseAnswer.the-variants.{Raised, EntryInvalid, StatusEntry, QueueFull}
 use Rattle.collector.specs.Layout.{accountOf}
 use Rattle.collector.specs.Rules.{Account, requestCause}
 use Rattle.collector.specs.declared.RequestAnswer.the-variants as requesting
@@ -41,10 +41,12 @@ use Rattle.c_signaling.proofs.Told.{unnamed-number, unasked-number}
 -- ---- what answers 0 is not refused
 
 module _ {A : Type 0} (new old : A) where
-  raised-if : (zero invalid : Bool) → whenRaised (pick zero Raised (pick invalid EntryInvalid QueueFull)) new old ≡ pick zero new old
-  raised-if true invalid = refl
-  raised-if false true = refl
-  raised-if false false = refl
+  raised-if : (zero invalid status : Bool)
+      → whenRaised (pick zero Raised (pick invalid EntryInvalid (pick status StatusEntry QueueFull))) new old ≡ pick zero new old
+  raised-if true invalid status = refl
+  raised-if false true status = refl
+  raised-if false false true = refl
+  raised-if false false false = refl
 
 module _ (n : ℕ) (e : PowerlinkError) (bs : List ℕ) (fs : List (List ℕ)) where
   answered-if : (zero : Bool) → ifAnswered (pick zero (write.Written n) (write.Refused e)) bs fs ≡ pick zero (fs ++ (take n bs ∷ [])) fs
@@ -82,7 +84,7 @@ module _ (i : ℕ) (l : Log) where
       → seenIn i (raiseEvents g m r ++ l) ≡ withAccepted (ifZero r (accepted i l ++ raisedEntries g m) (accepted i l))
   raise-seen g (mode.Unknown b) r s after k = rw (k .cause)
   raise-seen g (mode.Known m) r s after k =
-      ap withAccepted (raised-if (accepted i l ++ (raisedEntry g m ∷ [])) (accepted i l) (eqb r 0) (eqb r 8))
+      ap withAccepted (raised-if (accepted i l ++ (raisedEntry g m ∷ [])) (accepted i l) (eqb r 0) (eqb r 8) (eqb r 23))
 
   answer-seen : (m : NmtStateAnswer) (k : ℕ) (f : NmtState → Coded) (r : ℕ) (t t′ : List ℕ) (n : ℕ)
       → r ≡ writeCause (codedAnswer (stated k m f) t) .number

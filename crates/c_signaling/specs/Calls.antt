@@ -13,7 +13,8 @@ use Rattle.reporter.specs.Rules.{eaTold}
 use Rattle.reporter.specs.declared.acknowledge.Heard.the-variants as heard
 use Rattle.powerlink.specs.Collecting.{CollectorMakes, CollectorRegisters, CollectorReads, CollectorFlags, CollectorRequests, CollectorTakes, requestFields}
 use Rattle.powerlink.specs.Reporting.{ReporterMakes, ReporterRaises, ReporterAnswers, ReporterReads, answerFields}
-use Rattle.signaling.specs.Calls.{Origin, Event, Log, tally, accepted, handedOut, answersSent, requestsSent, ruled, unbooked, World, Delivered, Tells, Step, Run}
+use Rattle.signaling.specs.Arrival.{IsASnd, Arrives}
+use Rattle.signaling.specs.Calls.{Origin, Event, Log, tally, accepted, handedOut, answersSent, requestsSent, ruled, unbooked, World, Delivered, Reaches, Tells, Step, Run}
 use Rattle.c_signaling.specs.Log.{Raising, Call, reporterRaise, reporterAnswer, reporterRead, collectorRegister, collectorRead, collectorRequest, collectorTake, hostSends, Seen, seen, eventsOf, events}
 
 -- ---- the list of calls
@@ -43,7 +44,7 @@ pub data CStep (i : ℕ) (w : Site) : Call → Site → Type 0 where
   registers : (j r : ℕ) (after : List ℕ) → CollectorRegisters j r (w .box) after
       → CStep i w (collectorRegister j r) (record { head = w .head; box = after; log = collectorRegister j r ∷ w .log })
   boxReads : (services : List ℕ) (from : Origin) (bs : List ℕ) (r k k′ o o′ : ℕ) (after : List ℕ)
-      → Delivered services i from bs (tally i (events (w .log)) .answers)
+      → Reaches services i from bs (tally i (events (w .log)) .answers)
       → CollectorReads services bs r (w .box) after k k′ o o′
       → CStep i w (collectorRead services from bs r k′ o′) (record { head = w .head; box = after; log = collectorRead services from bs r k′ o′ ∷ w .log })
   requests : (j : ℕ) (from : List ℕ) (version state r : ℕ) (t t′ : List ℕ) (n n′ o o′ : ℕ)
@@ -116,3 +117,12 @@ pub record CFlagsTell : Type 0 where
   pub unregistered : (services : List ℕ) (i : ℕ) (s bs : List ℕ) (a a′ e e′ : Bool) → CollectorFlags i 11 s a a′ e e′
       → eaTold services i bs ≡ heard.Ea false
       → Tells i s bs
+
+-- ---- status entries
+
+-- as `AsSent` of `signaling`: number, outcome, octet and the box's octets are those of the frame as sent
+pub record CAsSent : Type 0 where
+  pub reads : (services f given s after after′ : List ℕ) (r r′ k k₁ k₂ o o₁ o₂ : ℕ) → IsASnd f → Arrives f given
+      → CollectorReads services f r s after k k₁ o o₁
+      → CollectorReads services given r′ s after′ k k₂ o o₂
+      → (r′ ≡ r) × (k₂ ≡ k₁) × (o₂ ≡ o₁) × (after′ ≡ after)

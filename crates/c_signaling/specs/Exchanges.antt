@@ -26,9 +26,9 @@ CQuiet (collectorTake j r vs) = Unit {0}
 CQuiet (hostSends bs) = Unit {0}
 
 -- "On the line a repeat arrives before any later frame of the same sender": the frame that was read last is read once more,
--- under whichever table
-abbrev pub CAnswerAgain : ℕ → List ℕ → Call → Type 0
-CAnswerAgain p bs x = (services : List ℕ) × (r : ℕ) × (k : ℕ) × (o : ℕ) × (x ≡ collectorRead services (sent p) bs r k o)
+-- under whichever table; an answer with whichever status entries
+abbrev pub CAnswerAgain : ℕ → Call → Type 0
+CAnswerAgain p x = (services : List ℕ) × (bs : List ℕ) × (r : ℕ) × (k : ℕ) × (o : ℕ) × (x ≡ collectorRead services (sent p) bs r k o)
 
 abbrev pub CRequestAgain : ℕ → List ℕ → Call → Type 0
 CRequestAgain q bs x = (services : List ℕ) × (r : ℕ) × (k : ℕ) × (o : ℕ) × (x ≡ reporterRead services (sent q) bs r k o)
@@ -62,7 +62,7 @@ pub record CExchange (i : ℕ) (w v : Site) : Type 0 where
   pub boxReads : CStep i w₂ (collectorRead boxServices (sent p) answerRead boxNumber boxOutcome boxOctet) w₃
   pub newAnswer : length (answersSent i (events (w .log))) ≤ p
   pub w₄ : Site
-  pub quiet₂ : CQuietly i (CAnswerAgain p answerRead) w₃ w₄
+  pub quiet₂ : CQuietly i (CAnswerAgain p) w₃ w₄
   pub state₂ : ℕ
   pub length₂ : ℕ
   pub request : List ℕ

@@ -120,7 +120,7 @@ seen i (x ∷ l) = seenWith i x (seen i l)
 
 -- ---- which call of `signaling` it was, by the numbers: none where a code names nothing
 
--- 0 is raised, 8 an invalid entry, 9 a full queue
+-- 0 is raised, 8 an invalid entry, 23 a status entry, 9 a full queue
 abbrev pub raiseEvents : Raising → ErrorEntryModeAnswer → ℕ → Log
 raiseEvents g (mode.Unknown b) r = []
 raiseEvents g (mode.Known m) r = raised (raisedEntry g m) (raiseTold (row r [])) ∷ []

@@ -44,10 +44,10 @@ module _ (k : ℕ) where
       ∙ ap (λ (l : List ErrorEntry). l ++ es) (book-pushed s k e size place (omega arith) (each .0))
       ∙ append-assoc (bookIn s k) (e ∷ []) es
 
-  pub all-snoc : (es : List ErrorEntry) (s : List ℕ) (e : ErrorEntry) → pushedAll s k (es ++ (e ∷ [])) ≡ pushedBytes (pushedAll s k es) k e
+  pub all-append : (a b : List ErrorEntry) (s : List ℕ) → pushedAll s k (a ++ b) ≡ pushedAll (pushedAll s k a) k b
   unfolding pushedAll
-  all-snoc [] s e = refl
-  all-snoc (x ∷ es) s e = all-snoc es (pushedBytes s k x) e
+  all-append [] b s = refl
+  all-append (e ∷ a) b s = all-append a b (pushedBytes s k e)
 
 -- ---- and its bit
 

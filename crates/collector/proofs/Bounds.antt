@@ -9,6 +9,7 @@ use native.Mathlib.Omega.{arith}
 use lib.ListN.{length}
 use lib.Dec.{eqb, leb, ltb}
 use borrow.Author.Tests.{eqb-true, leb-true, ltb-true}
+use Rattle.octets.proofs.Cases.{either}
 use Rattle.types.specs.Codes.{need}
 use Rattle.error_entry.specs.declared.ErrorEntry.{ErrorEntry}
 use Rattle.collector.specs.Bounds.{BoxRun, fresh, registers, reads, takes, isIn, EachOnce, OfHeads, BoxBounds}
@@ -23,10 +24,6 @@ use Rattle.collector.specs.declared.TakeAnswer.the-variants as taking
 use Rattle.collector.specs.declared.reading.Heard.{Heard}
 use Rattle.collector.specs.declared.reading.Heard.the-variants as heard
 use Rattle.collector.proofs.Meaning.{book-bound}
-
-either : {X : Type 0} (b : Bool) → (b ≡ true → X) → (b ≡ false → X) → X
-either true f g = f refl
-either false f g = g refl
 
 -- ---- what a box means, and the calls that register nobody
 

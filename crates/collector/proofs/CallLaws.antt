@@ -16,12 +16,11 @@ use Rattle.control.specs.declared.soa.NewSoAFrame.{NewSoAFrame}
 use Rattle.frame.specs.Write.{frameBytes}
 use Rattle.frame.specs.declared.PowerlinkFrame.the-variants.{SoA}
 use Rattle.status_response.specs.Fields.{readFields}
-use Rattle.status_response.specs.Steps.{statusEntries}
 use Rattle.status_response.specs.declared.fields.StatusAnswer.the-variants as status
 use Rattle.status_response.specs.declared.fields.StatusFields.{StatusFields}
 use Rattle.collector.specs.Calls.{Registers, Reads, Requests, Takes, ReadsStatus, Books}
 use Rattle.collector.specs.Layout.{collectorLength, slotOf, accountIn, accountOf, boxOf, registerBytes, responseBytes, takeBytes}
-use Rattle.collector.specs.Rules.{heads, registerAnswer, registerCause, enIn, statusPayload, bookAnswer, saidIn, accountAnswer, readAnswer, readCause, requestSoA, requestFrame, asRequest, requestWritten, requestAnswer, requestCause, afterRequest, takeAnswer, takeCause, responseIn}
+use Rattle.collector.specs.Rules.{heads, registerAnswer, registerCause, enIn, statusPayload, bookAnswer, saidIn, accountAnswer, readAnswer, readCause, requestSoA, requestFrame, asRequest, requestWritten, requestAnswer, requestCause, afterRequest, takeAnswer, takeCause, responseIn, bookedEntries}
 use Rattle.collector.specs.declared.ReadAnswer.{ReadAnswer}
 use Rattle.collector.specs.declared.ReadAnswer.the-variants.{Refused, NotStatusResponse, NotRegistered}
 use Rattle.collector.specs.declared.RegisterAnswer.{RegisterAnswer}
@@ -71,7 +70,7 @@ module _ (s : List ℕ) (source : ℕ) (payload : List ℕ) where
     status-books f is k at r after b =
         record {
           answer = rw (place-some s source known, ← is)
-              (b .answer ∙ ap (λ (j : ℕ). bookAnswer (f .«en_flag») (statusEntries payload) (accountIn s j)) at);
+              (b .answer ∙ ap (λ (j : ℕ). bookAnswer (f .«en_flag») (bookedEntries payload) (accountIn s j)) at);
           bytes = b .bytes ∙ rw (at, ap enIn is);
         }
 

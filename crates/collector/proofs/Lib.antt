@@ -3,6 +3,7 @@ pub mod AnyTable
 pub mod BatchLaws
 pub mod BlockLaws
 pub mod BookLaws
+pub mod BookableLaws
 pub mod Bounds
 pub mod CallLaws
 pub mod CausesTell

@@ -21,11 +21,10 @@ use Rattle.control.specs.SoA.{soaSection}
 use Rattle.frame.specs.Write.{frameBytes}
 use Rattle.error_entry.specs.declared.ErrorEntry.{ErrorEntry}
 use Rattle.status_response.specs.Fields.{readFields}
-use Rattle.status_response.specs.Steps.{statusEntries}
 use Rattle.status_response.specs.declared.fields.StatusAnswer.{StatusAnswer}
 use Rattle.status_response.specs.declared.fields.StatusAnswer.the-variants as status
 use Rattle.collector.specs.Layout.{nodeAt, collectorLength, block, nodeIn, findOf, slotOf, countIn, bookIn, accountIn, accountOf, vacantOf, boxOf, freshBytes, registerBytes, responseBytes, bookingBytes, bookedBytes, takenBytes, takeBytes}
-use Rattle.collector.specs.Rules.{saidIn, Said, heads, bookLength, Account, Box, Same, freshBox, withAccount, registerAnswer, afterRegister, enIn, statusPayload, bookAnswer, statusAnswer, responseAnswer, readAnswer, bookedAccount, afterBooking, afterResponse, requestFrame, takeAnswer, withoutFirst, afterTake, responseIn, statusIn}
+use Rattle.collector.specs.Rules.{saidIn, Said, heads, bookLength, Account, Box, Same, freshBox, withAccount, registerAnswer, afterRegister, enIn, statusPayload, bookAnswer, statusAnswer, responseAnswer, readAnswer, bookedAccount, afterBooking, afterResponse, requestFrame, takeAnswer, withoutFirst, afterTake, responseIn, statusIn, bookedEntries}
 use Rattle.collector.specs.declared.ReadAnswer.{ReadAnswer}
 use Rattle.collector.specs.declared.ReadAnswer.the-variants.{Booked, Known, Refused, NotStatusResponse, NotRegistered, BookFull}
 use Rattle.collector.specs.declared.RegisterAnswer.{RegisterAnswer}
@@ -41,7 +40,7 @@ use Rattle.collector.proofs.BookLaws.{book-most, taken-kept, taken-node
 use Rattle.collector.proofs.IdLaws.{place-none, place-some, slot-taken, block-means}
 use Rattle.collector.proofs.PlacedLaws.{placed-length}
 use Rattle.collector.proofs.RegisterLaws.{placed-means}
-use Rattle.collector.proofs.WalkLaws.{entries-in-range}
+use Rattle.collector.proofs.BookableLaws.{booked-in-range}
 
 pub same-box : (b : Box) → Same b b
 same-box b = record { accounts = λ i. refl; vacant = refl }
@@ -135,24 +134,24 @@ take-length taking.NothingBooked i s = refl
 
 -- a batch that there is room for
 module _ (s : List ℕ) (i : ℕ) (known : slotOf s i < heads) (size : length s ≡ collectorLength) (payload : List ℕ) (octets : Octets payload) where
-  booked-means : length (bookIn s (slotOf s i)) + length (statusEntries payload) ≤ bookLength
-      → Same (boxOf (bookedBytes s (slotOf s i) (enIn (readFields payload)) (statusEntries payload)))
+  booked-means : length (bookIn s (slotOf s i)) + length (bookedEntries payload) ≤ bookLength
+      → Same (boxOf (bookedBytes s (slotOf s i) (enIn (readFields payload)) (bookedEntries payload)))
       (withAccount i (bookedAccount (saidIn payload) (accountOf s i)) (boxOf s))
   booked-means room =
       let k : ℕ = slotOf s i in
       let en : Bool = enIn (readFields payload) in
-      let es : List ErrorEntry = statusEntries payload in
+      let es : List ErrorEntry = bookedEntries payload in
       block-means s (bookedBytes s k en es) i known (booked-kept s k en es) (booked-node s k en es) (bookedAccount (saidIn payload) (accountOf s i))
-      (rw (place-some s i known) (booked-place s k en es size known (entries-in-range payload octets) (omega (arith, book-length s k))))
+      (rw (place-some s i known) (booked-place s k en es size known (booked-in-range payload octets) (omega (arith, book-length s k))))
 
   -- the answer is that the batch is booked, so there was room
-  room-for : (a : StatusAnswer) → statusAnswer a (statusEntries payload) (accountIn s (slotOf s i)) ≡ Booked
-      → length (bookIn s (slotOf s i)) + length (statusEntries payload) ≤ bookLength
+  room-for : (a : StatusAnswer) → statusAnswer a (bookedEntries payload) (accountIn s (slotOf s i)) ≡ Booked
+      → length (bookIn s (slotOf s i)) + length (bookedEntries payload) ≤ bookLength
   unfolding bookAnswer
   room-for (status.Refused e) q = let z : _≡_ {A = ℕ} 0 1 = cc in absurd (omega arith)
   room-for (status.Status f) q =
       let book : List ErrorEntry = bookIn s (slotOf s i) in
-      let n : ℕ = length book + length (statusEntries payload) in
+      let n : ℕ = length book + length (bookedEntries payload) in
       leb-true n bookLength (go (Bool·beq (f .«en_flag») (accountIn s (slotOf s i) .ea)) (leb n bookLength) q)
     where
       go : (same fits : Bool) → pick same Known (need fits BookFull Booked) ≡ Booked → fits ≡ true

@@ -104,14 +104,6 @@ module _ (s : List ℕ) where
           let x : getD es n e ≡ e = ap (λ (k : ℕ). getD es k e) (sym (add-zero n)) ∙ sym (getD-drop n es 0 e) ∙ ap (λ (l : List ErrorEntry). getD l 0 e) here in
           take-suc es n e step-more ∙ ap (λ (y : ErrorEntry). take n es ++ (y ∷ [])) x
 
-  -- an entry's octets are the payload's
-  pub entry-fits : (n : ℕ) → n < length (statusEntries s) → 14 + 20 * n + 20 ≤ length s
-  entry-fits n h = go (stepAt s (14 + 20 * n)) refl
-    where
-      go : (x : EntryStep) → stepAt s (14 + 20 * n) ≡ x → 14 + 20 * n + 20 ≤ length s
-      go End q = absurd (let z : n ≡ length (statusEntries s) = step-end n (omega arith) q in omega arith)
-      go (Entry e next) q = entry-shape s (14 + 20 * n) e next q .1
-
 -- ---- what is read from octets is of the widths
 
 each-if : (b : Bool) (m : ErrorEntryMode) (es : List ErrorEntry) → EachInRange es → EachInRange (need b [] (unlessTerminator m es []))

@@ -146,13 +146,22 @@ responseIn services f = responseInAnswer (readFrame services f)
 abbrev pub statusPayload : List ℕ → List ℕ
 statusPayload f = drop asndPayloadAt f
 
--- what a StatusResponse says: its fields, or why they cannot be read, and its entries
+-- "The box books only the entries of a batch with bit 15 clear, and only those count against free places" (02, CR 2)
+abbrev pub bookable : List ErrorEntry → List ErrorEntry
+bookable [] = []
+bookable (e ∷ es) = pick (e .«entry_type» .«is_status_entry») (bookable es) (e ∷ bookable es)
+
+-- what is booked of a payload
+unfoldable pub bookedEntries : List ℕ → List ErrorEntry
+bookedEntries payload = bookable (statusEntries payload)
+
+-- what a StatusResponse says to the box: its fields, or why they cannot be read, and the entries to book
 pub record Said : Type 0 where
   pub fields : StatusAnswer
   pub entries : List ErrorEntry
 
 abbrev pub saidIn : List ℕ → Said
-saidIn payload = record { fields = readFields payload; entries = statusEntries payload }
+saidIn payload = record { fields = readFields payload; entries = bookedEntries payload }
 
 -- .. and what that StatusResponse says
 abbrev pub statusIn : List ℕ → Said
@@ -163,7 +172,7 @@ abbrev pub enIn : StatusAnswer → Bool
 enIn (status.Refused e) = false
 enIn (status.Status f) = f .«en_flag»
 
--- "EN equal to EA means known"; 12: "fewer free places than batch entries"
+-- "EN equal to EA means known", whatever the entries; 12: "fewer free places than batch entries", of those to book
 unfoldable pub bookAnswer : Bool → List ErrorEntry → Account → ReadAnswer
 bookAnswer en es p = pick (Bool·beq en (p .ea)) Known (need (leb (length (p .book) + length es) bookLength) BookFull Booked)
 
@@ -203,7 +212,7 @@ whenBooked NotStatusResponse a b = b
 whenBooked NotRegistered a b = b
 whenBooked BookFull a b = b
 
--- "the whole batch goes into the book and EA becomes EN"
+-- "the whole batch goes into the book and EA becomes EN": of the batch the entries to book, which may be none
 abbrev pub bookedAccount : Said → Option Account → Account
 bookedAccount said none = freshAccount
 bookedAccount said (some p) = withEa (enIn (said .fields)) (withBook (p .book ++ said .entries) p)

@@ -2,8 +2,9 @@
 ghost use mathlib.Core.Path.{_≡_};
 ghost use Prim.Native.Nat.{_+_, _≤_, _<_};
 ghost use lib.ListN.{length};
+ghost use mathlib.Core.List.{[], _∷_};
 ghost use Rattle.collector.specs.Layout.{countIn, startIn, entryIn, takenBytes, pushedBytes, pushedAll};
-ghost use Rattle.collector.specs.Rules.{saidIn, heads, bookLength};
+ghost use Rattle.collector.specs.Rules.{bookable, saidIn, heads, bookLength};
 use crate::BLOCK_LEN;
 use crate::COUNT_AT;
 use crate::Collector;
@@ -43,7 +44,14 @@ pub(crate) fn push(state: &mut Collector, k: usize, e: ErrorEntry)
     state[BLOCK_LEN * k + COUNT_AT] = n + 1;
 }
 
-// How many entries a payload holds.
+// The places that an entry takes in the book: none where it shows a status.
+fn places_for(e: ErrorEntry) -> usize
+    ensures { λ r. ⌜ (r ≡ length (bookable (e ∷ []))) × (r ≤ 1) ⌝ }
+{
+    if e.entry_type.is_status_entry { 0 } else { 1 }
+}
+
+// How many entries of a payload are to be booked.
 pub(crate) fn count_entries(payload: &[u8]) -> usize
     ensures { λ r. ⌜ r ≡ length (saidIn (now (payload .entry)) .entries) ⌝ }
 {
@@ -52,15 +60,26 @@ pub(crate) fn count_entries(payload: &[u8]) -> usize
     loop {
         match step_from(payload, at) {
             EntryStep::End => return n,
-            EntryStep::Entry(_, next) => {
-                n += 1;
+            EntryStep::Entry(e, next) => {
+                n += places_for(e);
                 at = next;
             }
         }
     }
 }
 
-// The entries of a payload join the book, in order.
+// An entry joins the book, last, if it takes a place.
+fn push_bookable(state: &mut Collector, k: usize, e: ErrorEntry)
+    requires { ⌜ (k < heads) × (countIn (now state) k + length (bookable (e ∷ [])) ≤ bookLength) ⌝ }
+    ensures { λ _. ⌜ (now (state .exit) ≡ pushedAll (now (state .entry)) k (bookable (e ∷ []))) × (countIn (now (state .exit)) k ≡ countIn (now (state .entry)) k + length (bookable (e ∷ []))) ⌝ }
+{
+    if places_for(e) == 0 {
+        return;
+    }
+    push(state, k, e);
+}
+
+// The entries of a payload that are to be booked join the book, in order.
 pub(crate) fn push_entries(state: &mut Collector, k: usize, payload: &[u8])
     requires { ⌜ (k < heads) × (countIn (now state) k + length (saidIn (now payload) .entries) ≤ bookLength) ⌝ }
     ensures { λ _. ⌜ now (state .exit) ≡ pushedAll (now (state .entry)) k (saidIn (now (payload .entry)) .entries) ⌝ }
@@ -70,7 +89,7 @@ pub(crate) fn push_entries(state: &mut Collector, k: usize, payload: &[u8])
         match step_from(payload, at) {
             EntryStep::End => return,
             EntryStep::Entry(e, next) => {
-                push(state, k, e);
+                push_bookable(state, k, e);
                 at = next;
             }
         }

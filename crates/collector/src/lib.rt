@@ -149,7 +149,8 @@ pub fn is_registered(state: &Collector, id: NodeId) -> bool
     slot(state, id.0) < NODES
 }
 
-// Reads a frame: the batch of a registered node's StatusResponse goes into its book, whole, unless it is there already.
+// Reads a frame: the batch of a registered node's StatusResponse goes into its book, whole but for status entries, unless
+// it is there already.
 pub fn read(state: &mut Collector, services: &Services, buffer: &[u8]) -> ReadAnswer
     ensures { λ r. ⌜ Reads (now (services .entry)) (now (buffer .entry)) r (now (state .entry)) (now (state .exit)) ⌝ }
 {

@@ -64,7 +64,7 @@ pub(crate) fn read_status(state: &mut Collector, source: u8, payload: &[u8]) -> 
     }
 }
 
-// Books the entries of a payload with the bit EN: all of them, or none.
+// Books what is to be booked of a payload with the bit EN: all of it, or nothing.
 fn book(state: &mut Collector, k: usize, en: bool, payload: &[u8]) -> ReadAnswer
     requires { ⌜ k < heads ⌝ }
     ensures { λ r. ⌜ Books k en (now (payload .entry)) r (now (state .entry)) (now (state .exit)) ⌝ }

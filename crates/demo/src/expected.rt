@@ -6,6 +6,7 @@ use crate::outcome::KEPT;
 use crate::outcome::KNOWN;
 use crate::sums::plus;
 use crate::target::Space;
+use error_entry::ENTRY_LEN;
 
 // The places of a book.
 const BOOK_LEN: u64 = 64;
@@ -13,12 +14,18 @@ const BOOK_LEN: u64 = 64;
 // The octets of a frame without payload, as requests are and what the host sends: the shortest of Ethernet.
 pub const FRAME_LEN: u64 = 60;
 
-// The octets of an answer with up to six entries: 52 and 20 for each, and 60 without.
+// The octets of an answer beside its entries: those in front of them, and the terminator.
+pub const BARE_LEN: u64 = 52;
+
+// The most entries that an answer reaches the box with: six of the other supplier's, and three that show a status.
+pub const MOST_ENTRIES: u64 = 9;
+
+// The octets of an answer with so many entries, as far as nine.
 pub fn answer_len(n: u64) -> u64 {
     if n == 0 {
         return FRAME_LEN;
     }
-    52 + 20 * (n % 7)
+    BARE_LEN + ENTRY_LEN as u64 * (n % (MOST_ENTRIES + 1))
 }
 
 // A writer, where the target has `room` octets and `len` are needed.
@@ -26,10 +33,14 @@ pub fn writing(len: u64, room: usize) -> u64 {
     if (room as u64) < len { 1 } else { len }
 }
 
-// Raise of an entry of a kind: of two kinds it is invalid.
+// Raise of an entry of a kind: of three it is invalid, and of the next bit 15 is set, which is tested after 8 and before 9 (02,
+// CR 2).
 pub fn raising(head: Head, kind: u64) -> u64 {
-    if kind < 2 {
+    if kind < 3 {
         return 8;
+    }
+    if kind == 3 {
+        return 23;
     }
     if head.waiting < 16 { DONE } else { 9 }
 }

@@ -1,5 +1,6 @@
 // Another supplier's head. It follows the same rules with batches of six, is known by its counts alone, and puts its frames
-// together octet by octet, from the specification and not by our writers.
+// together octet by octet, from the specification and not by our writers. What its answers show beside its entries is put in on
+// their way (status).
 use crate::Head;
 use crate::World;
 use crate::entries::entry;
@@ -12,10 +13,14 @@ use crate::sums::less;
 use crate::sums::plus;
 use crate::target::ROOM;
 use crate::target::Space;
+use error_entry::ENTRY_LEN;
 use error_entry::ErrorEntry;
 use octets::slices::put;
 
 pub const BATCH: u64 = 6;
+
+// The octets of an answer in front of its entries.
+pub const ENTRIES_AT: usize = 32;
 
 // How many entries it has sent once its next answer is sent; no more than one batch waits.
 fn sent_then(head: Head) -> u64 {
@@ -31,11 +36,11 @@ fn en(head: Head) -> bool {
 }
 
 // The array comes whole, since its type then says its length.
-fn put_entry(octets: &mut Space, at: usize, e: ErrorEntry) {
+pub fn put_entry(octets: &mut Space, at: usize, e: ErrorEntry) {
     records::put(octets, at, e);
 }
 
-// Puts the entries of its next answer behind the 32 octets in front.
+// Puts the entries of its next answer behind the octets in front.
 fn with_entries(front: Space, head: Head) -> Space {
     let n = head.carried();
     let first = less(sent_then(head), n);
@@ -43,7 +48,7 @@ fn with_entries(front: Space, head: Head) -> Space {
     for i in 0..6u64 {
         if i < n {
             let e = entry(head.number, plus(first, i));
-            put_entry(&mut octets, 32 + 20 * (i as usize), e);
+            put_entry(&mut octets, ENTRIES_AT + ENTRY_LEN * (i as usize), e);
         }
     }
     octets

@@ -1,5 +1,5 @@
-// 01's lines to check that are not proved as a table, 02's rules of tables of services, and others beside them (script: how a
-// line is read).
+// 01's lines to check that are not proved as a table, 02's rules of tables of services and of status entries, and others beside
+// them (script: how a line is read).
 use crate::World;
 use crate::script::play;
 
@@ -162,6 +162,92 @@ fn of_tables(w: World) -> World {
     )
 }
 
+// Entries with bit 15 set (02, CR 2): no head of ours raises one, and no box books one.
+fn of_status(w: World) -> World {
+    play(
+        w,
+        b"F  7\n\
+        E  3  23  an entry with bit 15 set\n\
+        E  2   8  one of mode 0 with bit 15 set\n\
+        R 16\n\
+        E  3  23  a 17th with bit 15 set\n\
+        F  7\n\
+        G  7\n\
+        R  2\n\
+        A240\n\
+        U  3\n\
+        U 23\n\
+        U 43\n\
+        B240 900  two entries with status entries before, between and behind\n\
+        A240\n\
+        U 13\n\
+        B240 901  the answer again, with another status entry\n\
+        T  7 900  taking the first entry\n\
+        T  7 900  taking the second\n\
+        T  7  16  taking a third: no status entry is booked\n\
+        Q  7\n\
+        H    900  the request behind it\n\
+        F  7\n\
+        G  7\n\
+        R  2\n\
+        A240\n\
+        U 12\n\
+        B240 900  two entries with one of mode 0 and bit 15 set between\n\
+        T  7 900  taking the first entry\n\
+        T  7  16  taking the second: the reading ends in front of it\n",
+    )
+}
+
+// A batch of nothing else.
+fn of_status_alone(w: World) -> World {
+    play(
+        w,
+        b"F  7\n\
+        G  7\n\
+        A240\n\
+        D 13\n\
+        U  3\n\
+        U 13\n\
+        B240 900  nothing but status entries, with EN 1\n\
+        T  7  16  taking with nothing booked\n\
+        B240 901  the same answer again\n",
+    )
+}
+
+// They take no place of a book.
+fn of_full_book(w: World) -> World {
+    play(
+        w,
+        b"F  7\n\
+        G  7\n\
+        L 15\n\
+        R  4\n\
+        A240\n\
+        U  3\n\
+        U 33\n\
+        U 63\n\
+        B240 900  four entries and three status entries, with four free places\n\
+        U 43\n\
+        B240 901  the answer again, with a fourth and a full book\n\
+        Q  7\n\
+        H    900  the request behind it\n\
+        A240\n\
+        D 13\n\
+        U  3\n\
+        B240 900  nothing but a status entry, with EN 1 and a full book\n\
+        A240\n\
+        U  3\n\
+        B240 900  the same with EN 0\n\
+        R  1\n\
+        A240\n\
+        U  3\n\
+        B240  12  a status entry and an entry with a full book\n\
+        T  7 900  taking one\n\
+        B240 900  the same answer again\n",
+    )
+}
+
 pub fn all(w: World) -> World {
-    of_tables(of_host(of_reading(of_box(of_head(w)))))
+    let of_01 = of_host(of_reading(of_box(of_head(w))));
+    of_full_book(of_status_alone(of_status(of_tables(of_01))))
 }

@@ -1,10 +1,11 @@
 // The error exchange of one box and five heads, on a line that drops, delays and repeats. First the lines to check, one by
 // one. Then the simulation: after every call, each entry that a head accepted has to be in one place and only once.
 //
-// Heads 7, 120 and 239 are ours and registered; 21 is ours and is not; 200 is another supplier's. Heads 21 and 239 are under a
-// house's table of services, the others under the twelve of DS 301. The managing node's host sends frames of its own between
-// the box's requests. The run has no input and is the same each time, so what it writes is compared with what is stored. With
-// the name of a file, what the box hands out is written there as a journal.
+// Heads 7, 120 and 239 are ours and registered; 21 is ours and is not; 200 is another supplier's, and each of its answers reaches
+// the box with status entries. Heads 21 and 239 are under a house's table of services, the others under the twelve of DS 301.
+// The managing node's host sends frames of its own between the box's requests. The run has no input and is the same each time,
+// so what it writes is compared with what is stored. With the name of a file, what the box hands out is written there as a
+// journal.
 mod account;
 mod calls;
 mod check;
@@ -23,6 +24,7 @@ mod outcome;
 mod progress;
 mod script;
 mod simulate;
+mod status;
 mod sums;
 mod table;
 mod target;
@@ -33,6 +35,7 @@ use collector::COLLECTOR_LEN;
 use collector::Collector;
 use libc::STDERR_FILENO;
 use octets::slices::front;
+use outcome::CAUSES;
 use outcome::DONE;
 use reporter::REPORTER_LEN;
 use reporter::Reporter;
@@ -96,7 +99,7 @@ pub struct World {
     pub got: u64,
     // Calls, and the refusals among them by cause.
     pub calls: u64,
-    pub causes: [u64; 20],
+    pub causes: [u64; CAUSES],
     // How often something does not hold that 01 or 02 says of a call, or of the calls so far.
     pub faults: u64,
     // Frames that the managing node sent, in one row: the box's requests, and those that its host sent by itself.
@@ -151,7 +154,7 @@ fn fresh(journal: i32) -> World {
         len: 0,
         got: DONE,
         calls: 0,
-        causes: [0u64; 20],
+        causes: [0u64; CAUSES],
         faults: 0,
         sent: 0,
         by_host: 0,
@@ -198,6 +201,7 @@ fn demo(journal: i32) {
     let scene = start(lines::all(fresh(journal)));
     say(
         b"the simulation: entries, then answers on their way to the box; head 200 is another supplier's, with batches of 6\n\
+        and status entries in every answer, which are not booked\n\
         every second head, 21 and 239, is under the house's table of services, the others under the twelve of DS 301\n",
     );
     let shown = table::simulated(simulated(scene));

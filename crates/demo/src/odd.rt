@@ -16,7 +16,7 @@ const BOTH: u64 = 11;
 
 // What changes in a frame, by kind: up to four places and the octets there. Kinds 0 to 6 are refused with cause 1 to 7; 0 and
 // 2 are cut. Then frames of the stranger: as it is, an IdentResponse, an ASnd of the house's service 20h, a PReq. Then an SoC,
-// and an answer with no state.
+// an answer with no state, and one with EN 1.
 fn changes(kind: u64) -> u64 {
     match kind {
         1 => 0x0C08,
@@ -30,6 +30,7 @@ fn changes(kind: u64) -> u64 {
         10 => 0x1021_0E03_1600_1700,
         11 => 0x0E01,
         12 => 0x1477,
+        13 => 0x1230,
         _ => 0,
     }
 }

@@ -19,6 +19,9 @@ pub const KEPT: u64 = 902;
 // A frame tells a head nothing.
 pub const IGNORED: u64 = 903;
 
+// More than the largest cause, and less than the shortest frame.
+pub const CAUSES: usize = 24;
+
 pub fn of_new(answer: NewAnswer) -> u64 {
     match answer {
         NewAnswer::Made => DONE,
@@ -30,6 +33,7 @@ pub fn of_raise(answer: RaiseAnswer) -> u64 {
     match answer {
         RaiseAnswer::Raised => DONE,
         RaiseAnswer::EntryInvalid => 8,
+        RaiseAnswer::StatusEntry => 23,
         RaiseAnswer::QueueFull => 9,
     }
 }

@@ -6,14 +6,16 @@ use crate::Scene;
 use crate::World;
 use crate::house;
 use crate::line::place;
+use crate::outcome::CAUSES;
 use crate::sums::plus;
 use crate::target::Space;
 
 impl World {
     // A writer has made a frame of this length, or was refused.
     pub fn has_written(mut self, octets: Space, got: u64) -> World {
+        let len = got as usize;
         self.octets = octets;
-        self.len = if got < 20 { 0 } else { got as usize };
+        self.len = if len < CAUSES { 0 } else { len };
         self.got = got;
         self
     }
@@ -50,8 +52,8 @@ impl World {
     pub fn comes_to(mut self, expected: u64) -> World {
         let got = self.got;
         self.calls = plus(self.calls, 1);
-        if got < 20 {
-            let cause = got as usize;
+        let cause = got as usize;
+        if cause < CAUSES {
             self.causes[cause] = plus(self.causes[cause], 1);
         }
         self.demands(got == expected)

@@ -11,12 +11,13 @@
 //     D  spoils the frame in hand (odd)               P  the host's PReq to this ID, with the EA that `flags` says
 //     H  the head reads the frame in hand             X  one with EA 0
 //     L  so many exchanges of four entries each       W  the host's ASnd of service 20h into so many octets
-//     N  loads the table of this number (house)
+//     N  loads the table of this number (house)       U  puts an entry into the answer in hand: the place, then its kind
 use crate::World;
 use crate::calls;
 use crate::entries::of_kind;
 use crate::host;
 use crate::odd::spoil;
+use crate::status::put_in;
 use crate::target::ROOM;
 use crate::text::next_line;
 use crate::text::say;
@@ -68,6 +69,7 @@ fn plays(w: World, letter: u8, n: u64) -> World {
         b'A' => calls::answer(w, n as usize, 9),
         b'Z' => calls::answer(w, n as usize, 0),
         b'D' => spoil(w, n),
+        b'U' => put_in(w, n / 10, of_kind(n % 10, 0, n)),
         b'H' => calls::head_reads(w),
         b'L' => exchanges(w, n),
         b'N' => calls::load(w, n),

@@ -3,6 +3,7 @@ use crate::Head;
 use crate::Scene;
 use crate::World;
 use crate::journal;
+use crate::outcome::CAUSES;
 use crate::sums::less;
 use crate::text::column;
 use crate::text::next_line;
@@ -47,22 +48,28 @@ fn cause_row(n: u64, cause: u64, name: &[u8]) {
     say(b"\n");
 }
 
-// A line for each cause; one that was never given makes the run worth less than it should be.
+// A line for a cause; one that was never given makes the run worth less than it should be.
+fn with_cause(w: World, cause: usize, name: &[u8]) -> World {
+    let n = w.causes[cause % CAUSES];
+    cause_row(n, cause as u64, name);
+    w.demands(0 < n)
+}
+
+// A line for each of 01's causes that a head or a box gives.
 fn causes(world: World, names: &[u8]) -> World {
     let mut w = world;
     let mut at = 0;
     for cause in 1..17usize {
-        let n = w.causes[cause];
-        cause_row(n, cause as u64, tail(names, at));
+        w = with_cause(w, cause, tail(names, at));
         at = next_line(names, at);
-        w = w.demands(0 < n);
     }
     w
 }
 
-// The same with 01's table of causes, in few words.
+// The same with 01's table of causes, in few words, and with the one that 02 adds for a head; 17 to 22 are of journals and of
+// tables of services.
 fn named_causes(w: World) -> World {
-    causes(
+    let after = causes(
         w,
         b"input or target too short\n\
         EtherType not 88AB h\n\
@@ -75,12 +82,13 @@ fn named_causes(w: World) -> World {
         16 already waiting\n\
         no StatusResponse\n\
         ID not registered\n\
-        fewer free places than entries\n\
+        fewer free places than entries to book\n\
         ID not 1 to 239\n\
         ID registered already\n\
         four registered\n\
         nothing booked to take\n",
-    )
+    );
+    with_cause(after, 23, b"entry with bit 15 set\n")
 }
 
 pub fn simulated(mut scene: Scene) -> Scene {

@@ -2,7 +2,7 @@
 use octets::slices::front;
 
 // More than the longest answer.
-pub const ROOM: usize = 192;
+pub const ROOM: usize = 240;
 
 // Every octet of a target before a call.
 pub const FILL: u8 = 0xFC;

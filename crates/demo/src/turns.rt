@@ -14,6 +14,7 @@ use crate::line::MANAGING_NODE;
 use crate::line::pick;
 use crate::outcome::DONE;
 use crate::outcome::of_take;
+use crate::status;
 use crate::sums::plus;
 use crate::target::is_clean;
 use collector::TakeAnswer;
@@ -66,6 +67,16 @@ pub fn answer(w: World, room: usize) -> World {
     sent.with(head.has_answered())
 }
 
+// An answer of the head as the line gives it to the box; another supplier's has status entries among its own.
+fn reaches(w: World, number: u64, chance: u64) -> World {
+    let head = w.head;
+    let given = w.is_given(head.number, number);
+    if head.is_ours() {
+        return given;
+    }
+    status::put_some(given, chance)
+}
+
 // The box reads the answer of the head that the line gives.
 pub fn box_reads(w: World, chance: u64) -> World {
     let head = w.head;
@@ -73,7 +84,7 @@ pub fn box_reads(w: World, chance: u64) -> World {
     if number == head.sent {
         return w;
     }
-    let read = calls::box_reads(w.is_given(head.number, number));
+    let read = calls::box_reads(reaches(w, number, chance / 16));
     let after = head.has_reported(number, read.got == DONE, w.sent);
     read.comes_to(expected::booking(head, number)).with(after)
 }

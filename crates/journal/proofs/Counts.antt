@@ -10,6 +10,7 @@ use native.Mathlib.Omega.{arith}
 use lib.Dec.{leb}
 use lib.Signed.{ltZ}
 use borrow.Author.Tests.{leb-true, ltb-true}
+use Rattle.octets.proofs.Cases.{both}
 use Rattle.io.specs.Counts.{clamped}
 use Rattle.journal.specs.Streams.{failing, saidMore, gotMore, afterRead, afterWrite, countMost, hasRoom, OrFails, Reads}
 use Rattle.journal.specs.declared.streams.Reading.{Reading}
@@ -54,10 +55,6 @@ some-read s (pos k) most t e = ap (λ (n : ℕ). record { streams = gotMore s n;
 some-read s (negsuc k) most t e = not-both refl t
 
 -- ---- whether there is room
-
-both : (a b : Bool) → a && b ≡ true → (a ≡ true) × (b ≡ true)
-both true b e = (refl, e)
-both false b e = not-both e refl
 
 module _ (s : Streams) where
   module _ (e : hasRoom s ≡ true) where

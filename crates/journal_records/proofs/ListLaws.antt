@@ -8,12 +8,12 @@ use native.Mathlib.Nat.{not-suc-le-zero}
 use native.Mathlib.Omega.{arith}
 use lib.Dec.{eqb}
 use lib.ListN.{length, take, drop, length-drop, List·getD-append}
-use lib.Seq.{take-append-le, drop-append-le}
+use lib.Seq.{drop-append-le}
 use borrow.Author.Tests.{le-leb, lt-leb, eq-eqb, ne-eqb}
 use Rattle.octets.specs.Mark.{isMarked}
-use Rattle.octets.specs.Numbers.{le, leAt}
+use Rattle.octets.specs.Numbers.{leAt}
 use Rattle.types.specs.Codes.{pick, need}
-use Rattle.error_entry.specs.Entry.{entryOf}
+use Rattle.error_entry.proofs.Front.{entry-front}
 use Rattle.journal_records.specs.Listing.{nodeOf, recordedEntry, version1, headerLine, recordLine, refusedLine, goodRecord, linesIn, lines, marked, layoutOf, listing, fieldsLine}
 use Rattle.journal_records.specs.Record.{validRecord}
 
@@ -92,11 +92,6 @@ module _ (s : List ℕ) (long : 21 ≤ length s) where
 
 -- ---- octets with others behind them
 
-pub number-front : (n at : ℕ) (s rest : List ℕ) → at + n ≤ length s → leAt n at (s ++ rest) ≡ leAt n at s
-unfolding leAt
-number-front n at s rest h =
-    ap le (ap (take n) (drop-append-le at s rest (omega arith)) ∙ take-append-le n (drop at s) rest (rw length-drop (omega arith)))
-
 module _ (s rest : List ℕ) (long : 5 ≤ length s) where
   pub mark-front : marked (s ++ rest) ≡ marked s
   unfolding marked isMarked
@@ -107,17 +102,8 @@ module _ (s rest : List ℕ) (long : 21 ≤ length s) where
   pub node-front : nodeOf (s ++ rest) ≡ nodeOf s
   node-front = List·getD-append s rest 0 0 (omega arith)
 
-  pub entry-front : recordedEntry (s ++ rest) ≡ recordedEntry s
-  unfolding entryOf
-  entry-front =
-      rw (drop-append-le 1 s rest (omega arith))
-      (simp (
-        number-front 2 0 (drop 1 s) rest (rw length-drop (omega arith)),
-        number-front 2 2 (drop 1 s) rest (rw length-drop (omega arith)),
-        number-front 4 4 (drop 1 s) rest (rw length-drop (omega arith)),
-        number-front 4 8 (drop 1 s) rest (rw length-drop (omega arith)),
-        number-front 8 12 (drop 1 s) rest (rw length-drop (omega arith)),
-      ))
+  pub entry-behind : recordedEntry (s ++ rest) ≡ recordedEntry s
+  entry-behind = rw (drop-append-le 1 s rest (omega arith)) (entry-front (drop 1 s) rest (rw length-drop (omega arith)))
 
 -- ---- mark and version
 

@@ -8,6 +8,7 @@ use native.Mathlib.Nat.{mod-lt}
 use native.Mathlib.Omega.{arith}
 use lib.ListN.{length, drop, length-append}
 use lib.Seq.{drop-append-le}
+use Rattle.octets.proofs.Le.{number-front}
 use Rattle.octets.specs.Numbers.{leAt}
 use Rattle.error_entry.specs.Entry.{entryOf, entryTypeOf}
 use Rattle.journal_records.specs.Listing.{nodeOf, recordedEntry, version1, headerLine, refusedLine, lines}
@@ -15,7 +16,7 @@ use Rattle.journal_records.specs.Parts.{Piece, stepOf, textFrom, dueAfte
 use Rattle.journal_records.specs.declared.listing.Phase.{Phase}
 use Rattle.journal_records.proofs.LineLaws.{line-short}
 use Rattle.journal_records.proofs.RecordLaws.{valid-id}
-use Rattle.journal_records.proofs.ListLaws.{lines-none, lines-cut, lines-fault, lines-good, listing-cut, listing-unmarked, listing-version, listing-good, number-front, mark-front, node-front, entry-front}
+use Rattle.journal_records.proofs.ListLaws.{lines-none, lines-cut, lines-fault, lines-good, listing-cut, listing-unmarked, listing-version, listing-good, mark-front, node-front, entry-behind}
 use Rattle.journal_records.proofs.TextLaws.{decimal-ten}
 use Rattle.journal_records.proofs.Views.{Lined, View, view, waits, ends, full, lined, head-cut, unmarked, other-version, head-good, short, fault, good}
 
@@ -39,10 +40,10 @@ module _ (rest : List ℕ) where
       ∙ ap (λ (t : List ℕ). headerLine version1 ++ lines version1 t) (drop-append-le 5 s rest h)
   lined-due {s = s} (short h n) l = rw (l refl, append-nil, append-nil) (lines-cut s h n)
   lined-due {s = s} (fault h e) l =
-      rw append-nil (lines-fault (s ++ rest) (longer 21 s h) (rw (node-front s rest h, entry-front s rest h) e))
+      rw append-nil (lines-fault (s ++ rest) (longer 21 s h) (rw (node-front s rest h, entry-behind s rest h) e))
   lined-due {s = s} (good h e) l =
-      lines-good (s ++ rest) (longer 21 s h) (rw (node-front s rest h, entry-front s rest h) e)
-      ∙ rw (node-front s rest h, entry-front s rest h, drop-append-le 21 s rest h)
+      lines-good (s ++ rest) (longer 21 s h) (rw (node-front s rest h, entry-behind s rest h) e)
+      ∙ rw (node-front s rest h, entry-behind s rest h, drop-append-le 21 s rest h)
 
   view-due : {p : Phase} {s : List ℕ} {last : Bool} {room : ℕ} {q : Piece} → View p s last room q → Due p s last q
   view-due (waits h) l = refl

@@ -1,12 +1,12 @@
 -- Numbers of several bytes, low byte first: one law for every width.
 -- Assumes nothing.
-use Prim.Native.Nat.{ℕ, zero, suc, _+_, _*_, _/_, _^_, _<_}
+use Prim.Native.Nat.{ℕ, zero, suc, _+_, _*_, _/_, _^_, _≤_, _<_}
 use mathlib.Core.Path.{_≡_, refl, sym, ap, _∙_}
-use mathlib.Core.List.{List, [], _∷_}
+use mathlib.Core.List.{List, [], _∷_, _++_}
 use native.Mathlib.Nat.{zero-add, add-zero, suc-add, pow-zero, pow-succ', mul-assoc, mul-zero}
 use native.Mathlib.Omega.{arith}
-use lib.ListN.{take, drop, getD}
-use lib.Seq.{take-nil, getD-drop, drop-drop}
+use lib.ListN.{length, take, drop, getD, length-drop}
+use lib.Seq.{take-nil, getD-drop, drop-drop, take-append-le, drop-append-le}
 use Rattle.octets.specs.Numbers.{le, leAt, leBytes, beAt}
 
 -- n bytes and the m after them
@@ -62,3 +62,9 @@ pub be-joined : (at hi lo : ℕ) (s t : List ℕ) → t ≡ drop at s → hi ≡
 unfolding beAt
 be-joined at hi lo s t et eh el =
     rw (eh, el, et, getD-drop 1 (drop at s) 0 0) (omega arith)
+
+-- octets with others behind them
+pub number-front : (n at : ℕ) (s rest : List ℕ) → at + n ≤ length s → leAt n at (s ++ rest) ≡ leAt n at s
+unfolding leAt
+number-front n at s rest h =
+    ap le (ap (take n) (drop-append-le at s rest (omega arith)) ∙ take-append-le n (drop at s) rest (rw length-drop (omega arith)))

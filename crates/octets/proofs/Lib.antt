@@ -1,3 +1,4 @@
+pub mod Cases
 pub mod Le
 pub mod NumberBack
 pub mod Order

@@ -21,6 +21,7 @@ use types::NodeId;
 use types::basic::MacAddress;
 use types::causes::ENTRY_INVALID;
 use types::causes::ID_OUT_OF_RANGE;
+use types::causes::IS_STATUS_ENTRY;
 use types::causes::QUEUE_FULL;
 use types::error_mode::ErrorEntryMode;
 use types::error_mode::ErrorEntryModeAnswer;
@@ -41,7 +42,7 @@ pub extern "C" fn powerlink_reporter_new_v2(state: &mut Reporter, id: u8) -> u8
     }
 }
 
-// An entry joins the waiting ones, last. A mode that is none is no entry's: cause 8.
+// An entry joins the waiting ones, last. A mode that is none is no entry's: cause 8, whatever its other values are.
 #[no_mangle]
 pub extern "C" fn powerlink_reporter_raise(
     state: &mut Reporter,
@@ -72,6 +73,7 @@ pub extern "C" fn powerlink_reporter_raise(
             match raise(state, entry) {
                 RaiseAnswer::Raised => 0,
                 RaiseAnswer::EntryInvalid => ENTRY_INVALID,
+                RaiseAnswer::StatusEntry => IS_STATUS_ENTRY,
                 RaiseAnswer::QueueFull => QUEUE_FULL,
             }
         }

@@ -1,6 +1,6 @@
 -- What each call promises, from its answer and the octets that it leaves; and its answer, by the tests that lead to it.
 -- Assumes nothing.
-use Prim.Native.Nat.{ℕ, _≤_, _<_}
+use Prim.Native.Nat.{ℕ}
 use mathlib.Core.Path.{_≡_, refl, sym, ap, _∙_}
 use mathlib.Core.Bool.{Bool, true, false, not, Bool·beq}
 use mathlib.Core.List.{List}
@@ -16,7 +16,7 @@ use Rattle.reporter.specs.Calls.{Makes, Numbers, Raises, Acknowledges, R
 use Rattle.reporter.specs.Layout.{reporterLength, enOf, openOf, waitingOf, headOf, newBytes, raiseBytes, acknowledgeBytes}
 use Rattle.reporter.specs.Rules.{queueLength, newAnswer, newCause, isRaisable, raiseAnswer, raiseCause, eaAnswer, acknowledgeAnswer, readCause, afterAcknowledge, eaTold}
 use Rattle.reporter.specs.declared.NewAnswer.the-variants.{Made, IdOutOfRange}
-use Rattle.reporter.specs.declared.RaiseAnswer.the-variants.{Raised, EntryInvalid, QueueFull}
+use Rattle.reporter.specs.declared.RaiseAnswer.the-variants.{Raised, EntryInvalid, StatusEntry, QueueFull}
 use Rattle.reporter.specs.declared.ReadAnswer.{ReadAnswer}
 use Rattle.reporter.specs.declared.ReadAnswer.the-variants.{Closed, Kept}
 use Rattle.reporter.specs.declared.acknowledge.Heard.{Heard}
@@ -47,18 +47,25 @@ module _ (e : ErrorEntry) (s : List ℕ) where
     unfolding raiseAnswer
     raise-invalid h = rw (sym eb ∙ h)
 
-    module _ (h : b ≡ true) where
+    pub raise-status : b ≡ true → e .«entry_type» .«is_status_entry» ≡ true → StatusEntry ≡ raiseAnswer e (headOf s)
+    unfolding raiseAnswer
+    raise-status h st = rw (sym eb ∙ h, st)
+
+    module _ (h : b ≡ true) (st : e .«entry_type» .«is_status_entry» ≡ false) where
       pub raise-full : ltb (waitingOf s) queueLength ≡ false → QueueFull ≡ raiseAnswer e (headOf s)
       unfolding raiseAnswer
-      raise-full l = rw (sym eb ∙ h, waiting-length s, l)
+      raise-full l = rw (sym eb ∙ h, st, waiting-length s, l)
 
       pub raise-good : ltb (waitingOf s) queueLength ≡ true → Raised ≡ raiseAnswer e (headOf s)
       unfolding raiseAnswer
-      raise-good l = rw (sym eb ∙ h, waiting-length s, l)
+      raise-good l = rw (sym eb ∙ h, st, waiting-length s, l)
 
   module _ (w : Numbers e) where
     pub invalid : EntryInvalid ≡ raiseAnswer e (headOf s) → Raises e EntryInvalid s s
     invalid r = record { answer = r; cause = ap raiseCause r; numbers = w; head = refl; bytes = refl }
+
+    pub status : StatusEntry ≡ raiseAnswer e (headOf s) → Raises e StatusEntry s s
+    status r = record { answer = r; cause = ap raiseCause r; numbers = w; head = refl; bytes = refl }
 
     pub full : QueueFull ≡ raiseAnswer e (headOf s) → Raises e QueueFull s s
     full r = record { answer = r; cause = ap raiseCause r; numbers = w; head = refl; bytes = refl }

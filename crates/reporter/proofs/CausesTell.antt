@@ -11,7 +11,7 @@ use Rattle.reporter.specs.Rules.{newCause, raiseCause, readCause}
 use Rattle.reporter.specs.declared.NewAnswer.{NewAnswer}
 use Rattle.reporter.specs.declared.NewAnswer.the-variants.{Made, IdOutOfRange}
 use Rattle.reporter.specs.declared.RaiseAnswer.{RaiseAnswer}
-use Rattle.reporter.specs.declared.RaiseAnswer.the-variants.{Raised, EntryInvalid, QueueFull}
+use Rattle.reporter.specs.declared.RaiseAnswer.the-variants.{Raised, EntryInvalid, StatusEntry, QueueFull}
 use Rattle.reporter.specs.declared.ReadAnswer.{ReadAnswer}
 use Rattle.reporter.specs.declared.ReadAnswer.the-variants.{Closed, Kept, Ignored, Refused}
 
@@ -22,6 +22,7 @@ new-told IdOutOfRange = refl
 pub raise-told : (a : RaiseAnswer) → raiseTold (raiseCause a) ≡ a
 raise-told Raised = refl
 raise-told EntryInvalid = refl
+raise-told StatusEntry = refl
 raise-told QueueFull = refl
 
 pub write-told : (a : WriteAnswer) → writeTold (writeCause a) ≡ a
@@ -41,6 +42,7 @@ causes-tell =
       idOutOfRange = refl;
       raised = refl;
       entryInvalid = refl;
+      statusEntry = refl;
       queueFull = refl;
       written = λ n. refl;
       notWritten = λ e. refl;

@@ -8,6 +8,7 @@ use native.Mathlib.Omega.{arith}
 use lib.ListN.{length, take}
 use lib.Dec.{ltb}
 use borrow.Author.Tests.{ltb-true}
+use Rattle.octets.proofs.Cases.{either}
 use Rattle.types.specs.declared.error_mode.ErrorEntryMode.{ErrorEntryMode}
 use Rattle.types.specs.declared.error_mode.ErrorEntryMode.the-variants.{Terminator, ErrorActive, ErrorCleared, EventOccurred}
 use Rattle.error_entry.specs.ReadBack.{InRange}
@@ -17,11 +18,11 @@ use Rattle.records.proofs.RingLaws.{length-ring, ring-take}
 use Rattle.status_response.specs.Steps.{unlessTerminator}
 use Rattle.reporter.specs.Calls.{Numbers}
 use Rattle.reporter.specs.Layout.{reporterLength, places, enOf, startOf, openOf, waitingOf, entryIn, headOf, newBytes, raiseBytes, opensIn, carriedIn, firstFour, openedBytes, acknowledgeBytes}
-use Rattle.reporter.specs.Rules.{queueLength, batchLength, Head, freshHead, isRaisable, raiseAnswer, afterRaise, opened, answerFrame, answerLength, afterAcknowledge}
+use Rattle.reporter.specs.Rules.{queueLength, batchLength, Head, freshHead, isRaisable, raiseBy, raiseAnswer, afterRaise, opened, answerFrame, answerLength, afterAcknowledge}
 use Rattle.reporter.specs.declared.AnswerFields.{AnswerFields}
 use Rattle.reporter.specs.declared.NewAnswer.the-variants.{Made}
 use Rattle.reporter.specs.declared.RaiseAnswer.{RaiseAnswer}
-use Rattle.reporter.specs.declared.RaiseAnswer.the-variants.{Raised, EntryInvalid, QueueFull}
+use Rattle.reporter.specs.declared.RaiseAnswer.the-variants.{Raised, EntryInvalid, StatusEntry, QueueFull}
 use Rattle.reporter.specs.declared.ReadAnswer.{ReadAnswer}
 use Rattle.reporter.specs.declared.ReadAnswer.the-variants.{Closed, Kept, Ignored, Refused}
 use Rattle.reporter.proofs.Answering.{payload-length, answer-octets}
@@ -29,10 +30,6 @@ use Rattle.reporter.proofs.Closing.{closed-length, closed-means}
 use Rattle.reporter.proofs.Opening.{carried-few, batch-opened, opened-length, opened-means, kept-length, kept-means, batch-kept, carried-open}
 use Rattle.reporter.proofs.Raising.{raised-length, raised-means}
 use Rattle.reporter.proofs.Ranges.{open-small, waiting-small, batch-length, waiting-length}
-
-either : {P : Type 0} (b : Bool) → (b ≡ true → P) → (b ≡ false → P) → P
-either true f g = f refl
-either false f g = g refl
 
 -- ---- the bounds of a head
 
@@ -74,18 +71,23 @@ module _ (e : ErrorEntry) (s : List ℕ) where
   pub raises-length : (r : RaiseAnswer) → length (raiseBytes r e s) ≡ length s
   raises-length Raised = raised-length s e
   raises-length EntryInvalid = refl
+  raises-length StatusEntry = refl
   raises-length QueueFull = refl
+
+  means-by : length s ≡ reporterLength → Numbers e → (raisable status room : Bool) → isRaisable e ≡ raisable
+      → ltb (length (headOf s .waiting)) queueLength ≡ room
+      → headOf (raiseBytes (raiseBy raisable status room) e s) ≡ afterRaise (raiseBy raisable status room) e (headOf s)
+  means-by size w true true room p q = refl
+  means-by size w true false true p q =
+      raised-means s e size (omega (arith, ltb-true (length (headOf s .waiting)) queueLength q, waiting-length s)) (raisable-range e w p)
+  means-by size w true false false p q = refl
+  means-by size w false status room p q = refl
 
   pub raises-means : length s ≡ reporterLength → Numbers e
       → headOf (raiseBytes (raiseAnswer e (headOf s)) e s) ≡ afterRaise (raiseAnswer e (headOf s)) e (headOf s)
   unfolding raiseAnswer
   raises-means size w =
-      either (isRaisable e)
-      (λ p.
-      either (ltb (length (headOf s .waiting)) queueLength)
-      (λ q. rw (p, q) (raised-means s e size (omega (arith, ltb-true (length (headOf s .waiting)) queueLength q, waiting-length s)) (raisable-range e w p)))
-      (λ q. rw (p, q)))
-      (λ p. rw p)
+      means-by size w (isRaisable e) (e .«entry_type» .«is_status_entry») (ltb (length (headOf s .waiting)) queueLength) refl refl
 
 -- ---- Answer
 

@@ -15,7 +15,7 @@ use Rattle.reporter.specs.Rules.{newCause, raiseCause, readCause}
 use Rattle.reporter.specs.declared.NewAnswer.{NewAnswer}
 use Rattle.reporter.specs.declared.NewAnswer.the-variants.{Made, IdOutOfRange}
 use Rattle.reporter.specs.declared.RaiseAnswer.{RaiseAnswer}
-use Rattle.reporter.specs.declared.RaiseAnswer.the-variants.{Raised, EntryInvalid, QueueFull}
+use Rattle.reporter.specs.declared.RaiseAnswer.the-variants.{Raised, EntryInvalid, StatusEntry, QueueFull}
 use Rattle.reporter.specs.declared.ReadAnswer.{ReadAnswer}
 use Rattle.reporter.specs.declared.ReadAnswer.the-variants.{Closed, Kept, Ignored, Refused}
 
@@ -25,7 +25,7 @@ abbrev pub newTold : Cause → NewAnswer
 newTold c = pick (eqb (c .number) 0) Made IdOutOfRange
 
 abbrev pub raiseTold : Cause → RaiseAnswer
-raiseTold c = pick (eqb (c .number) 0) Raised (pick (eqb (c .number) 8) EntryInvalid QueueFull)
+raiseTold c = pick (eqb (c .number) 0) Raised (pick (eqb (c .number) 8) EntryInvalid (pick (eqb (c .number) 23) StatusEntry QueueFull))
 
 abbrev pub writeTold : Cause → WriteAnswer
 writeTold c =
@@ -44,6 +44,7 @@ pub record CausesTell : Type 0 where
   pub idOutOfRange : newCause IdOutOfRange ≡ row 13 []
   pub raised : raiseCause Raised ≡ row 0 []
   pub entryInvalid : raiseCause EntryInvalid ≡ row 8 []
+  pub statusEntry : raiseCause StatusEntry ≡ row 23 []
   pub queueFull : raiseCause QueueFull ≡ row 9 []
   pub written : (n : ℕ) → writeCause (write.Written n) ≡ row 0 (n ∷ [])
   pub notWritten : (e : PowerlinkError) → writeCause (write.Refused e) ≡ causeOf e

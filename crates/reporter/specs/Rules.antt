@@ -30,7 +30,7 @@ use Rattle.reporter.specs.declared.AnswerFields.{AnswerFields}
 use Rattle.reporter.specs.declared.NewAnswer.{NewAnswer}
 use Rattle.reporter.specs.declared.NewAnswer.the-variants.{Made, IdOutOfRange}
 use Rattle.reporter.specs.declared.RaiseAnswer.{RaiseAnswer}
-use Rattle.reporter.specs.declared.RaiseAnswer.the-variants.{Raised, EntryInvalid, QueueFull}
+use Rattle.reporter.specs.declared.RaiseAnswer.the-variants.{Raised, EntryInvalid, StatusEntry, QueueFull}
 use Rattle.reporter.specs.declared.ReadAnswer.{ReadAnswer}
 use Rattle.reporter.specs.declared.ReadAnswer.the-variants.{Closed, Kept, Ignored, Refused}
 use Rattle.reporter.specs.declared.acknowledge.Heard.{Heard}
@@ -81,18 +81,23 @@ newCause IdOutOfRange = row cause.idOutOfRange []
 unfoldable pub isRaisable : ErrorEntry → Bool
 isRaisable e = unlessTerminator (e .«entry_type» .mode) (ltb (e .«entry_type» .profile) 4096) false
 
--- 8, then 9: "16 already waiting"
+-- 8, then 23 (02, CR 2), then 9: "16 already waiting"
+abbrev pub raiseBy : Bool → Bool → Bool → RaiseAnswer
+raiseBy raisable status room = need raisable EntryInvalid (pick status StatusEntry (need room QueueFull Raised))
+
 unfoldable pub raiseAnswer : ErrorEntry → Head → RaiseAnswer
-raiseAnswer e h = need (isRaisable e) EntryInvalid (need (ltb (length (h .waiting)) queueLength) QueueFull Raised)
+raiseAnswer e h = raiseBy (isRaisable e) (e .«entry_type» .«is_status_entry») (ltb (length (h .waiting)) queueLength)
 
 abbrev pub raiseCause : RaiseAnswer → Cause
 raiseCause Raised = row 0 []
 raiseCause EntryInvalid = row cause.entryInvalid []
+raiseCause StatusEntry = row cause.isStatusEntry []
 raiseCause QueueFull = row cause.queueFull []
 
 abbrev pub whenRaised : {A : Type 0} → RaiseAnswer → A → A → A
 whenRaised Raised a b = a
 whenRaised EntryInvalid a b = b
+whenRaised StatusEntry a b = b
 whenRaised QueueFull a b = b
 
 -- "the entry joins the waiting ones, last"

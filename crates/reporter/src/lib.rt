@@ -86,6 +86,8 @@ pub enum RaiseAnswer {
     Raised,
     // The mode is the terminator's, or the profile has more than 12 bits.
     EntryInvalid,
+    // Bit 15 of its type is set: a node of ours reports history entries alone (02, CR 2).
+    StatusEntry,
     // 16 entries are waiting.
     QueueFull,
 }
@@ -128,6 +130,9 @@ pub fn raise(state: &mut Reporter, entry: ErrorEntry) -> RaiseAnswer
 {
     if !raisable(entry) {
         return RaiseAnswer::EntryInvalid;
+    }
+    if entry.entry_type.is_status_entry {
+        return RaiseAnswer::StatusEntry;
     }
     if !has_room(state) {
         return RaiseAnswer::QueueFull;

@@ -15,7 +15,7 @@ use Rattle.section.specs.declared.WriteAnswer.the-variants as write
 use Rattle.error_entry.specs.declared.ErrorEntry.{ErrorEntry}
 use Rattle.reporter.specs.Rules.{Head, freshHead, isRaisable, raiseAnswer, afterRaise, opened, answerFrame, eaAnswer}
 use Rattle.reporter.specs.declared.RaiseAnswer.{RaiseAnswer}
-use Rattle.reporter.specs.declared.RaiseAnswer.the-variants.{Raised, EntryInvalid}
+use Rattle.reporter.specs.declared.RaiseAnswer.the-variants.{Raised, EntryInvalid, StatusEntry}
 use Rattle.reporter.specs.declared.ReadAnswer.the-variants.{Closed, Kept, Ignored}
 use Rattle.collector.specs.Layout.{boxOf, freshBytes}
 use Rattle.collector.specs.Rules.{Account, freshAccount, registerAnswer, bookAnswer, readAnswer, requestFrame}
@@ -24,11 +24,12 @@ use Rattle.collector.specs.declared.RegisterAnswer.the-variants.{Registered}
 use Rattle.collector.specs.declared.RequestAnswer.the-variants as requesting
 use Rattle.collector.specs.declared.TakeAnswer.the-variants as taking
 use Rattle.signaling.specs.Calls.{sent, foreign, Event, raised, answered, headRead, registered, boxRead, requested, taken, hosted, Log, World, Run, fresh, call}
-use Rattle.signaling.specs.Example.{entry, five, house, LossAndRepeat, Onward, here, further}
+use Rattle.signaling.specs.Example.{entry, shown, five, house, LossAndRepeat, Onward, here, further}
 use Rattle.signaling.proofs.Callable.{freshes}
 use Rattle.signaling.proofs.Draining.{draining}
-use Rattle.signaling.proofs.ExampleFrames.{numbers, fields, sizes, asked, fifth, first, second, answer-octets, first-says, second-says, hears-ea, presFrame, pres-far, pres-other, pres-ignored, houseFrame, house-far, house-other, house-refused, preqFrame, hears-host, hears-not, first-length, second-length, request-length}
-use Rattle.signaling.proofs.Making.{world, Knows, Next, Started, held, sent-whole, starting, raising, answering, hearing, knowing, booking, passing, registering, asking, handing, hosting}
+use Rattle.signaling.proofs.ExampleFrames.{numbers, shown-numbers, withTwo, withOther, two-arrive, other-arrives, two-octets, fields, sizes, asked, fifth, first, second, answer-octets, first-says, second-says, hears-ea, presFrame, pres-far, pres-other, pres-ignored, houseFrame, house-far, house-other, house-refused, preqFrame, hears-host, hears-not, first-length, second-length, request-length}
+use Rattle.signaling.proofs.Frames.{says-arrived}
+use Rattle.signaling.proofs.Making.{world, Knows, Next, Started, held, sent-whole, starting, raising, answering, hearing, as-it-is, knowing, booking, passing, registering, asking, handing, hosting}
 
 -- ---- what the head becomes, and the list of calls
 
@@ -57,6 +58,7 @@ all-raised =
     raised fifth Raised ∷ raised (entry ErrorActive 0x8164) Raised ∷ raised (entry EventOccurred 0x8163) Raised
     ∷ raised (entry ErrorCleared 0x8162) Raised
     ∷ raised (entry ErrorActive 0x8161) Raised
+    ∷ raised (shown ErrorActive 0x8170) StatusEntry
     ∷ raised (entry Terminator 0x8160) EntryInvalid
     ∷ at-start
 
@@ -66,7 +68,7 @@ answered-twice = answerOf first ∷ answerOf first ∷ all-raised
 
 abbrev pub twice-read : Log
 twice-read =
-    boxRead ds301 (sent 1) (answerFrame fields first) box.Known ∷ boxRead house (sent 1) (answerFrame fields first) box.Booked
+    boxRead ds301 (sent 1) withOther box.Known ∷ boxRead house (sent 1) withTwo box.Booked
     ∷ boxRead ds301 foreign houseFrame (box.Refused (InvalidServiceId 0x20))
     ∷ boxRead house foreign houseFrame box.NotStatusResponse
     ∷ boxRead ds301 foreign presFrame box.NotStatusResponse
@@ -132,7 +134,8 @@ module _ {v : World} where
       (adding EventOccurred 0x8163 Raised (omega arith) refl
       (adding ErrorCleared 0x8162 Raised (omega arith) refl
       (adding ErrorActive 0x8161 Raised (omega arith) refl
-      (adding Terminator 0x8160 EntryInvalid (omega arith) refl r)))))
+      (next (adding Terminator 0x8160 EntryInvalid (omega arith) refl r)
+      (λ s b k. raising k (shown ErrorActive 0x8170) StatusEntry (shown-numbers ErrorActive 0x8170 (omega arith)) refl))))))
 
   answer-twice : Reached v all-raised (waits five) freshAccount → Reached v answered-twice first freshAccount
   unfolding opened
@@ -151,11 +154,11 @@ module _ {v : World} where
       (λ s b k. passing k house foreign houseFrame box.NotStatusResponse (house-far house) (rw house-other) (λ A x y. refl)))
       (λ s b k. passing k ds301 foreign houseFrame (box.Refused (InvalidServiceId 0x20)) (house-far ds301) (rw house-refused) (λ A x y. refl)))
       (λ s b k.
-      booking k (answerFrame fields first) first first-says refl house 1
-      (omega arith, ap some (sent-whole (answerFrame fields first))) (answer-octets .0) refl))
+      booking k withTwo first (says-arrived two-arrive first-says) refl house 1
+      (answerFrame fields first, (omega arith, ap some (sent-whole (answerFrame fields first))), two-arrive) two-octets refl))
       (λ s b k.
-      knowing k (answerFrame fields first) first first-says refl ds301 1
-      (omega arith, ap some (sent-whole (answerFrame fields first))) refl)
+      knowing k withOther first (says-arrived other-arrives first-says) refl ds301 1
+      (answerFrame fields first, (omega arith, ap some (sent-whole (answerFrame fields first))), other-arrives) refl)
 
   ask-twice : Reached v twice-read first (place true (take 4 five)) → Reached v asked-twice first (place true (take 4 five))
   unfolding asked
@@ -193,7 +196,9 @@ module _ {v : World} where
       next r
       (λ s b k.
       booking k (answerFrame fields second) second second-says refl ds301 2
-      (omega arith, ap some (sent-whole (answerFrame fields second))) (answer-octets .1) refl)
+      (as-it-is k (answerFrame fields second) second second-says refl ds301 2 (omega arith, ap some (sent-whole (answerFrame fields second))))
+      (answer-octets .1)
+      refl)
 
   close-second : Reached v all-booked second (place false five) → Reached v all-closed (waits []) (place false five)
   unfolding eaAnswer
@@ -248,6 +253,10 @@ loss-and-repeat =
       asnd = houseFrame;
       held = refl;
       unheld = refl;
+      answer = answerFrame fields first;
+      isSent = ap some (sent-whole (answerFrame fields first));
+      withTwo = refl;
+      withOther = refl;
       entries = refl;
       handed = refl;
       place = r .knows .place;

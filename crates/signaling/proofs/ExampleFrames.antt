@@ -1,9 +1,9 @@
 -- The frames of the example, and what the calls are given for them.
 -- Assumes nothing.
-use Prim.Native.Nat.{ℕ, zero, suc, _^_, _<_}
+use Prim.Native.Nat.{ℕ, zero, suc, _^_, _≤_, _<_}
 use mathlib.Core.Bool.{Bool, true, false, _&&_}
 use mathlib.Core.Path.{_≡_, refl, sym, ap, _∙_}
-use mathlib.Core.List.{List, [], _∷_}
+use mathlib.Core.List.{List, [], _∷_, append-nil}
 use native.Mathlib.Omega.{arith}
 use lib.ListN.{length, take, replicate}
 use lib.Dec.{ltb}
@@ -15,7 +15,7 @@ use Rattle.types.specs.Header.{ethBytes}
 use Rattle.types.specs.Messages.{messageOf}
 use Rattle.types.specs.PollFlags.{pollOctet}
 use Rattle.types.specs.declared.error_mode.ErrorEntryMode.{ErrorEntryMode}
-use Rattle.types.specs.declared.error_mode.ErrorEntryMode.the-variants.{ErrorCleared}
+use Rattle.types.specs.declared.error_mode.ErrorEntryMode.the-variants.{Terminator, ErrorActive, ErrorCleared, EventOccurred}
 use Rattle.types.specs.declared.hal.PowerlinkError.the-variants.{InvalidServiceId}
 use Rattle.types.specs.declared.poll_flags.PRFlag.the-variants.{Low1}
 use Rattle.types.specs.declared.states.NmtState.the-variants.{NmtOperational}
@@ -34,11 +34,13 @@ use Rattle.frame.specs.declared.PowerlinkFrame.the-variants.{PReq, PRes, ASnd}
 use Rattle.codec.specs.ASnd.{readASnd}
 use Rattle.codec.specs.Frame.{kindIn, readSection, readFrame, deserializeFrame}
 use Rattle.codec.specs.declared.FrameAnswer.the-variants as frame
-use Rattle.error_entry.specs.Entry.{typeNumber, entryBytes}
+use Rattle.error_entry.specs.Entry.{typeNumber, entryOf, entryBytes}
 use Rattle.error_entry.specs.declared.ErrorEntry.{ErrorEntry}
 use Rattle.status_response.specs.BitField.{fieldBytes}
 use Rattle.status_response.specs.Fields.{headBytes}
-use Rattle.status_response.specs.Steps.{statusBytes}
+use Rattle.status_response.specs.Steps.{statusBytes, statusEntries}
+use Rattle.error_entry.proofs.ReadBack.{entries-read-back}
+use Rattle.records.proofs.RecordLaws.{bytes-length}
 use Rattle.frame_laws.proofs.HeaderBack.{section-back}
 use Rattle.frame_laws.proofs.ReadBack.{frames-read-back}
 use Rattle.reporter.specs.Calls.{Numbers, AnswerSizes}
@@ -46,15 +48,18 @@ use Rattle.reporter.specs.Rules.{Head, freshHead, isRaisable, answerPayload, an
 use Rattle.reporter.specs.declared.AnswerFields.{AnswerFields}
 use Rattle.reporter.specs.declared.acknowledge.Heard.the-variants as heard
 use Rattle.reporter.proofs.Meaning.{answer-size}
-use Rattle.collector.specs.Rules.{requestFrame, responseIn}
+use Rattle.collector.specs.Rules.{requestFrame, responseIn, Said, bookedEntries, enIn, statusPayload, statusIn}
 use Rattle.collector.specs.declared.RequestFields.{RequestFields}
 use Rattle.collector.specs.declared.reading.Heard.the-variants as boxHears
+use Rattle.collector.proofs.BookableLaws.{bookable-few}
 use Rattle.collector.proofs.Meaning.{request-size}
+use Rattle.signaling.specs.Arrival.{IsStatusEntry, Arrives, putIn}
 use Rattle.signaling.specs.Calls.{NotFrom, node}
-use Rattle.signaling.specs.Example.{entry, five, house, madeStatus}
+use Rattle.signaling.proofs.Arriving.{said-same, arrives-self, arrives-put}
+use Rattle.signaling.specs.Example.{entry, shown, twoPutIn, five, house, madeStatus}
 use Rattle.signaling.proofs.Calls.{request-here, request-else}
-use Rattle.signaling.proofs.Facts.{either, both}
-use Rattle.signaling.proofs.Frames.{Says, is-status, answer-reads}
+use Rattle.signaling.proofs.Facts.{clash, either, both}
+use Rattle.signaling.proofs.Frames.{Says, is-status, answer-reads, answer-long, says-arrived}
 
 -- ---- the entries, and what the calls are given
 
@@ -112,11 +117,54 @@ pub first-says : Says (answerFrame fields first) first
 unfolding isRaisable
 first-says =
     answer-reads fields first sizes
-    ((refl, numbers _ _ (omega arith)), ((refl, numbers _ _ (omega arith)), ((refl, numbers _ _ (omega arith)), ((refl, numbers _ _ (omega arith)), tt))))
+    ((refl, refl, numbers _ _ (omega arith)), ((refl, refl, numbers _ _ (omega arith)), ((refl, refl, numbers _ _ (omega arith)), ((refl, refl, numbers _ _ (omega arith)), tt))))
 
 pub second-says : Says (answerFrame fields second) second
 unfolding isRaisable
-second-says = answer-reads fields second sizes ((refl, numbers _ _ (omega arith)), tt)
+second-says = answer-reads fields second sizes ((refl, refl, numbers _ _ (omega arith)), tt)
+
+-- ---- answer 1 with a status entry put in, and its repeat with another
+
+pub shown-numbers : (m : ErrorEntryMode) (c : ℕ) → c < 2 ^ 16 → Numbers (shown m c)
+shown-numbers m c h = record { code = h; seconds = omega arith; nanoseconds = omega arith; information = omega arith }
+
+shown-status : (m : ErrorEntryMode) (c : ℕ) → c < 2 ^ 16 → (m ≡ Terminator → ⊥) → IsStatusEntry (entryBytes (shown m c))
+shown-status m c h ne =
+    let back : entryOf (entryBytes (shown m c)) ≡ shown m c =
+    ap entryOf (sym (append-nil (entryBytes (shown m c))))
+    ∙ entries-read-back .entries (shown m c) []
+    (record { profile = omega arith; code = h; seconds = omega arith; nanoseconds = omega arith; information = omega arith }) in
+    record { entry = record { size = bytes-length (shown m c); mode = rw back ne }; status = rw back }
+
+abbrev pub withTwo : List ℕ
+withTwo = twoPutIn (answerFrame fields first)
+
+abbrev pub withOther : List ℕ
+withOther = putIn 4 (entryBytes (shown EventOccurred 0x8172)) (answerFrame fields first)
+
+-- whatever arrives of the first answer has its four entries
+first-put : {given : List ℕ} (n : ℕ) (m : ErrorEntryMode) (c : ℕ) → n ≤ 4 → c < 2 ^ 16 → (m ≡ Terminator → ⊥)
+    → Arrives (answerFrame fields first) given
+    → Arrives (answerFrame fields first) (putIn n (entryBytes (shown m c)) given)
+unfolding bookedEntries
+first-put {given} n m c few h ne y =
+    let four = ap length (says-arrived y first-says .entries) in
+    arrives-put (entryBytes (shown m c)) n y (omega (arith, four, bookable-few (statusEntries (statusPayload given)))) (shown-status m c h ne)
+
+first-arrives : Arrives (answerFrame fields first) (answerFrame fields first)
+first-arrives = arrives-self (answerFrame fields first) (answer-long fields first)
+
+pub two-arrive : Arrives (answerFrame fields first) withTwo
+two-arrive =
+    first-put 0 ErrorActive 0x8170 (omega arith) (omega arith) (λ e. clash cc)
+    (first-put 2 ErrorCleared 0x8171 (omega arith) (omega arith) (λ e. clash cc) first-arrives)
+
+pub other-arrives : Arrives (answerFrame fields first) withOther
+other-arrives = first-put 4 EventOccurred 0x8172 (omega arith) (omega arith) (λ e. clash cc) first-arrives
+
+pub two-octets : Octets withTwo
+unfolding fields answerFrame frameBytes ethBytes asndSection padded answerPayload statusBytes headBytes fieldBytes entryBytes typeNumber pollOctet
+two-octets = octets withTwo refl
 
 -- the frame that no head sent says what a fresh head would
 made-answer : madeStatus fields ≡ answerFrame fields (freshHead 7)
@@ -130,10 +178,11 @@ pub made-octets : Octets (madeStatus fields)
 unfolding fields frameBytes ethBytes asndSection padded statusBytes headBytes fieldBytes entryBytes typeNumber pollOctet
 made-octets = octets (madeStatus fields) refl
 
--- it is shorter than the first answer
-pub made-other : madeStatus fields ≡ answerFrame fields first → ⊥
-made-other e =
-    omega (arith, answer-size fields (freshHead 7), answer-size fields first, ap length (sym made-answer ∙ e))
+-- its EN is not that of the first answer
+pub made-other : Arrives (answerFrame fields first) (madeStatus fields) → ⊥
+made-other y =
+    let en : enIn (statusIn (madeStatus fields) .fields) ≡ enIn (statusIn (answerFrame fields first) .fields) = ap (λ (x : Said). enIn (x .fields)) (said-same y) in
+    clash (cc (en, ap enIn (made-says .read) ∙ made-says .en, ap enIn (first-says .read) ∙ first-says .en))
 
 pub made-source : (services : List ℕ) → NotFrom 7 (readFrame services (madeStatus fields)) → ⊥
 made-source services ne = (rw (made-answer, is-status fields (freshHead 7) sizes tt services) at ne) refl

@@ -28,6 +28,7 @@ use Rattle.signaling.proofs.Facts.{clash, either, beq-same, beq-true, a
 use Rattle.signaling.proofs.Frames.{Says}
 use Rattle.signaling.proofs.Invariant.{Carries, headIn, placeFor}
 use Rattle.signaling.proofs.Pending.{opened-twice, opened-fewer, head-hears, closed, AtMost, at-most-stays}
+use Rattle.signaling.proofs.Steps.{read-as-sent}
 use Rattle.signaling.proofs.Quiet.{IsPlace, NoRaise, Ready, goes-on, shut, Calm, calm, quiet-raises-not, quietly, no-repeat, requested-stays}
 
 -- ---- both ends, while nothing changes
@@ -104,7 +105,7 @@ module _ (said : Said) (f : StatusFields) (e : said .fields ≡ status.Status f)
 
 module _ (services : List ℕ) (i : ℕ) (h : Head) (bs : List ℕ) (b : Box) (says : Says bs h) (id : h .id ≡ i) where
   hears-me : responseIn services bs ≡ boxHears.Status (node i)
-  hears-me = rw (← id) (says .status services)
+  hears-me = rw (← id) (says .answer .status services)
 
   box-says : readAnswer services bs b ≡ accountAnswer (statusIn bs) (b .accounts i)
   unfolding readAnswer
@@ -131,12 +132,13 @@ module _ {i : ℕ} {h : Head} {ea : Bool} {n m : ℕ} {w : World} (y : Steady i 
   box-steady {p} {services} {bs} {r} le (boxReads table from octets told after d c) found =
       let s : Step i w (boxRead services (sent p) bs r) (record { head = w .head; box = after; log = boxRead services (sent p) bs r ∷ w .log }) =
       boxReads services (sent p) bs r after d c in
+      let sent-read = read-as-sent (y .ready .held) services p bs r after d c in
       record {
         ready = goes-on s (y .ready);
         head = y .head;
         bit =
-            rw (c .box .accounts i, c .answer)
-            (box-agrees services i h bs (boxOf (w .box)) (y .mine p bs le (d .1)) its-id (y .ready .place) (λ full. found (c .answer ∙ full)));
+            rw (sent-read .box .accounts i, sent-read .answer)
+            (box-agrees services i h (d .0) (boxOf (w .box)) (y .mine p (d .0) le (d .1 .1)) its-id (y .ready .place) (λ full. found (sent-read .answer ∙ full)));
         mine = y .mine;
         its = λ q f le e. absurd (omega (arith, at-lt (requestsSent i (w .log)) f q e));
       }
@@ -145,11 +147,12 @@ module _ {i : ℕ} {h : Head} {ea : Bool} {n m : ℕ} {w : World} (y : Steady i 
   known-found : {p : ℕ} {services bs : List ℕ} {r : BoxReadAnswer} {v : World} → n ≤ p → ea ≡ h .en → Step i w (boxRead services (sent p) bs r) v
       → r ≡ box.BookFull
       → ⊥
-  known-found {p} {services} {bs} le same (boxReads table from octets told after d c) full =
-      let says = y .mine p bs le (d .1) in
-      let k = known (statusIn bs) (says .fields) (says .read) (placeFor i w) (y .ready .place) (y .bit ∙ same ∙ sym (says .en)) in
-      let x = box-says services i h bs (boxOf (w .box)) says its-id in
-      let z : box.BookFull ≡ box.Known = sym full ∙ c .answer ∙ x ∙ k in
+  known-found {p} {services} {bs} {r} le same (boxReads table from octets told after d c) full =
+      let a = d .0 in
+      let says = y .mine p a le (d .1 .1) in
+      let k = known (statusIn a) (says .fields) (says .read) (placeFor i w) (y .ready .place) (y .bit ∙ same ∙ sym (says .en)) in
+      let x = box-says services i h a (boxOf (w .box)) says its-id in
+      let z : box.BookFull ≡ box.Known = sym full ∙ read-as-sent (y .ready .held) services p bs r after d c .answer ∙ x ∙ k in
       clash cc
 
 -- ---- the head reads
@@ -205,12 +208,12 @@ module _ {i : ℕ} {h : Head} {k : ℕ} (settled : opened h ≡ h) (fewer : leng
   quiet-agreed : {n : ℕ} {w v : World} {x : Event} → Step i w x v → Quiet i x → Agreed i h n w → Unless i k (Agreed i h n) v
   quiet-agreed s quiet y = elim (quiet-steady s quiet (y .1)) [ inl z ↦ inl (y .0, z) | inr z ↦ inr z ]
 
-  agrees-again : {n p : ℕ} {bs : List ℕ} {w v : World} → n ≤ p → Quietly i (AnswerAgain p bs) w v → Unless i k (Agreed i h n) w
+  agrees-again : {n p : ℕ} {w v : World} → n ≤ p → Quietly i (AnswerAgain p) w v → Unless i k (Agreed i h n) w
       → Unless i k (Agreed i h n) v
-  agrees-again {n} {p} {bs} le =
+  agrees-again {n} {p} le =
       quietly (Unless i k (Agreed i h n)) (λ w v x s quiet y. unless s (quiet-raises-not i x quiet) (quiet-agreed s quiet) y)
       (λ w v x s again y.
-      let read : Step i w (boxRead (again .0) (sent p) bs (again .1)) v = rw (again .2) at s in
+      let read : Step i w (boxRead (again .0) (sent p) (again .1) (again .2)) v = rw (again .3) at s in
       unless read (λ t. refl) (λ z. inl (_, box-steady (z .1) le read (known-found (z .1) le refl read))) y)
 
   -- all that is sent from the exchange's request on carries EN

@@ -2,7 +2,7 @@
 -- the batch.
 -- Assumes nothing.
 use Prim.Native.Nat.{ℕ, _≤_}
-use mathlib.Core.Path.{_≡_}
+use mathlib.Core.Path.{_≡_, refl}
 use mathlib.Core.List.{List, _∷_, _++_}
 use lib.ListN.{length}
 use Rattle.octets.proofs.NumberBack.{Octets}
@@ -16,20 +16,23 @@ use Rattle.collector.specs.Rules.{withBook, withEa, Account, bookAnswer, reques
 use Rattle.collector.specs.declared.ReadAnswer.the-variants as box
 use Rattle.collector.specs.declared.RequestAnswer.the-variants as requesting
 use Rattle.collector.specs.declared.RequestFields.{RequestFields}
+use Rattle.signaling.specs.Arrival.{Arrives}
 use Rattle.signaling.specs.Calls.{sent, answered, headRead, boxRead, requested, Log, answersSent, requestsSent, tally, Delivered}
 use Rattle.signaling.specs.Exchanges.{Exchange, still}
-use Rattle.signaling.proofs.Frames.{Says}
+use Rattle.signaling.proofs.Frames.{Says, says-arrived}
 use Rattle.signaling.proofs.Making.{world, Knows, held, answering, hearing, booking, asking}
 
--- an exchange that can be made, and what it leaves
-pub record Exchanged (i : ℕ) (s b : List ℕ) (l after : Log) (h : Head) (p : Account) : Type 0 where
+-- an exchange that can be made, with the answer that arrives, and what it leaves
+pub record Exchanged (i : ℕ) (arrived s b : List ℕ) (l after : Log) (h : Head) (p : Account) : Type 0 where
   pub state : List ℕ
   pub box : List ℕ
   pub exchange : Exchange i (world s b l) (world state box after)
+  pub read : exchange .answerRead ≡ arrived
   pub knows : Knows i state box after h p
 
 module _ (headServices boxServices : List ℕ) (i : ℕ) (f : AnswerFields) (g : RequestFields) (sizes : AnswerSizes f) (six : length (g .«source_mac» .0) ≡ 6) where
-  module _ (l : Log) (h : Head) (p : Account) where
+  -- what arrives of the answer
+  module _ (l : Log) (h : Head) (p : Account) (arrived : List ℕ) where
     abbrev pub frame₁ : List ℕ
     frame₁ = answerFrame f (opened h)
 
@@ -43,11 +46,12 @@ module _ (headServices boxServices : List ℕ) (i : ℕ) (f : AnswerFields) (g :
     written = answered (write.Written (length frame₁)) (held frame₁) ∷ l
 
     abbrev pub requested₁ : ℕ → Log
-    requested₁ n = requested i (requesting.Written (length frame₂)) (held frame₂) ∷ boxRead boxServices (sent n) frame₁ box.Booked ∷ written
+    requested₁ n = requested i (requesting.Written (length frame₂)) (held frame₂) ∷ boxRead boxServices (sent n) arrived box.Booked ∷ written
 
     pub exchanging : {s b : List ℕ} (n m : ℕ) → Knows i s b l h p → answerLength (length (opened h .batch)) ≤ 200 → Says frame₁ (opened h)
+        → Arrives frame₁ arrived
         → opened h .id ≡ i
-        → Octets frame₁
+        → Octets arrived
         → bookAnswer (opened h .en) (opened h .batch) p ≡ box.Booked
         → Delivered boxServices i (sent n) frame₁ (tally i written .answers)
         → length (answersSent i l) ≤ n
@@ -55,10 +59,10 @@ module _ (headServices boxServices : List ℕ) (i : ℕ) (f : AnswerFields) (g :
         → length (requestsSent i l) ≤ m
         → eaTold headServices i frame₂ ≡ heard.Ea (opened h .en)
         → eaAnswer (opened h .en) (opened h) ≡ Closed
-        → Exchanged i s b l (headRead headServices (sent m) frame₂ Closed ∷ requested₁ n) (afterAcknowledge Closed (opened h)) booked
-    exchanging n m k small says from octets books₁ given₁ new₁ given₂ new₂ hears₁ closes =
+        → Exchanged i arrived s b l (headRead headServices (sent m) frame₂ Closed ∷ requested₁ n) (afterAcknowledge Closed (opened h)) booked
+    exchanging n m k small says arrives from octets books₁ given₁ new₁ given₂ new₂ hears₁ closes =
         let a = answering k headServices f sizes small in
-        let b = booking (a .knows) frame₁ (opened h) says from boxServices n given₁ octets books₁ in
+        let b = booking (a .knows) arrived (opened h) (says-arrived arrives says) from boxServices n (frame₁, given₁, arrives) octets books₁ in
         let c = asking (b .knows) i _ (b .knows .place) g six in
         let d = hearing (c .knows) headServices (sent m) frame₂ Closed given₂ from (rw hears₁ closes) in
         record {
@@ -72,13 +76,13 @@ module _ (headServices boxServices : List ℕ) (i : ℕ) (f : AnswerFields) (g :
             w₂ = world (a .state) (a .box) written;
             quiet₁ = still;
             p = n;
-            answerRead = frame₁;
+            answerRead = arrived;
             boxServices = boxServices;
             boxSays = box.Booked;
-            w₃ = world (b .state) (b .box) (boxRead boxServices (sent n) frame₁ box.Booked ∷ written);
+            w₃ = world (b .state) (b .box) (boxRead boxServices (sent n) arrived box.Booked ∷ written);
             boxReads = b .step;
             newAnswer = new₁;
-            w₄ = world (b .state) (b .box) (boxRead boxServices (sent n) frame₁ box.Booked ∷ written);
+            w₄ = world (b .state) (b .box) (boxRead boxServices (sent n) arrived box.Booked ∷ written);
             quiet₂ = still;
             length₂ = length frame₂;
             request = held frame₂;
@@ -97,5 +101,6 @@ module _ (headServices boxServices : List ℕ) (i : ℕ) (f : AnswerFields) (g :
             mine = hears₁;
             quiet₄ = still;
           };
+          read = refl;
           knows = d .knows;
         }

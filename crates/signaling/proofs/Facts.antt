@@ -8,6 +8,7 @@ use mathlib.Core.List.{List, [], _∷_, _++_, append-assoc}
 use mathlib.Core.Option.{some}
 use native.Mathlib.Omega.{arith}
 use lib.ListN.{length, getElem?}
+pub use Rattle.octets.proofs.Cases.{either, both}
 use Rattle.types.specs.Codes.{pick}
 
 -- what would make 0 equal to 1 cannot be
@@ -15,11 +16,6 @@ pub clash : {X : Type 0} → _≡_ {A = ℕ} 0 1 → X
 clash e = absurd (omega arith)
 
 -- ---- Booleans
-
--- a Boolean is one or the other
-pub either {ℓ} : {X : Type ℓ} (b : Bool) → (b ≡ true → X) → (b ≡ false → X) → X
-either true f g = f refl
-either false f g = g refl
 
 pub same-or-not : (a b : Bool) → (a ≡ b) ⊎ (a ≡ not b)
 same-or-not true true = inl refl
@@ -59,10 +55,6 @@ beq-false true true e = cc
 beq-false true false e = refl
 beq-false false true e = refl
 beq-false false false e = cc
-
-pub both : (a b : Bool) → a && b ≡ true → (a ≡ true) × (b ≡ true)
-both true b e = (refl, e)
-both false b e = clash cc
 
 -- ---- places
 

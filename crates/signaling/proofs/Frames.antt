@@ -1,6 +1,6 @@
 -- What the frames of both ends are read as.
 -- Assumes nothing.
-use Prim.Native.Nat.{ℕ, _-_, _^_, _<_, min}
+use Prim.Native.Nat.{ℕ, zero, suc, _-_, _^_, _≤_, _<_, min}
 use mathlib.Core.Bool.{Bool, true, false}
 use mathlib.Core.Path.{_≡_, refl, ap, _∙_}
 use mathlib.Core.List.{List, [], _∷_, _++_}
@@ -9,7 +9,9 @@ use native.Mathlib.Omega.{arith}
 use lib.ListN.{length, replicate}
 use lib.Dec.{ltb}
 use borrow.Author.Tests.{ltb-true}
+use Rattle.types.specs.Codes.{pick}
 use Rattle.types.specs.Header.{ethBytes}
+use Rattle.types.specs.Messages.{messageOf}
 use Rattle.types.specs.PollFlags.{pollOctet}
 use Rattle.types.specs.declared.error_mode.ErrorEntryMode.{ErrorEntryMode}
 use Rattle.types.specs.declared.error_mode.ErrorEntryMode.the-variants.{Terminator, ErrorActive, ErrorCleared, EventOccurred}
@@ -24,7 +26,7 @@ use Rattle.codec.specs.declared.FrameAnswer.the-variants as frame
 use Rattle.error_entry.specs.declared.ErrorEntry.{ErrorEntry}
 use Rattle.status_response.specs.Fields.{readFields, headBytes}
 use Rattle.status_response.specs.ReadBack.{untilTerminator, EachInRange}
-use Rattle.status_response.specs.Steps.{statusBytes, statusEntries, unlessTerminator}
+use Rattle.status_response.specs.Steps.{statusBytes, unlessTerminator}
 use Rattle.status_response.specs.declared.bit_field.StaticErrorBitField.{StaticErrorBitField}
 use Rattle.status_response.specs.declared.fields.StatusAnswer.the-variants as said
 use Rattle.status_response.specs.declared.fields.StatusFields.{StatusFields}
@@ -33,26 +35,36 @@ use Rattle.frame_laws.proofs.ASndBack.{asnd-back}
 use Rattle.frame_laws.proofs.HeaderBack.{section-back}
 use Rattle.frame_laws.proofs.ReadBack.{frames-read-back}
 use Rattle.reporter.specs.Calls.{Numbers, AnswerSizes}
-use Rattle.reporter.specs.Rules.{Head, isRaisable, statusFields, answerPayload, answerASnd, answerFrame}
+use Rattle.reporter.specs.Rules.{Head, isRaisable, statusFields, answerPayload, answerASnd, answerFrame, answerLength}
 use Rattle.reporter.specs.declared.AnswerFields.{AnswerFields}
-use Rattle.collector.specs.Rules.{statusPayload, requestSoA, requestFrame, responseIn}
+use Rattle.reporter.proofs.Meaning.{answer-size}
+use Rattle.collector.specs.Rules.{Said, bookable, bookedEntries, statusPayload, requestSoA, requestFrame, responseIn}
 use Rattle.collector.specs.declared.RequestFields.{RequestFields}
 use Rattle.collector.specs.declared.reading.Heard.the-variants as heard
+use Rattle.signaling.specs.Arrival.{IsASnd, entriesAt, Arrives}
 use Rattle.signaling.specs.Calls.{node}
+use Rattle.signaling.proofs.Arriving.{agree, said-same, response-same}
 use Rattle.signaling.proofs.Facts.{clash}
+use Rattle.signaling.proofs.Fronts.{kind-told, kinds-agree}
 
--- every entry may be raised and is of machine numbers
+-- every entry may be raised, is of machine numbers and shows no status
 abbrev pub Good : List ErrorEntry → Type 0
 Good [] = Unit {0}
-Good (e ∷ es) = ((isRaisable e ≡ true) × Numbers e) × Good es
+Good (e ∷ es) = ((isRaisable e ≡ true) × (e .«entry_type» .«is_status_entry» ≡ false) × Numbers e) × Good es
 
--- the octets are an answer of this head, whatever the table, with its EN and its batch
+-- the octets are an answer of node i: an ASnd with all that stands in front of its entries, and a StatusResponse, whatever the table
+pub record IsAnswer (i : ℕ) (bs : List ℕ) : Type 0 where
+  pub asnd : IsASnd bs
+  pub size : entriesAt ≤ length bs
+  pub status : (services : List ℕ) → responseIn services bs ≡ heard.Status (node i)
+
+-- they are an answer of this head, with its EN and its batch
 pub record Says (bs : List ℕ) (h : Head) : Type 0 where
-  pub status : (services : List ℕ) → responseIn services bs ≡ heard.Status (node (h .id))
+  pub answer : IsAnswer (h .id) bs
   pub fields : StatusFields
   pub read : readFields (statusPayload bs) ≡ said.Status fields
   pub en : fields .«en_flag» ≡ h .en
-  pub entries : statusEntries (statusPayload bs) ≡ h .batch
+  pub entries : bookedEntries (statusPayload bs) ≡ h .batch
 
 -- ---- the entries
 
@@ -73,7 +85,7 @@ in-range : (es : List ErrorEntry) → Good es → EachInRange es
 unfolding isRaisable
 in-range [] g = g
 in-range (e ∷ es) g =
-    let n : Numbers e = g .0 .1 in (
+    let n : Numbers e = g .0 .2 in (
       record {
         profile = in-profile (e .«entry_type» .mode) _ (g .0 .0);
         code = n .code;
@@ -88,6 +100,16 @@ to-the-end : (es : List ErrorEntry) → Good es → untilTerminator es ≡ es
 unfolding isRaisable
 to-the-end [] g = refl
 to-the-end (e ∷ es) g = no-terminator (e .«entry_type» .mode) _ _ _ (g .0 .0) ∙ ap (λ (l : List ErrorEntry). e ∷ l) (to-the-end es (g .1))
+
+picked : {A : Type 0} (b : Bool) (x y : A) → b ≡ false → pick b x y ≡ y
+picked true x y e = clash cc
+picked false x y e = refl
+
+-- all of them are booked
+all-bookable : (es : List ErrorEntry) → Good es → bookable es ≡ es
+all-bookable [] g = refl
+all-bookable (e ∷ es) g =
+    picked (e .«entry_type» .«is_status_entry») _ _ (g .0 .1) ∙ ap (λ (l : List ErrorEntry). e ∷ l) (all-bookable es (g .1))
 
 -- ---- the answer
 
@@ -110,6 +132,19 @@ same-head : (f : StatusFields) (field : StaticErrorBitField) → headBytes f fie
 unfolding headBytes
 same-head f field = rw (same-poll (f .pr) (f .rs .0))
 
+answer-least : (n : ℕ) → 60 ≤ answerLength n
+answer-least zero = omega arith
+answer-least (suc n) = omega arith
+
+-- whatever it carries
+module _ (f : AnswerFields) (h : Head) where
+  pub answer-long : entriesAt ≤ length (answerFrame f h)
+  answer-long = omega (arith, answer-size f h, answer-least (length (h .batch)))
+
+  pub answer-asnd : IsASnd (answerFrame f h)
+  unfolding answerFrame frameBytes ethBytes asndSection padded messageOf
+  answer-asnd = kind-told (answerFrame f h) answer-long
+
 module _ (f : AnswerFields) (h : Head) (sizes : AnswerSizes f) (good : Good (h .batch)) where
   -- what stands behind the payload: the zeros that fill the smallest section
   abbrev behind : List ℕ
@@ -131,16 +166,19 @@ module _ (f : AnswerFields) (h : Head) (sizes : AnswerSizes f) (good : Good (h .
       ∙ asnd-back services (answerASnd f (h .id) .frame) (answerPayload f h) (tables-hold .status services)
 
   pub answer-reads : Says (answerFrame f h) h
+  unfolding bookedEntries
   answer-reads =
       record {
-        status = λ services. rw (is-status services);
+        answer = record { asnd = answer-asnd f h; size = answer-long f h; status = λ services. rw (is-status services) };
         fields = fields;
         read = rw payload (status-reads-back .fields fields (f .«static_error_bit_field») (h .batch) behind (min-le-right _ 7));
         en = refl;
         entries =
             rw payload
+            (ap bookable
             (status-reads-back .entries fields (f .«static_error_bit_field») (h .batch) behind (in-range (h .batch) good)
-            ∙ to-the-end (h .batch) good);
+            ∙ to-the-end (h .batch) good)
+            ∙ all-bookable (h .batch) good);
       }
 
 -- ---- the request
@@ -151,3 +189,20 @@ unfolding requestFrame deserializeFrame
 request-reads services j f ea six =
     frames-read-back .reads services (requestSoA j f ea .«eth_header») (SoA (requestSoA j f ea .frame)) []
     (record { destination = refl; source = six; ethertype = refl }) refl .frame
+
+-- ---- what arrives says what was sent
+
+pub says-arrived : {f given : List ℕ} {h : Head} → Arrives f given → Says f h → Says given h
+says-arrived y s =
+    let asnd = s .answer .asnd in
+    record {
+      answer = record {
+        asnd = kinds-agree (agree y) ∙ asnd;
+        size = agree y .right;
+        status = λ services. response-same y services asnd ∙ s .answer .status services;
+      };
+      fields = s .fields;
+      read = ap (λ (x : Said). x .fields) (said-same y) ∙ s .read;
+      en = s .en;
+      entries = ap (λ (x : Said). x .entries) (said-same y) ∙ s .entries;
+    }

@@ -8,19 +8,19 @@ use mathlib.Core.List.{List, [], _∷_, _++_}
 use mathlib.Core.Option.{some}
 use lib.ListN.{length, take, drop, getElem?, take-append-drop}
 use lib.Dec.{ltb}
-use Rattle.types.specs.Codes.{pick, need}
+use Rattle.types.specs.Codes.{pick}
 use Rattle.section.specs.declared.WriteAnswer.the-variants as write
 use Rattle.error_entry.specs.declared.ErrorEntry.{ErrorEntry}
 use Rattle.reporter.specs.Calls.{Numbers}
-use Rattle.reporter.specs.Rules.{withNewBatch, queueLength, batchLength, Head, isRaisable, raiseAnswer, afterRaise, isEmpty, opens, opened, eaAnswer, acknowledgeAnswer, afterAcknowledge, eaTold}
+use Rattle.reporter.specs.Rules.{withNewBatch, queueLength, batchLength, Head, isRaisable, raiseBy, raiseAnswer, afterRaise, isEmpty, opens, opened, eaAnswer, acknowledgeAnswer, afterAcknowledge, eaTold}
 use Rattle.reporter.specs.declared.RaiseAnswer.{RaiseAnswer}
-use Rattle.reporter.specs.declared.RaiseAnswer.the-variants.{Raised, EntryInvalid, QueueFull}
+use Rattle.reporter.specs.declared.RaiseAnswer.the-variants.{Raised, EntryInvalid, StatusEntry, QueueFull}
 use Rattle.reporter.specs.declared.ReadAnswer.the-variants.{Closed, Kept}
 use Rattle.reporter.specs.declared.acknowledge.Heard.{Heard}
 use Rattle.reporter.specs.declared.acknowledge.Heard.the-variants as heard
 use Rattle.collector.specs.Rules.{enIn}
 use Rattle.signaling.specs.Calls.{sent, raised, answered, Tally, onEntries, onAnswers, onRequests, onRuled, accepts, sends, gives, becomes, answers, adds}
-use Rattle.signaling.proofs.Facts.{beq-same, beq-other, beq-true, both, at-snoc, at-lt, join-more, no-batch, is-cons}
+use Rattle.signaling.proofs.Facts.{clash, beq-same, beq-other, beq-true, both, at-snoc, at-lt, join-more, no-batch, is-cons}
 use Rattle.signaling.proofs.Frames.{Good, Says}
 use Rattle.signaling.proofs.Invariant.{enSaid, batchSaid, Inv}
 use Rattle.signaling.proofs.Transit.{answers-open, answers-send, answers-closed, requests-open, requests-later, requests-fresh, requests-closed}
@@ -41,14 +41,18 @@ good-drop zero a g = g
 good-drop (suc n) [] g = tt
 good-drop (suc n) (e ∷ a) g = good-drop n a (g .1)
 
-raised-by : (good room : Bool) → Raised ≡ need good EntryInvalid (need room QueueFull Raised) → good ≡ true
-raised-by true room e = refl
-raised-by false room e = cc
+raised-by : (good status room : Bool) → Raised ≡ raiseBy good status room → (good ≡ true) × (status ≡ false)
+raised-by true true room e = clash cc
+raised-by true false room e = (refl, refl)
+raised-by false status room e = clash cc
 
 -- what is raised may be
-raisable : (e : ErrorEntry) (h : Head) → Raised ≡ raiseAnswer e h → isRaisable e ≡ true
+abbrev MayBeRaised : ErrorEntry → Type 0
+MayBeRaised e = (isRaisable e ≡ true) × (e .«entry_type» .«is_status_entry» ≡ false)
+
+raisable : (e : ErrorEntry) (h : Head) → Raised ≡ raiseAnswer e h → MayBeRaised e
 unfolding raiseAnswer
-raisable e h a = raised-by (isRaisable e) (ltb (length (h .waiting)) queueLength) a
+raisable e h a = raised-by (isRaisable e) (e .«entry_type» .«is_status_entry») (ltb (length (h .waiting)) queueLength) a
 
 -- what an answer that is sent opens
 abbrev pub opening : Tally → Tally
@@ -60,12 +64,12 @@ module _ {i : ℕ} {ea : Bool} {book : List ErrorEntry} {c : Tally} (t : Inv i e
 
   -- ---- Raise
 
-  raise-joins : (e : ErrorEntry) → isRaisable e ≡ true → Numbers e → Inv i ea book (onEntries (accepts Raised e) (onRuled (becomes (afterRaise Raised e)) c))
+  raise-joins : (e : ErrorEntry) → MayBeRaised e → Numbers e → Inv i ea book (onEntries (accepts Raised e) (onRuled (becomes (afterRaise Raised e)) c))
   raise-joins e may n =
       record {
         id = t .id;
         batch = t .batch;
-        waiting = good-append (h .waiting) (e ∷ []) (t .waiting) ((may, n), tt);
+        waiting = good-append (h .waiting) (e ∷ []) (t .waiting) ((may .0, may .1, n), tt);
         source = t .source;
         answers = t .answers;
         turned = t .turned;
@@ -79,6 +83,7 @@ module _ {i : ℕ} {ea : Bool} {book : List ErrorEntry} {c : Tally} (t : Inv i e
   pub raise-keeps : (e : ErrorEntry) (r : RaiseAnswer) → r ≡ raiseAnswer e h → Numbers e → Inv i ea book (adds i (raised e r) c)
   raise-keeps e Raised a n = rw (← a) (raise-joins e (raisable e h a) n)
   raise-keeps e EntryInvalid a n = rw (← a) t
+  raise-keeps e StatusEntry a n = rw (← a) t
   raise-keeps e QueueFull a n = rw (← a) t
 
   -- ---- Answer
@@ -122,7 +127,7 @@ module _ {i : ℕ} {ea : Bool} {book : List ErrorEntry} {c : Tally} (t : Inv i e
         source = λ p a e.
             elim (at-snoc (c .answers .frames) bs a p e) [
               | inl y ↦ t .source p a (y .1)
-              | inr y ↦ rw (← (y .1), ← (t .id)) (says .status)
+              | inr y ↦ rw (← (y .1), ← (t .id)) (says .answer)
             ];
         answers = answers-send (t .answers) bs (ap enIn (says .read) ∙ says .en) (says .entries);
         turned = t .turned;

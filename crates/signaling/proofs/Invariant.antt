@@ -12,10 +12,9 @@ use Rattle.reporter.specs.Layout.{headOf}
 use Rattle.reporter.specs.Rules.{Head, eaTold}
 use Rattle.reporter.specs.declared.acknowledge.Heard.the-variants as heard
 use Rattle.collector.specs.Layout.{accountOf}
-use Rattle.collector.specs.Rules.{bookLength, Account, enIn, responseIn, statusIn}
-use Rattle.collector.specs.declared.reading.Heard.the-variants as boxHears
-use Rattle.signaling.specs.Calls.{Tally, tally, ruled, World, node, eaOf}
-use Rattle.signaling.proofs.Frames.{Good}
+use Rattle.collector.specs.Rules.{bookLength, Account, enIn, statusIn}
+use Rattle.signaling.specs.Calls.{Tally, tally, ruled, World, eaOf}
+use Rattle.signaling.proofs.Frames.{Good, IsAnswer}
 
 -- ---- what the frames say
 
@@ -60,8 +59,7 @@ pub record Inv (i : ℕ) (ea : Bool) (book : List ErrorEntry) (c : Tally) : Type
   pub id : c .ruled .head .id ≡ i
   pub batch : Good (c .ruled .head .batch)
   pub waiting : Good (c .ruled .head .waiting)
-  -- the box reads an answer as one of node i, whatever the table
-  pub source : (p : ℕ) (bs : List ℕ) → getElem? (c .answers .frames) p ≡ some bs → (services : List ℕ) → responseIn services bs ≡ boxHears.Status (node i)
+  pub source : (p : ℕ) (bs : List ℕ) → getElem? (c .answers .frames) p ≡ some bs → IsAnswer i bs
   pub answers : Answers (c .ruled .head .en) ea (c .ruled .head .batch) (c .answers .frames) (c .answers .at) (c .ruled .openedAt)
   pub turned : ℕ
   pub requests : Requests i (c .ruled .head .en) ea (c .ruled .head .batch) (c .requests .frames) (c .requests .at) turned

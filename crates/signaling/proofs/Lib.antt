@@ -1,3 +1,5 @@
+pub mod Arriving
+pub mod AsSent
 pub mod Box
 pub mod Callable
 pub mod Calls
@@ -9,6 +11,7 @@ pub mod Exchange
 pub mod Exchanging
 pub mod Facts
 pub mod Frames
+pub mod Fronts
 pub mod Head
 pub mod Host
 pub mod Invariant

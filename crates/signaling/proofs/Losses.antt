@@ -15,13 +15,13 @@ use Rattle.reporter.specs.declared.ReadAnswer.the-variants.{Closed}
 use Rattle.reporter.proofs.Meaning.{reads-means}
 use Rattle.collector.specs.Rules.{Account, bookAnswer, requestFrame}
 use Rattle.collector.specs.declared.ReadAnswer.the-variants as box
-use Rattle.signaling.specs.Calls.{Origin, sent, foreign, headRead, boxRead, Log, World, tally, Delivered}
+use Rattle.signaling.specs.Calls.{Origin, sent, foreign, headRead, boxRead, Log, World, tally, Reaches}
 use Rattle.signaling.specs.Example.{five, house, here, madeStatus, FreeEaLoses, BuiltAheadLoses, MadeStatusLoses}
 use Rattle.signaling.proofs.Callable.{hears}
 use Rattle.signaling.proofs.Example.{waits, between, place, answerOf, requestOf, first-closed, Reached, reachedWorld, from, runs, next, read-twice, close-first, answer-second, original, reached-answered, reached-first}
 use Rattle.signaling.proofs.ExampleFrames.{fields, asked, first, second, second-says, made-says, made-octets, made-other, made-source, hears-ea, first-length, second-length, request-length}
 use Rattle.signaling.proofs.Facts.{clash}
-use Rattle.signaling.proofs.Making.{sent-whole, hearing, knowing, books-it, asking}
+use Rattle.signaling.proofs.Making.{sent-whole, hearing, as-it-is, knowing, books-it, asking}
 
 -- the head reads a frame that closes its batch, wherever the frame comes from
 closed-by : {v : World} {l : Log} {h : Head} {p : Account} (r : Reached v l h p) (bs : List ℕ)
@@ -82,14 +82,16 @@ built-ahead-loses =
 
 -- ---- a StatusResponse that the head did not send
 
-twice-other : (a bs : List ℕ) (p : ℕ) → (bs ≡ a → ⊥) → getElem? (a ∷ a ∷ []) p ≡ some bs → ⊥
-twice-other a bs zero ne e = ne cc
-twice-other a bs (suc zero) ne e = ne cc
-twice-other a bs (suc (suc p)) ne e = clash cc
+twice-same : (a bs : List ℕ) (p : ℕ) → getElem? (a ∷ a ∷ []) p ≡ some bs → bs ≡ a
+twice-same a bs zero e = cc
+twice-same a bs (suc zero) e = cc
+twice-same a bs (suc (suc p)) e = clash cc
 
-not-delivered : (services : List ℕ) (o : Origin) → Delivered services 7 o (madeStatus fields) (tally 7 first-closed .answers) → ⊥
-not-delivered services (sent p) d = twice-other _ (madeStatus fields) p (λ e. made-other (e ∙ sent-whole (answerFrame fields first))) (d .1)
-not-delivered services foreign ne = made-source services ne
+not-reaching : (services : List ℕ) (o : Origin) → Reaches services 7 o (madeStatus fields) (tally 7 first-closed .answers) → ⊥
+not-reaching services (sent p) d =
+    let is : d .0 ≡ answerFrame fields first = twice-same _ (d .0) p (d .1 .1) ∙ sent-whole (answerFrame fields first) in
+    made-other (rw is at (d .2))
+not-reaching services foreign ne = made-source services ne
 
 -- its answer is known, and the next request closes the batch
 abbrev second-lost : Log
@@ -106,7 +108,7 @@ lose-second r =
     (next (answer-second r)
     (λ s b k.
     knowing k (answerFrame fields second) second second-says refl house 2
-    (omega arith, ap some (sent-whole (answerFrame fields second))) refl))
+    (as-it-is k (answerFrame fields second) second second-says refl house 2 (omega arith, ap some (sent-whole (answerFrame fields second)))) refl))
     (λ s b k. asking k 7 _ (k .place) asked refl))
     (λ s b k.
     hearing k ds301 (sent 3) (requestFrame 7 asked false) Closed (omega arith, ap some (sent-whole (requestFrame 7 asked false))) refl
@@ -123,7 +125,7 @@ made-status-loses =
       run = runs original (v .onward);
       before = v .knows .place;
       fields = fields;
-      strange = not-delivered;
+      strange = not-reaching;
       after = _;
       reads = m .0;
       w = reachedWorld r;

@@ -34,7 +34,8 @@ use Rattle.collector.specs.declared.RequestAnswer.the-variants as requesting
 use Rattle.collector.specs.declared.RequestFields.{RequestFields}
 use Rattle.collector.specs.declared.TakeAnswer.the-variants as taking
 use Rattle.collector.specs.declared.reading.Heard.the-variants as boxHears
-use Rattle.signaling.specs.Calls.{Origin, sent, Event, raised, answered, headRead, registered, boxRead, requested, taken, hosted, Log, tally, ruled, World, Delivered, node, Step, raise, answer, headReads, register, boxReads, request, takes, hosts}
+use Rattle.signaling.specs.Calls.{Origin, sent, Event, raised, answered, headRead, registered, boxRead, requested, taken, hosted, Log, tally, ruled, World, Delivered, Reaches, node, Step, raise, answer, headReads, register, boxReads, request, takes, hosts}
+use Rattle.signaling.proofs.Arriving.{arrives-self}
 use Rattle.signaling.proofs.Callable.{makes, raises, answers, hears, freshes, registers, books, asks, hands}
 use Rattle.signaling.proofs.Frames.{Says}
 
@@ -166,7 +167,7 @@ module _ {i : ℕ} {s b : List ℕ} {l : Log} {h : Head} {p : Account} (k : Know
   -- ---- the box's calls
 
   -- a frame that is not booked
-  pub passing : (services : List ℕ) (o : Origin) (bs : List ℕ) (r : BoxReadAnswer) → Delivered services i o bs (tally i l .answers)
+  pub passing : (services : List ℕ) (o : Origin) (bs : List ℕ) (r : BoxReadAnswer) → Reaches services i o bs (tally i l .answers)
       → readAnswer services bs (boxOf b) ≡ r
       → ((A : Type 0) (x y : A) → whenBooked r x y ≡ y)
       → Next i s b l (boxRead services o bs r) h p
@@ -183,9 +184,13 @@ module _ {i : ℕ} {s b : List ℕ} {l : Log} {h : Head} {p : Account} (k : Know
   module _ (bs : List ℕ) (g : Head) (says : Says bs g) (from : g .id ≡ i) where
     read-as : (services : List ℕ) → readAnswer services bs (boxOf b) ≡ bookAnswer (g .en) (g .batch) p
     unfolding readAnswer
-    read-as services = rw (says .status services, from, k .place, says .read, says .en, says .entries)
+    read-as services = rw (says .answer .status services, from, k .place, says .read, says .en, says .entries)
 
-    pub knowing : (services : List ℕ) (q : ℕ) → Delivered services i (sent q) bs (tally i l .answers) → bookAnswer (g .en) (g .batch) p ≡ box.Known
+    -- it reaches the box as it was sent
+    pub as-it-is : (services : List ℕ) (q : ℕ) → Delivered services i (sent q) bs (tally i l .answers) → Reaches services i (sent q) bs (tally i l .answers)
+    as-it-is services q given = (bs, given, arrives-self bs (says .answer .size))
+
+    pub knowing : (services : List ℕ) (q : ℕ) → Reaches services i (sent q) bs (tally i l .answers) → bookAnswer (g .en) (g .batch) p ≡ box.Known
         → Next i s b l (boxRead services (sent q) bs box.Known) h p
     knowing services q given ok = passing services (sent q) bs box.Known given (read-as services ∙ ok) (λ A x y. refl)
 
@@ -199,18 +204,18 @@ module _ {i : ℕ} {s b : List ℕ} {l : Log} {h : Head} {p : Account} (k : Know
         × Knows i s booked l h (withEa (g .en) (withBook (p .book ++ g .batch) p))
     books-it octets ok =
         let c : (services : List ℕ) → collector.Reads services bs box.Booked b booked × (length booked ≡ collectorLength) =
-        λ services. rw (read-as services, ok, says .status services) at (books services b bs (k .boxSize) octets) in (
+        λ services. rw (read-as services, ok, says .answer .status services) at (books services b bs (k .boxSize) octets) in (
           λ services. c services .0,
           record {
             headSize = k .headSize;
             boxSize = c [] .1;
             means = k .means;
             rules = k .rules;
-            place = c [] .0 .box .accounts i ∙ rw (says .status [], from, eq-eqb i i refl, k .place, says .read, says .en, says .entries);
+            place = c [] .0 .box .accounts i ∙ rw (says .answer .status [], from, eq-eqb i i refl, k .place, says .read, says .en, says .entries);
           },
         )
 
-    pub booking : (services : List ℕ) (q : ℕ) → Delivered services i (sent q) bs (tally i l .answers) → Octets bs
+    pub booking : (services : List ℕ) (q : ℕ) → Reaches services i (sent q) bs (tally i l .answers) → Octets bs
         → bookAnswer (g .en) (g .batch) p ≡ box.Booked
         → Next i s b l (boxRead services (sent q) bs box.Booked) h (withEa (g .en) (withBook (p .book ++ g .batch) p))
     booking services q given octets ok =

@@ -18,6 +18,7 @@ use Rattle.signaling.specs.Calls.{sent, boxRead, tally, ruled, isBooked,
 use Rattle.signaling.proofs.Facts.{clash, either, beq-not, beq-false}
 use Rattle.signaling.proofs.Invariant.{enSaid, batchSaid, bookOf, headIn, placeFor}
 use Rattle.signaling.proofs.Quiet.{Ready, Roomy}
+use Rattle.signaling.proofs.Steps.{read-as-sent}
 use Rattle.signaling.proofs.Transit.{answers-fresh}
 
 -- ---- the box reads
@@ -64,6 +65,7 @@ pub room-found : {i p : ℕ} {services bs : List ℕ} {r : BoxReadAnswer} {w v :
     → r ≡ box.BookFull
     → ⊥
 unfolding readAnswer enSaid batchSaid
-room-found {i} {p} {services} {bs} {w} y room (boxReads table from octets told after d c) full =
-    let me = y .held .inv .source p bs (d .1) services in
-    fits (statusIn bs) (placeFor i w) (room-for services y room d) (rw me at (sym (c .answer) ∙ full))
+room-found {i} {p} {services} {bs} {r} {w} y room (boxReads table from octets told after d c) full =
+    let me = y .held .inv .source p (d .0) (d .1 .1) .status services in
+    let answer = read-as-sent (y .held) services p bs r after d c .answer in
+    fits (statusIn (d .0)) (placeFor i w) (room-for services y room (d .1)) (rw me at (sym answer ∙ full))

@@ -15,7 +15,7 @@ use Rattle.section.specs.declared.WriteAnswer.the-variants as write
 use Rattle.error_entry.specs.declared.ErrorEntry.{ErrorEntry}
 use Rattle.reporter.specs.Rules.{withBatch, opened, Head, afterRaise, afterAcknowledge}
 use Rattle.reporter.specs.declared.RaiseAnswer.{RaiseAnswer}
-use Rattle.reporter.specs.declared.RaiseAnswer.the-variants.{Raised, EntryInvalid, QueueFull}
+use Rattle.reporter.specs.declared.RaiseAnswer.the-variants.{Raised, EntryInvalid, StatusEntry, QueueFull}
 use Rattle.reporter.specs.declared.ReadAnswer.{ReadAnswer}
 use Rattle.reporter.specs.declared.ReadAnswer.the-variants.{Closed, Kept, Ignored, Refused}
 use Rattle.collector.specs.Layout.{boxOf}
@@ -119,6 +119,7 @@ room-stays (hosts bs told) k y = y
 pub quiet-raises-not : (i : ℕ) (x : Event) → Quiet i x → NoRaise i x
 quiet-raises-not i (raised e Raised) k = absurd (omega arith)
 quiet-raises-not i (raised e EntryInvalid) k = λ t. refl
+quiet-raises-not i (raised e StatusEntry) k = λ t. refl
 quiet-raises-not i (raised e QueueFull) k = λ t. refl
 quiet-raises-not i (answered r bs) k = λ t. refl
 quiet-raises-not i (headRead services o bs r) k = λ t. refl
@@ -161,6 +162,7 @@ take-bit i j b taking.NothingBooked = refl
 pub not-raised : (i : ℕ) (e : ErrorEntry) (r : RaiseAnswer) → NoRaise i (raised e r) → (h : Head) → afterRaise r e h ≡ h
 not-raised i e Raised k h = let some-raised : e ∷ [] ≡ [] = k (nothingYet i) in clash cc
 not-raised i e EntryInvalid k h = refl
+not-raised i e StatusEntry k h = refl
 not-raised i e QueueFull k h = refl
 
 -- a reading leaves the head or closes its batch
@@ -276,5 +278,5 @@ module _ {i : ℕ} (P : World → Type 0) (stays : (w v : World) (x : Event) →
   pub exchange-stays : {w v : World} → Exchange i w v → P w → P v
   exchange-stays x y =
       let y₃ = stays _ _ _ (x .boxReads) (λ t. refl) (until-read x y) in
-      let y₅ = stays _ _ _ (x .requests) (λ t. refl) (stays-with (λ e k. rw (k .2) (λ t. refl)) (x .quiet₂) y₃) in
+      let y₅ = stays _ _ _ (x .requests) (λ t. refl) (stays-with (λ e k. rw (k .3) (λ t. refl)) (x .quiet₂) y₃) in
       requested-stays (x .quiet₄) (stays _ _ _ (x .headReads) (λ t. refl) (quiet-stays (x .quiet₃) y₅))

@@ -28,7 +28,8 @@ use Rattle.collector.specs.declared.RequestAnswer.the-variants as requesting
 use Rattle.collector.specs.declared.RequestFields.{RequestFields}
 use Rattle.collector.specs.declared.TakeAnswer.{TakeAnswer}
 use Rattle.collector.specs.declared.TakeAnswer.the-variants as taking
-use Rattle.signaling.specs.Calls.{Origin, sent, foreign, Event, answered, headRead, boxRead, requested, taken, tally, ruled, hears, Delivered, Tells, node, World, Step, raise, answer, headReads, register, boxReads, request, takes, hosts, Run, fresh, call, eaOf}
+use Rattle.signaling.specs.Calls.{Origin, sent, foreign, Event, answered, headRead, boxRead, requested, taken, tally, ruled, hears, Delivered, Reaches, Tells, node, World, Step, raise, answer, headReads, register, boxReads, request, takes, hosts, Run, fresh, call, eaOf}
+use Rattle.signaling.proofs.Arriving.{reads-sent}
 use Rattle.signaling.proofs.Facts.{either, beq-false, at-lt}
 use Rattle.signaling.proofs.Frames.{Says, answer-reads}
 use Rattle.signaling.proofs.Invariant.{enSaid, batchSaid, bookOf, Inv, headIn, placeFor, Held}
@@ -74,28 +75,42 @@ module _ {i : ℕ} {w : World} (t : Held i w) where
 
   -- ---- the box's calls
 
+  -- what reaches the box is read as what was sent
+  pub read-as-sent : (services : List ℕ) (p : ℕ) (bs : List ℕ) (r : BoxReadAnswer) (after : List ℕ)
+      → (d : Reaches services i (sent p) bs (tally i (w .log) .answers))
+      → collector.Reads services bs r (w .box) after
+      → collector.Reads services (d .0) r (w .box) after
+  read-as-sent services p bs r after d c = reads-sent (d .2) services (t .inv .source p (d .0) (d .1 .1) .asnd) c
+
   books : (services : List ℕ) (p : ℕ) (bs after : List ℕ) → Delivered services i (sent p) bs (tally i (w .log) .answers)
       → collector.Reads services bs box.Booked (w .box) after
       → Inv i (eaOf (accountOf after i)) (bookOf (accountOf after i)) (tally i (boxRead services (sent p) bs box.Booked ∷ w .log))
   unfolding readAnswer enSaid batchSaid
   books services p bs after d c =
-      let me = t .inv .source p bs (d .1) services in
+      let me = t .inv .source p bs (d .1) .status services in
       let y = why-booked (statusIn bs) o (rw me at (c .answer)) in
       let inv : Inv i (y .place .ea) (y .place .book) (tally i (w .log)) = rw (y .known) at (t .inv) in
       rw (c .box .accounts i, read-here services i bs (boxOf (w .box)) me, y .known)
       (box-books inv p bs (d .0) (d .1) services (beq-false _ _ (y .fresh)) (y .room))
 
+  -- an answer as it was sent
+  sent-keeps : (services : List ℕ) (p : ℕ) (bs : List ℕ) (r : BoxReadAnswer) (after : List ℕ)
+      → Delivered services i (sent p) bs (tally i (w .log) .answers)
+      → collector.Reads services bs r (w .box) after
+      → Inv i (eaOf (accountOf after i)) (bookOf (accountOf after i)) (tally i (boxRead services (sent p) bs r ∷ w .log))
+  sent-keeps services p bs box.Booked after d c = books services p bs after d c
+  sent-keeps services p bs box.Known after d c = rw (c .box .accounts i) (box-passes (t .inv) p bs (d .0) (d .1))
+  sent-keeps services p bs (box.Refused e) after d c = rw (c .box .accounts i) (box-passes (t .inv) p bs (d .0) (d .1))
+  sent-keeps services p bs box.NotStatusResponse after d c = rw (c .box .accounts i) (box-passes (t .inv) p bs (d .0) (d .1))
+  sent-keeps services p bs box.NotRegistered after d c = rw (c .box .accounts i) (box-passes (t .inv) p bs (d .0) (d .1))
+  sent-keeps services p bs box.BookFull after d c = rw (c .box .accounts i) (box-passes (t .inv) p bs (d .0) (d .1))
+
   box-read-keeps : (services : List ℕ) (from : Origin) (bs : List ℕ) (r : BoxReadAnswer) (after : List ℕ)
-      → Delivered services i from bs (tally i (w .log) .answers)
+      → Reaches services i from bs (tally i (w .log) .answers)
       → collector.Reads services bs r (w .box) after
       → Inv i (eaOf (accountOf after i)) (bookOf (accountOf after i)) (tally i (boxRead services from bs r ∷ w .log))
   box-read-keeps services foreign bs r after d c = rw (c .box .accounts i, read-elsewhere services i bs (boxOf (w .box)) r d) (t .inv)
-  box-read-keeps services (sent p) bs box.Booked after d c = books services p bs after d c
-  box-read-keeps services (sent p) bs box.Known after d c = rw (c .box .accounts i) (box-passes (t .inv) p bs (d .0) (d .1))
-  box-read-keeps services (sent p) bs (box.Refused e) after d c = rw (c .box .accounts i) (box-passes (t .inv) p bs (d .0) (d .1))
-  box-read-keeps services (sent p) bs box.NotStatusResponse after d c = rw (c .box .accounts i) (box-passes (t .inv) p bs (d .0) (d .1))
-  box-read-keeps services (sent p) bs box.NotRegistered after d c = rw (c .box .accounts i) (box-passes (t .inv) p bs (d .0) (d .1))
-  box-read-keeps services (sent p) bs box.BookFull after d c = rw (c .box .accounts i) (box-passes (t .inv) p bs (d .0) (d .1))
+  box-read-keeps services (sent p) bs r after d c = sent-keeps services p (d .0) r after (d .1) (read-as-sent services p bs r after d c)
 
   -- what is sent tells the head EA, if it tells it anything
   pub request-says : (j : ℕ) (f : RequestFields) (n : ℕ) (target written : List ℕ)

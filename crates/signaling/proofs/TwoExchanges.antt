@@ -15,23 +15,31 @@ use Rattle.collector.specs.declared.ReadAnswer.the-variants as box
 use Rattle.signaling.specs.Calls.{sent, headRead, boxRead, Log}
 use Rattle.signaling.specs.Example.{five, house, TwoExchanges}
 use Rattle.signaling.specs.Exchanges.{done, more, still}
+use Rattle.signaling.proofs.Arriving.{arrives-self}
 use Rattle.signaling.proofs.Example.{waits, between, place, answerOf, requestOf, all-raised, reachedWorld, runs, original, reached-raised}
-use Rattle.signaling.proofs.ExampleFrames.{fields, sizes, asked, first, second, answer-octets, first-says, second-says, hears-ea}
+use Rattle.signaling.proofs.ExampleFrames.{fields, sizes, asked, first, second, withTwo, answer-octets, two-octets, first-says, second-says, two-arrive, hears-ea}
 use Rattle.signaling.proofs.Exchanging.{Exchanged, exchanging}
+use Rattle.signaling.proofs.Frames.{answer-long}
 use Rattle.signaling.proofs.Making.{world, Knows, sent-whole}
 
--- an exchange in which the frames at these places are read, the request and the answer under these tables
-abbrev exchanged : List ℕ → List ℕ → ℕ → ℕ → Head → Log → Log
-exchanged headServices boxServices n m h l =
-    headRead headServices (sent m) (requestFrame 7 asked (h .en)) Closed ∷ requestOf 7 (h .en) ∷ boxRead boxServices (sent n) (answerFrame fields h) box.Booked ∷ answerOf h
+-- an exchange in which the frames at these places are read, the request and the answer under these tables, the answer as it arrives
+abbrev exchanged : List ℕ → List ℕ → ℕ → ℕ → Head → List ℕ → Log → Log
+exchanged headServices boxServices n m h arrived l =
+    headRead headServices (sent m) (requestFrame 7 asked (h .en)) Closed ∷ requestOf 7 (h .en) ∷ boxRead boxServices (sent n) arrived box.Booked ∷ answerOf h
     ∷ l
 
+-- the first answer arrives with two status entries
+abbrev once : Log
+once = exchanged ds301 house 0 1 first withTwo all-raised
+
+abbrev twice : Log
+twice = exchanged house ds301 1 2 second (answerFrame fields second) once
+
 module _ {s b : List ℕ} where
-  exchange₁ : Knows 7 s b all-raised (waits five) freshAccount
-      → Exchanged 7 s b all-raised (exchanged ds301 house 0 1 first all-raised) between (place true (take 4 five))
+  exchange₁ : Knows 7 s b all-raised (waits five) freshAccount → Exchanged 7 withTwo s b all-raised once between (place true (take 4 five))
   unfolding opened asked bookAnswer eaAnswer
   exchange₁ k =
-      exchanging ds301 house 7 fields asked sizes refl all-raised (waits five) freshAccount 0 1 k (omega arith) first-says refl (answer-octets .0) refl
+      exchanging ds301 house 7 fields asked sizes refl all-raised (waits five) freshAccount withTwo 0 1 k (omega arith) first-says two-arrive refl two-octets refl
       (omega arith, ap some (sent-whole (answerFrame fields first)))
       (omega arith)
       (omega arith, ap some (sent-whole (requestFrame 7 asked true)))
@@ -39,11 +47,11 @@ module _ {s b : List ℕ} where
       (hears-ea ds301 true)
       refl
 
-  exchange₂ : Knows 7 s b (exchanged ds301 house 0 1 first all-raised) between (place true (take 4 five))
-      → Exchanged 7 s b (exchanged ds301 house 0 1 first all-raised) (exchanged house ds301 1 2 second (exchanged ds301 house 0 1 first all-raised)) (waits []) (place false five)
+  exchange₂ : Knows 7 s b once between (place true (take 4 five)) → Exchanged 7 (answerFrame fields second) s b once twice (waits []) (place false five)
   unfolding opened asked bookAnswer eaAnswer
   exchange₂ k =
-      exchanging house ds301 7 fields asked sizes refl (exchanged ds301 house 0 1 first all-raised) between (place true (take 4 five)) 1 2 k (omega arith) second-says
+      exchanging house ds301 7 fields asked sizes refl once between (place true (take 4 five)) (answerFrame fields second) 1 2 k (omega arith) second-says
+      (arrives-self (answerFrame fields second) (answer-long fields second))
       refl
       (answer-octets .1)
       refl
@@ -61,10 +69,13 @@ two-exchanges =
     let y = exchange₂ (x .knows) in
     record {
       w = reachedWorld r;
-      v = world (y .state) (y .box) (exchanged house ds301 1 2 second (exchanged ds301 house 0 1 first all-raised));
+      v = world (y .state) (y .box) twice;
       run = runs original (r .onward);
       room = record { account = freshAccount; registered = r .knows .place; free = rw (r .knows .rules) (omega arith) };
       waiting = rw (r .knows .rules);
       exchanges = more still (x .exchange) (more still (y .exchange) (done still));
+      answer = answerFrame fields first;
+      isSent = ap some (sent-whole (answerFrame fields first));
+      given = ap (λ (bs : List ℕ). bs ∷ []) (x .read);
       closed = rw (y .knows .rules);
     }

@@ -1,9 +1,10 @@
 -- Demand 3: no error lost, none twice. What 01 says of a list of calls as a whole, from a fresh box, a fresh head and a line with
 -- nothing sent. Each call is any that its contract allows, so this holds of the code. 01's box is the collector, its head the reporter.
--- Beside the calls stand the frames that the box's host sends by itself; 01's own lists are those without any. A frame of the host that gives
--- the head an EA gives the box's when it is sent (`Tells`), as `collector::flags` tells it (`FlagsTell`); Example.antt has lists that lose
--- entries by a frame that does not. Each Answer and each reading has a table of services of its own (02, CR 1: "An error exchange under any
--- loaded table books as before"): any octets, more than the 256 that a call can be lent, and others from call to call.
+-- Beside the calls stand the frames that the box's host sends by itself, and an answer may reach the box with status entries put in (02,
+-- CR 2: `Reaches`); 01's own lists are those without either. A frame of the host that gives the head an EA gives the box's when it is sent
+-- (`Tells`), as `collector::flags` tells it (`FlagsTell`); Example.antt has lists that lose entries by a frame that does not. Each Answer and
+-- each reading has a table of services of its own (02, CR 1: "An error exchange under any loaded table books as before"): any octets, more
+-- than the 256 that a call can be lent, and others from call to call.
 -- Assumes nothing.
 use Prim.Native.Nat.{ℕ, suc, _≤_}
 use mathlib.Core.Bool.{Bool, true, false, _||_}
@@ -43,6 +44,7 @@ use Rattle.collector.specs.declared.RequestAnswer.the-variants as requesting
 use Rattle.collector.specs.declared.RequestFields.{RequestFields}
 use Rattle.collector.specs.declared.TakeAnswer.{TakeAnswer}
 use Rattle.collector.specs.declared.TakeAnswer.the-variants as taking
+use Rattle.signaling.specs.Arrival.{Arrives}
 
 -- ---- the log of calls, their answers, and the octets that were given or written
 
@@ -239,10 +241,16 @@ abbrev pub NotFrom : ℕ → FrameAnswer → Type 0
 NotFrom i (frame.Refused e) = Unit {0}
 NotFrom i (frame.Frame f) = sourceOf f ≡ i → ⊥
 
--- what the line does to a frame: it neither alters nor reorders, so what is given is what was sent, at or behind the last place given
+-- what 01's line does to a frame: it neither alters nor reorders, so what is given is what was sent, at or behind the last place given
 abbrev pub Delivered : List ℕ → ℕ → Origin → List ℕ → Line → Type 0
 Delivered services i (sent p) bs l = (l .at ≤ p) × (getElem? (l .frames) p ≡ some bs)
 Delivered services i foreign bs l = NotFrom i (readFrame services bs)
+
+-- What reaches the box is what the line delivers, an answer with status entries put in (02, CR 2), at each repeat with others; none of them is
+-- 01's own line (`AsSent`).
+abbrev pub Reaches : List ℕ → ℕ → Origin → List ℕ → Line → Type 0
+Reaches services i (sent p) bs l = (a : List ℕ) × Delivered services i (sent p) a l × Arrives a bs
+Reaches services i foreign bs l = Delivered services i foreign bs l
 
 -- EA as the box has it for a head; 0 before the head is registered
 abbrev pub eaOf : Option Account → Bool
@@ -269,7 +277,7 @@ pub data Step (i : ℕ) (w : World) : Event → World → Type 0 where
   register : (j : ℕ) (r : RegisterAnswer) (after : List ℕ) → collector.Registers (node j) r (w .box) after
       → Step i w (registered j r) (record { head = w .head; box = after; log = registered j r ∷ w .log })
   boxReads : (services : List ℕ) (o : Origin) (bs : List ℕ) (r : BoxReadAnswer) (after : List ℕ)
-      → Delivered services i o bs (tally i (w .log) .answers)
+      → Reaches services i o bs (tally i (w .log) .answers)
       → collector.Reads services bs r (w .box) after
       → Step i w (boxRead services o bs r) (record { head = w .head; box = after; log = boxRead services o bs r ∷ w .log })
   request : (j : ℕ) (f : RequestFields) (r : RequestAnswer) (target written : List ℕ)

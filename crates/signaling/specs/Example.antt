@@ -16,6 +16,7 @@ use Rattle.section.specs.declared.WriteAnswer.{WriteAnswer}
 use Rattle.section.specs.declared.WriteAnswer.the-variants as write
 use Rattle.frame.specs.Write.{frameBytes}
 use Rattle.frame.specs.declared.PowerlinkFrame.the-variants.{ASnd}
+use Rattle.error_entry.specs.Entry.{entryBytes}
 use Rattle.error_entry.specs.declared.ErrorEntry.{ErrorEntry}
 use Rattle.status_response.specs.Fields.{headBytes}
 use Rattle.status_response.specs.Steps.{statusBytes}
@@ -24,7 +25,7 @@ use Rattle.reporter.specs.Layout.{headOf}
 use Rattle.reporter.specs.Rules.{statusFields, answerASnd, eaTold}
 use Rattle.reporter.specs.declared.AnswerFields.{AnswerFields}
 use Rattle.reporter.specs.declared.RaiseAnswer.{RaiseAnswer}
-use Rattle.reporter.specs.declared.RaiseAnswer.the-variants.{Raised, EntryInvalid}
+use Rattle.reporter.specs.declared.RaiseAnswer.the-variants.{Raised, EntryInvalid, StatusEntry}
 use Rattle.reporter.specs.declared.ReadAnswer.{ReadAnswer}
 use Rattle.reporter.specs.declared.ReadAnswer.the-variants as head
 use Rattle.reporter.specs.declared.acknowledge.Heard.the-variants as heard
@@ -38,8 +39,9 @@ use Rattle.collector.specs.declared.RequestAnswer.{RequestAnswer}
 use Rattle.collector.specs.declared.RequestAnswer.the-variants as requesting
 use Rattle.collector.specs.declared.TakeAnswer.{TakeAnswer}
 use Rattle.collector.specs.declared.TakeAnswer.the-variants as taking
-use Rattle.signaling.specs.Calls.{Origin, sent, foreign, Event, raised, answered, headRead, registered, boxRead, requested, taken, hosted, Log, tally, accepted, handedOut, isBooked, ruled, World, Delivered, Tells, Step, Run, Drained}
-use Rattle.signaling.specs.Exchanges.{pending, Exchanges, Room}
+use Rattle.signaling.specs.Arrival.{putIn}
+use Rattle.signaling.specs.Calls.{Origin, sent, foreign, Event, raised, answered, headRead, registered, boxRead, requested, taken, hosted, Log, tally, accepted, handedOut, answersSent, isBooked, ruled, World, Reaches, Tells, Step, Run, Drained}
+use Rattle.signaling.specs.Exchanges.{pending, Exchanges, done, more, Room}
 
 abbrev pub entry : ErrorEntryMode → ℕ → ErrorEntry
 entry mode code =
@@ -49,6 +51,20 @@ entry mode code =
       timestamp = record { seconds = 1; nanoseconds = 500 };
       «additional_information» = 0;
     }
+
+-- an entry with bit 15 set, of a code
+abbrev pub shown : ErrorEntryMode → ℕ → ErrorEntry
+shown mode code =
+    record {
+      «entry_type» = record { «is_status_entry» = true; «send_to_queue» = false; mode = mode; profile = 3 };
+      «error_code» = code;
+      timestamp = record { seconds = 2; nanoseconds = 0 };
+      «additional_information» = 9;
+    }
+
+-- a frame with one before its first entry, and one behind its second
+abbrev pub twoPutIn : List ℕ → List ℕ
+twoPutIn f = putIn 0 (entryBytes (shown ErrorActive 0x8170)) (putIn 2 (entryBytes (shown ErrorCleared 0x8171)) f)
 
 -- of every mode that an entry has
 abbrev pub five : List ErrorEntry
@@ -92,10 +108,11 @@ calls (x ∷ l) = calls l ++ (callOf x ∷ [])
 abbrev pub atStart : List Call
 atStart = registers 7 Registered ∷ registers 9 Registered ∷ requests 9 (requesting.Written 60) ∷ []
 
--- an entry of mode 0 is refused; five are waiting
+-- an entry of mode 0 is refused, and so is one with bit 15 set; five are waiting
 abbrev pub fiveRaised : List Call
 fiveRaised =
-    raises (entry Terminator 0x8160) EntryInvalid ∷ raises (entry ErrorActive 0x8161) Raised ∷ raises (entry ErrorCleared 0x8162) Raised
+    raises (entry Terminator 0x8160) EntryInvalid ∷ raises (shown ErrorActive 0x8170) StatusEntry ∷ raises (entry ErrorActive 0x8161) Raised
+    ∷ raises (entry ErrorCleared 0x8162) Raised
     ∷ raises (entry EventOccurred 0x8163) Raised
     ∷ raises (entry ErrorActive 0x8164) Raised
     ∷ raises (entry ErrorCleared 0x8165) Raised
@@ -106,7 +123,8 @@ abbrev pub answeredTwice : List Call
 answeredTwice = answers (write.Written 132) ∷ answers (write.Written 132) ∷ []
 
 -- frames from elsewhere: one under the table of DS 301 and an ASnd of service 20h under `house` are no StatusResponse; that ASnd under the
--- table of DS 301, which does not hold 20h, is refused with 6. Answer 1 is booked under `house`, and its repeat is known under that of DS 301
+-- table of DS 301, which does not hold 20h, is refused with 6. Answer 1 is booked under `house`, and its repeat is known under that of DS 301,
+-- each with status entries of its own put in
 abbrev pub readTwice : List Call
 readTwice =
     byBox ds301 foreign box.NotStatusResponse ∷ byBox house foreign box.NotStatusResponse
@@ -141,6 +159,11 @@ pub record LossAndRepeat : Type 0 where
   pub asnd : List ℕ
   pub held : getElem? (w .log) 14 ≡ some (boxRead house foreign asnd box.NotStatusResponse)
   pub unheld : getElem? (w .log) 13 ≡ some (boxRead ds301 foreign asnd (box.Refused (InvalidServiceId 0x20)))
+  -- answer 1: when the box books it, status entries stand before its first and behind its second entry; in its repeat another one behind the last
+  pub answer : List ℕ
+  pub isSent : getElem? (answersSent 7 (w .log)) 1 ≡ some answer
+  pub withTwo : getElem? (w .log) 12 ≡ some (boxRead house (sent 1) (twoPutIn answer) box.Booked)
+  pub withOther : getElem? (w .log) 11 ≡ some (boxRead ds301 (sent 1) (putIn 4 (entryBytes (shown EventOccurred 0x8172)) answer) box.Known)
   pub entries : accepted 7 (w .log) ≡ five
   pub handed : handedOut 7 (w .log) ≡ take 1 five
   -- the others are booked, and nothing is left at the head
@@ -151,7 +174,12 @@ pub record LossAndRepeat : Type 0 where
   -- further Takes hand out each once, in order
   pub drained : Drained 7 (w .box) (drop 1 five)
 
--- the same entries are closed by two exchanges
+-- what the box reads in each exchange
+abbrev pub answersRead : {i n : ℕ} {w v : World} → Exchanges i n w v → List (List ℕ)
+answersRead (done l) = []
+answersRead (more l x xs) = x .answerRead ∷ answersRead xs
+
+-- the same entries are closed by two exchanges, with status entries in the first
 pub record TwoExchanges : Type 0 where
   pub w : World
   pub v : World
@@ -159,6 +187,9 @@ pub record TwoExchanges : Type 0 where
   pub room : Room 7 w
   pub waiting : pending 7 w ≡ five
   pub exchanges : Exchanges 7 2 w v
+  pub answer : List ℕ
+  pub isSent : getElem? (answersSent 7 (v .log)) 0 ≡ some answer
+  pub given : take 1 (answersRead exchanges) ≡ twoPutIn answer ∷ []
   pub closed : pending 7 v ≡ []
 
 -- Why a frame of the box's host may not give any EA: the first answer is lost, the box has EA 0 and an empty book, and a frame from 240 with
@@ -214,7 +245,7 @@ pub record MadeStatusLoses : Type 0 where
   pub before : accountOf (v .box) 7 ≡ some (record { ea = true; book = take 4 five })
   pub fields : AnswerFields
   -- no step of a list: the head has not sent it, and its source is no other
-  pub strange : (services : List ℕ) (o : Origin) → Delivered services 7 o (madeStatus fields) (tally 7 (v .log) .answers) → ⊥
+  pub strange : (services : List ℕ) (o : Origin) → Reaches services 7 o (madeStatus fields) (tally 7 (v .log) .answers) → ⊥
   pub after : List ℕ
   pub reads : (services : List ℕ) → collector.Reads services (madeStatus fields) box.Booked (v .box) after
   -- the calls behind it are steps of a list

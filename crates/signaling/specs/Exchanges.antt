@@ -10,7 +10,7 @@ use lib.ListN.{length}
 use Rattle.section.specs.declared.WriteAnswer.the-variants as write
 use Rattle.error_entry.specs.declared.ErrorEntry.{ErrorEntry}
 use Rattle.reporter.specs.Rules.{eaTold}
-use Rattle.reporter.specs.declared.RaiseAnswer.the-variants.{Raised, EntryInvalid, QueueFull}
+use Rattle.reporter.specs.declared.RaiseAnswer.the-variants.{Raised, EntryInvalid, StatusEntry, QueueFull}
 use Rattle.reporter.specs.declared.ReadAnswer.{ReadAnswer}
 use Rattle.reporter.specs.declared.acknowledge.Heard.the-variants as heard
 use Rattle.collector.specs.Layout.{accountOf}
@@ -30,6 +30,7 @@ pending i w = ruled i (w .log) .batch ++ ruled i (w .log) .waiting
 abbrev pub Quiet : ℕ → Event → Type 0
 Quiet i (raised e Raised) = ⊥
 Quiet i (raised e EntryInvalid) = Unit {0}
+Quiet i (raised e StatusEntry) = Unit {0}
 Quiet i (raised e QueueFull) = Unit {0}
 Quiet i (answered r bs) = Unit {0}
 Quiet i (headRead services o bs r) = Unit {0}
@@ -41,9 +42,9 @@ Quiet i (taken j r) = Unit {0}
 Quiet i (hosted bs) = Unit {0}
 
 -- "On the line a repeat arrives before any later frame of the same sender": the frame that was read last is read once more,
--- under whichever table
-abbrev pub AnswerAgain : ℕ → List ℕ → Event → Type 0
-AnswerAgain p bs x = (services : List ℕ) × (r : BoxReadAnswer) × (x ≡ boxRead services (sent p) bs r)
+-- under whichever table; an answer with whichever status entries
+abbrev pub AnswerAgain : ℕ → Event → Type 0
+AnswerAgain p x = (services : List ℕ) × (bs : List ℕ) × (r : BoxReadAnswer) × (x ≡ boxRead services (sent p) bs r)
 
 abbrev pub RequestAgain : ℕ → List ℕ → Event → Type 0
 RequestAgain q bs x = (services : List ℕ) × (r : ReadAnswer) × (x ≡ headRead services (sent q) bs r)
@@ -76,7 +77,7 @@ pub record Exchange (i : ℕ) (w v : World) : Type 0 where
   pub newAnswer : length (answersSent i (w .log)) ≤ p
   pub w₄ : World
   -- nothing in transit "whenever either writes": repeats of the answer come before the box writes
-  pub quiet₂ : Quietly i (AnswerAgain p answerRead) w₃ w₄
+  pub quiet₂ : Quietly i (AnswerAgain p) w₃ w₄
   pub length₂ : ℕ
   pub request : List ℕ
   pub w₅ : World

@@ -1,3 +1,5 @@
+pub mod Arrival
+pub mod AsSent
 pub mod Calls
 pub mod Example
 pub mod Exchanges

@@ -52,6 +52,7 @@ numbers-tell =
       line20 = refl;
       line21 = refl;
       line22 = refl;
+      line23 = refl;
     }
 
 -- the first of the values

@@ -46,7 +46,7 @@ notStatusResponse = 10
 abbrev pub notRegistered : ℕ
 notRegistered = 11
 
--- fewer free places than batch entries
+-- fewer free places than batch entries, of those that are booked (02, CR 2)
 abbrev pub bookFull : ℕ
 bookFull = 12
 
@@ -91,3 +91,9 @@ notAscending = 21
 -- 2 not among them
 abbrev pub withoutStatusResponse : ℕ
 withoutStatusResponse = 22
+
+-- ---- 02, CR 2
+
+-- raised entry with bit 15 set
+abbrev pub isStatusEntry : ℕ
+isStatusEntry = 23

@@ -4,7 +4,7 @@ use Prim.Native.Nat.{ℕ}
 use mathlib.Core.Path.{_≡_}
 use mathlib.Core.List.{[], _∷_}
 use lib.ListN.{getD}
-use Rattle.types.specs.CauseNumbers.{tooShort, notPowerlink, invalidFrame, unknownMessage, unknownState, unknownService, unknownRequest, entryInvalid, queueFull, notStatusResponse, notRegistered, bookFull, idOutOfRange, idRegistered, fourRegistered, nothingBooked, notAJournal, unknownVersion, recordInvalid, notATable, notAscending, withoutStatusResponse}
+use Rattle.types.specs.CauseNumbers.{tooShort, notPowerlink, invalidFrame, unknownMessage, unknownState, unknownService, unknownRequest, entryInvalid, queueFull, notStatusResponse, notRegistered, bookFull, idOutOfRange, idRegistered, fourRegistered, nothingBooked, notAJournal, unknownVersion, recordInvalid, notATable, notAscending, withoutStatusResponse, isStatusEntry}
 use Rattle.types.specs.Causes.{row, causeOf, errorTold}
 use Rattle.types.specs.CodeCauses.{messageCause, stateCause, requestedCause, modeCause}
 use Rattle.types.specs.Messages.{messageCode}
@@ -51,6 +51,7 @@ pub record NumbersTell : Type 0 where
   pub line20 : notATable ≡ 20
   pub line21 : notAscending ≡ 21
   pub line22 : withoutStatusResponse ≡ 22
+  pub line23 : isStatusEntry ≡ 23
 
 -- the errors of frames, with the column "Returned"
 pub record ErrorsTell : Type 0 where

@@ -33,7 +33,7 @@ pub const NOT_STATUS_RESPONSE: u8 = 10;
 // ID not registered.
 pub const NOT_REGISTERED: u8 = 11;
 
-// Fewer free places than batch entries.
+// Fewer free places than batch entries, of those that are booked (02, CR 2).
 pub const BOOK_FULL: u8 = 12;
 
 // ID to register, or of a new head, not 1 to 239.
@@ -65,3 +65,6 @@ pub const NOT_ASCENDING: u8 = 21;
 
 // 2, which is StatusResponse, not among them.
 pub const WITHOUT_STATUS_RESPONSE: u8 = 22;
+
+// Raised entry with bit 15 set: a status entry (02, CR 2).
+pub const IS_STATUS_ENTRY: u8 = 23;

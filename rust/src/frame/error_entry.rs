@@ -8,7 +8,8 @@ use crate::Error;
 /// The type of an entry (EPSG DS 301, Table 96).
 #[derive(Debug, Clone, Copy, PartialEq, Eq, Hash)]
 pub struct EntryType {
-    /// A status entry shows what is wrong now; any other is an entry of the history.
+    /// A status entry shows what is wrong now; any other is an entry of the history. A head of ours
+    /// raises the other sort alone, and the box books no status entry.
     pub is_status_entry: bool,
     /// Whether the entry goes to the emergency queue too.
     pub send_to_queue: bool,

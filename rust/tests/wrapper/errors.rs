@@ -258,6 +258,7 @@ fn numbers_and_texts() {
         Error::NotATable,
         Error::NotAscending,
         Error::WithoutStatusResponse,
+        Error::StatusEntry,
     ];
     let mut texts = Vec::new();
     for (error, number) in all.into_iter().zip(1..) {
@@ -268,5 +269,5 @@ fn numbers_and_texts() {
         assert!(!texts.contains(&text), "{text}");
         texts.push(text);
     }
-    assert_eq!(texts.len(), 22);
+    assert_eq!(texts.len(), 23);
 }

@@ -1,18 +1,20 @@
 //! Records of the journal, and the order of their tests: 1, then 19. How much of a journal is
 //! whole: 17, then 18.
-use crate::entry;
+use crate::{entry, status_entry};
 use powerlink::*;
 
 #[test]
 fn a_record_is_the_id_and_the_entry() {
-    let mut target = [0xEE; 23];
-    let entry = entry(0x0A01);
-    assert_eq!(journal::record(NodeId(239), &entry, &mut target), Ok(21));
-    let mut octets = [0; 20];
-    entry.serialize(&mut octets).unwrap();
-    assert_eq!(target[0], 239);
-    assert_eq!(target[1..21], octets);
-    assert_eq!(target[21..], [0xEE; 2]);
+    // A status entry too: a journal tells what it is given.
+    for entry in [entry(0x0A01), status_entry(0x0A01)] {
+        let mut target = [0xEE; 23];
+        assert_eq!(journal::record(NodeId(239), &entry, &mut target), Ok(21));
+        let mut octets = [0; 20];
+        entry.serialize(&mut octets).unwrap();
+        assert_eq!(target[0], 239);
+        assert_eq!(target[1..21], octets);
+        assert_eq!(target[21..], [0xEE; 2]);
+    }
 }
 
 #[test]

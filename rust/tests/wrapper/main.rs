@@ -11,6 +11,7 @@ mod journals;
 mod services;
 mod states;
 mod status;
+mod status_entries;
 
 use powerlink::*;
 
@@ -21,7 +22,7 @@ pub const DS301: &Services = &Services::DS301;
 pub fn entry(error_code: u16) -> ErrorEntry {
     ErrorEntry {
         entry_type: EntryType {
-            is_status_entry: error_code % 2 == 1,
+            is_status_entry: false,
             send_to_queue: error_code % 3 == 1,
             mode: ErrorEntryMode::ErrorActive,
             profile: error_code % 0x1000,
@@ -33,6 +34,13 @@ pub fn entry(error_code: u16) -> ErrorEntry {
         },
         additional_information: 0x1817_1615_1413_1211,
     }
+}
+
+/// The status entry that differs from it in bit 15 alone: no head raises it, and no box books it.
+pub fn status_entry(error_code: u16) -> ErrorEntry {
+    let mut entry = entry(error_code);
+    entry.entry_type.is_status_entry = true;
+    entry
 }
 
 /// What node `id` answers with, beside its entries.

@@ -1,5 +1,5 @@
 //! StatusResponses, written and read back.
-use crate::{answer, entry, framed, DS301};
+use crate::{answer, entry, framed, status_entry, DS301};
 use powerlink::*;
 
 fn fields() -> StatusFields {
@@ -73,7 +73,8 @@ fn octets_of_the_error_field() {
 #[test]
 fn written_and_read_back() {
     for n in [0, 1, 2, 4, 5, 70] {
-        let entries: Vec<ErrorEntry> = (0..n).map(entry).collect();
+        let either = |code| [entry(code), status_entry(code)][code as usize % 2];
+        let entries: Vec<ErrorEntry> = (0..n).map(either).collect();
         let len = 34 + 20 * n as usize;
         let mut target = vec![0xEE; len + 3];
         assert_eq!(fields().serialize(&entries, &mut target), Ok(len));

@@ -6,6 +6,7 @@ use crate::ours::{self, Boxed};
 use crate::random::{Random, status};
 use crate::theirs;
 use powerlink_rs::PowerlinkError;
+use powerlink_rs::frame::error::ErrorEntry;
 use powerlink_rs::frame::{PowerlinkFrame, StatusResponsePayload, deserialize_frame};
 
 #[derive(Default)]
@@ -14,6 +15,7 @@ pub struct Counts {
     refused: u64,
     lost: u64,
     boxed: [u64; 3],
+    left_out: u64,
 }
 
 impl Counts {
@@ -24,16 +26,23 @@ impl Counts {
             self.equal, self.refused, self.lost
         );
         println!(
-            "a fresh box, as the Rust's reader of the untrimmed payload: {refused} refused, {known} known, {booked} booked"
+            "a fresh box, as the Rust's reader of the untrimmed payload: {refused} refused, {known} known, {booked} booked, {} of \
+             them without status entries that the Rust reads",
+            self.left_out
         );
     }
 
     pub fn missing(&self) -> bool {
-        self.equal == 0 || self.refused == 0 || self.lost == 0 || self.boxed.contains(&0)
+        self.equal == 0 || self.refused == 0 || self.lost == 0 || self.boxed.contains(&0) || self.left_out == 0
     }
 }
 
 type Read = Result<StatusResponsePayload, PowerlinkError>;
+
+/// The entries that the box books: those with bit 15 clear (02, CR 2).
+fn bookable(s: &StatusResponsePayload) -> impl Iterator<Item = &ErrorEntry> {
+    s.error_entries.iter().filter(|entry| !entry.entry_type.is_status_entry)
+}
 
 /// What the box has to make of a payload.
 fn expected(read: &Read) -> Result<Boxed, String> {
@@ -43,8 +52,8 @@ fn expected(read: &Read) -> Result<Boxed, String> {
             Boxed::Refused(number, octet.unwrap_or(0))
         }
         Ok(s) if !s.en_flag => Boxed::Known,
-        Ok(s) if s.error_entries.len() > 64 => Boxed::Refused(12, 0),
-        Ok(s) => Boxed::Booked(s.error_entries.iter().map(theirs::entry_values).collect()),
+        Ok(s) if bookable(s).count() > 64 => Boxed::Refused(12, 0),
+        Ok(s) => Boxed::Booked(bookable(s).map(theirs::entry_values).collect()),
     })
 }
 
@@ -87,6 +96,9 @@ pub fn check(run: &mut Run, case: &mut Case, state: &mut Case, id: u8) -> Result
     let boxed = ours::boxed(id, f);
     if boxed != expected(&whole)? {
         return Err(format!("the box makes {boxed:?} of it, the Rust {whole:?}"));
+    }
+    if let (Boxed::Booked(entries), Ok(s)) = (&boxed, &whole) {
+        run.chain.left_out += u64::from(entries.len() < s.error_entries.len());
     }
     run.chain.boxed[match boxed {
         Boxed::Refused(..) => 0,

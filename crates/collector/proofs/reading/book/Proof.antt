@@ -1,16 +1,14 @@
 -- `book` meets its contract.
 -- Assumes nothing.
 use Prim.Native.Nat.{ℕ}
-use mathlib.Core.Path.{_≡_, refl, sym, ap, _∙_}
-use mathlib.Core.Bool.{Bool, Bool·beq}
+use mathlib.Core.Path.{refl, sym, ap, _∙_}
+use mathlib.Core.Bool.{Bool·beq}
 use mathlib.Core.List.{List}
-use mathlib.Core.Logic.{⊎-elim}
 use native.Mathlib.Omega.{arith}
 use borrow.Author.Needs.{needs}
-use Rattle.types.specs.Codes.{pick}
 use Rattle.error_entry.specs.declared.ErrorEntry.{ErrorEntry}
-use Rattle.status_response.specs.Steps.{statusEntries}
 use Rattle.collector.specs.Layout.{eaBytes, bookedBytes}
+use Rattle.collector.specs.Rules.{bookedEntries}
 use Rattle.collector.proofs.AnswerLaws.{book-known, book-full, book-room}
 use Rattle.collector.proofs.reading.book.Statement.{statement}
 use Rattle.collector.proofs.reading.book.Tie as tie
@@ -19,7 +17,7 @@ returns : tie.Need-returns
 returns c =
     let b = c .before in
     let a = b .before .before .before .args in
-    record { answer = book-known (a .state .now) (a .k) (a .en) (statusEntries (a .payload .now)) (ap (Bool·beq (a .en)) (sym (b .ea .ensures)) ∙ c .if1 .taken); bytes = refl }
+    record { answer = book-known (a .state .now) (a .k) (a .en) (bookedEntries (a .payload .now)) (ap (Bool·beq (a .en)) (sym (b .ea .ensures)) ∙ c .if1 .taken); bytes = refl }
 
 returns-2 : tie.Need-returns-2
 returns-2 c =
@@ -29,7 +27,7 @@ returns-2 c =
     let b = d .before in
     let a = b .before .before .before .args in
     record {
-      answer = book-full (a .state .now) (a .k) (a .en) (statusEntries (a .payload .now)) (ap (Bool·beq (a .en)) (sym (b .ea .ensures)) ∙ d .if1 .left)
+      answer = book-full (a .state .now) (a .k) (a .en) (bookedEntries (a .payload .now)) (ap (Bool·beq (a .en)) (sym (b .ea .ensures)) ∙ d .if1 .left)
           (omega (arith, n .count .ensures .0, m .count-entries .ensures));
       bytes = refl;
     }
@@ -44,7 +42,7 @@ returns-3 c =
     let b = d .before in
     let a = b .before .before .before .args in
     let s : List ℕ = a .state .now in
-    let es : List ErrorEntry = statusEntries (a .payload .now) in
+    let es : List ErrorEntry = bookedEntries (a .payload .now) in
     record {
       answer = book-room s (a .k) (a .en) es (ap (Bool·beq (a .en)) (sym (b .ea .ensures)) ∙ d .if1 .left)
           (omega (arith, n .count .ensures .0, m .count-entries .ensures));

@@ -2,7 +2,6 @@
 -- Assumes nothing.
 use Prim.Native.Nat.{_-_, _≤_}
 use native.Mathlib.Omega.{arith}
-use borrow.Author.Needs.{needs}
 use Rattle.demo.proofs.table.causes.Statement.{statement}
 use Rattle.demo.proofs.table.causes.Tie as tie
 
@@ -19,9 +18,6 @@ causes-spec =
     Inv-loop
     μ-loop
     (λ c. omega arith)
-    (λ c. omega arith)
-    (λ c. search needs)
-    (λ c κs. tt)
     (λ c κs. tt)
     (λ c κs. tt)
     (λ c κs. tt)

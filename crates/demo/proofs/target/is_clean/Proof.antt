@@ -10,7 +10,7 @@ abbrev Inv-loop : tie.InvT-loop
 Inv-loop n space i₀ i = Unit {0}
 
 abbrev μ-loop : tie.MeasureT-loop
-μ-loop n space i₀ i = 192 - i
+μ-loop n space i₀ i = 240 - i
 
 pub is-clean-spec : {M : Type 1} → statement M
 is-clean-spec =

@@ -33,6 +33,14 @@ returns-4 c =
     let f = m .before .before in
     raises-told _ _ _ _ _ _ _ _ (sym (f .from-u8 .ensures .answer) ∙ m .mode .given .1) (g .entry-given .ensures) (z .raise .ensures) (rw (c .enum-told4 .given .1))
 
+returns-5 : tie.Need-returns-5
+returns-5 c =
+    let z = c .before .before in
+    let g = z .before .before in
+    let m = g .before .before in
+    let f = m .before .before in
+    raises-told _ _ _ _ _ _ _ _ (sym (f .from-u8 .ensures .answer) ∙ m .mode .given .1) (g .entry-given .ensures) (z .raise .ensures) (rw (c .enum-told5 .given .1))
+
 pub powerlink-reporter-raise-spec : {M : Type 1} → statement M
 powerlink-reporter-raise-spec =
     tie.close
@@ -45,7 +53,9 @@ powerlink-reporter-raise-spec =
     (search needs)
     (search needs)
     (search needs)
+    (search needs)
     returns
     returns-2
     returns-3
-    returns-4)
+    returns-4
+    returns-5)

@@ -33,13 +33,13 @@ returns-3 c =
 
 returns-4 : tie.Need-returns-4
 returns-4 c =
-    let t = c .before in
-    let e = t .before .before .before in
+    let u = c .before in
+    let e = u .before .before .before in
     let d = e .before .before in
     let a = d .before .before .before .before .args in
     let entry = e .entry .given .0 .0 in
     step-read (a .payload .now) (a .offset) _ (rest-is (a .payload .now) (a .offset)) _ _ _ (sym (d .deserialize .ensures .answer) ∙ e .entry .given .1) refl
-    (is-entry (Entry entry (a .offset + entryLength)) End (entry .«entry_type» .mode) (sym (c .if2 .left) ∙ t .is-terminator .ensures))
+    (is-entry (Entry entry (a .offset + entryLength)) End (entry .«entry_type» .mode) (sym (c .if2 .left) ∙ u .is-terminator .ensures))
 
 pub entry-step-spec : {M : Type 1} → statement M
 entry-step-spec =
