@@ -27,7 +27,7 @@ use Rattle.signaling.specs.Calls.{sent, foreign, Event, raised, answered
 use Rattle.signaling.specs.Example.{entry, shown, five, house, LossAndRepeat, Onward, here, further}
 use Rattle.signaling.proofs.Callable.{freshes}
 use Rattle.signaling.proofs.Draining.{draining}
-use Rattle.signaling.proofs.ExampleFrames.{numbers, shown-numbers, withTwo, withOther, two-arrive, other-arrives, two-octets, fields, sizes, asked, fifth, first, second, answer-octets, first-says, second-says, hears-ea, presFrame, pres-far, pres-other, pres-ignored, houseFrame, house-far, house-other, house-refused, preqFrame, hears-host, hears-not, first-length, second-length, request-length}
+use Rattle.signaling.proofs.ExampleFrames.{numbers, withTwo, withOther, two-arrive, other-arrives, two-octets, fields, sizes, asked, fifth, first, second, answer-octets, first-says, second-says, hears-ea, presFrame, pres-far, pres-other, pres-ignored, houseFrame, house-far, house-other, house-refused, preqFrame, hears-host, hears-not, first-length, second-length, request-length}
 use Rattle.signaling.proofs.Frames.{says-arrived}
 use Rattle.signaling.proofs.Making.{world, Knows, Next, Started, held, sent-whole, starting, raising, answering, hearing, as-it-is, knowing, booking, passing, registering, asking, handing, hosting}
 
@@ -135,7 +135,7 @@ module _ {v : World} where
       (adding ErrorCleared 0x8162 Raised (omega arith) refl
       (adding ErrorActive 0x8161 Raised (omega arith) refl
       (next (adding Terminator 0x8160 EntryInvalid (omega arith) refl r)
-      (λ s b k. raising k (shown ErrorActive 0x8170) StatusEntry (shown-numbers ErrorActive 0x8170 (omega arith)) refl))))))
+      (λ s b k. raising k (shown ErrorActive 0x8170) StatusEntry (numbers ErrorActive 0x8170 (omega arith)) refl))))))
 
   answer-twice : Reached v all-raised (waits five) freshAccount → Reached v answered-twice first freshAccount
   unfolding opened

@@ -56,14 +56,14 @@ use Rattle.collector.proofs.Meaning.{request-size}
 use Rattle.signaling.specs.Arrival.{IsStatusEntry, Arrives, putIn}
 use Rattle.signaling.specs.Calls.{NotFrom, node}
 use Rattle.signaling.proofs.Arriving.{said-same, arrives-self, arrives-put}
-use Rattle.signaling.specs.Example.{entry, shown, twoPutIn, five, house, madeStatus}
+use Rattle.signaling.specs.Example.{exampleEntry, entry, shown, twoPutIn, five, house, madeStatus}
 use Rattle.signaling.proofs.Calls.{request-here, request-else}
 use Rattle.signaling.proofs.Facts.{clash, either, both}
 use Rattle.signaling.proofs.Frames.{Says, is-status, answer-reads, answer-long, says-arrived}
 
 -- ---- the entries, and what the calls are given
 
-pub numbers : (m : ErrorEntryMode) (c : ℕ) → c < 2 ^ 16 → Numbers (entry m c)
+pub numbers : {status : Bool} (m : ErrorEntryMode) (c : ℕ) → c < 2 ^ 16 → Numbers (exampleEntry status m c)
 numbers m c h = record { code = h; seconds = omega arith; nanoseconds = omega arith; information = omega arith }
 
 unfoldable pub fields : AnswerFields
@@ -124,9 +124,6 @@ unfolding isRaisable
 second-says = answer-reads fields second sizes ((refl, refl, numbers _ _ (omega arith)), tt)
 
 -- ---- answer 1 with a status entry put in, and its repeat with another
-
-pub shown-numbers : (m : ErrorEntryMode) (c : ℕ) → c < 2 ^ 16 → Numbers (shown m c)
-shown-numbers m c h = record { code = h; seconds = omega arith; nanoseconds = omega arith; information = omega arith }
 
 shown-status : (m : ErrorEntryMode) (c : ℕ) → c < 2 ^ 16 → (m ≡ Terminator → ⊥) → IsStatusEntry (entryBytes (shown m c))
 shown-status m c h ne =

@@ -3,7 +3,7 @@
 -- that was built before a newer request, and of a StatusResponse under the head's ID that the head did not send.
 -- Assumes nothing.
 use Prim.Native.Nat.{ℕ}
-use mathlib.Core.Bool.{true, false}
+use mathlib.Core.Bool.{Bool, true, false}
 use mathlib.Core.Path.{_≡_}
 use mathlib.Core.List.{List, [], _∷_, _++_}
 use mathlib.Core.Option.{some}
@@ -43,24 +43,21 @@ use Rattle.signaling.specs.Arrival.{putIn}
 use Rattle.signaling.specs.Calls.{Origin, sent, foreign, Event, raised, answered, headRead, registered, boxRead, requested, taken, hosted, Log, tally, accepted, handedOut, answersSent, isBooked, ruled, World, Reaches, Tells, Step, Run, Drained}
 use Rattle.signaling.specs.Exchanges.{pending, Exchanges, done, more, Room}
 
-abbrev pub entry : ErrorEntryMode → ℕ → ErrorEntry
-entry mode code =
+abbrev pub exampleEntry : Bool → ErrorEntryMode → ℕ → ErrorEntry
+exampleEntry status mode code =
     record {
-      «entry_type» = record { «is_status_entry» = false; «send_to_queue» = true; mode = mode; profile = 2 };
+      «entry_type» = record { «is_status_entry» = status; «send_to_queue» = true; mode = mode; profile = 2 };
       «error_code» = code;
       timestamp = record { seconds = 1; nanoseconds = 500 };
       «additional_information» = 0;
     }
 
--- an entry with bit 15 set, of a code
+abbrev pub entry : ErrorEntryMode → ℕ → ErrorEntry
+entry mode code = exampleEntry false mode code
+
+-- a status entry: but for bit 15 as any other
 abbrev pub shown : ErrorEntryMode → ℕ → ErrorEntry
-shown mode code =
-    record {
-      «entry_type» = record { «is_status_entry» = true; «send_to_queue» = false; mode = mode; profile = 3 };
-      «error_code» = code;
-      timestamp = record { seconds = 2; nanoseconds = 0 };
-      «additional_information» = 9;
-    }
+shown mode code = exampleEntry true mode code
 
 -- a frame with one before its first entry, and one behind its second
 abbrev pub twoPutIn : List ℕ → List ℕ
