@@ -1,5 +1,7 @@
 // Reading any frame (powerlink-rs: frame/codec.rs): the tests are
 // `kind_of` and then the `judge` of the kind, and `read_frame` and any other reading go by their verdicts.
+#![tactic(auto)]
+
 ghost use Rattle.std.specs.Prelude.{◌≡◌};
 ghost use Rattle.octets.specs.Part.{Part};
 ghost use Rattle.codec.specs.Frame.{kind_in, kind_of, by_kind, place_in_frame, place_of, payload_of, Reads, ReadsFrame};

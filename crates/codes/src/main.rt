@@ -1,5 +1,7 @@
 // Lists the code tables, octet by octet, then the addresses and numbers that frames are made of; then what the functions give
 // that no C function offers. The expected output is written from 01.
+#![tactic(auto)]
+
 mod batch;
 mod frames;
 mod print;

@@ -3,6 +3,8 @@
 //
 // Its state is octets that the caller lends. What they mean is told in specs/Layout.antt; every pattern means something,
 // and all zeros mean a fresh state.
+#![tactic(auto)]
+
 ghost use Rattle.std.specs.Prelude.{◌≡◌};
 ghost use Rattle.collector.specs.Calls.{Fresh, Registers, Reads, Flags, Requests, Takes};
 ghost use Rattle.collector.specs.Layout.{account_of};

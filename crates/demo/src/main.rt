@@ -6,6 +6,8 @@
 // The managing node's host sends frames of its own between the box's requests. The run has no input and is the same each time,
 // so what it writes is compared with what is stored. With the name of a file, what the box hands out is written there as a
 // journal.
+#![tactic(auto)]
+
 mod account;
 mod calls;
 mod check;

@@ -1,4 +1,6 @@
 // An entry of the error list of a StatusResponse (powerlink-rs: frame/error/status_response.rs).
+#![tactic(auto)]
+
 ghost use Rattle.std.specs.Prelude.{◌≡◌, ◌+◌, ◌*◌, ◌≤◌, length};
 ghost use Rattle.std.proofs.lemmas.List.Edits.{sets};
 ghost use Rattle.octets.specs.Numbers.{le_at};

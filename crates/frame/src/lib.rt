@@ -1,4 +1,6 @@
 // The five kinds joined, and writing any of them (powerlink-rs: frame/mod.rs).
+#![tactic(auto)]
+
 ghost use Rattle.std.specs.Prelude.{◌≡◌, ◌++◌};
 ghost use Rattle.section.specs.Write.{Serializes};
 ghost use Rattle.frame.specs.Write.{frame_section, under_table};

@@ -1,6 +1,8 @@
 // Lists the journal that comes on standard input (01, "Journal"). What is listed, and when it is over, the calls of
 // `list_part` decide; here is carrying over what they leave. All reading and writing is in `streams`, so that nothing but the
 // listing is written on standard output.
+#![tactic(auto)]
+
 mod streams;
 
 ghost use Rattle.std.specs.Prelude.{◌-◌, ◌≤◌, ◌<◌, true, false, ◌≡◌, length, take, drop};

@@ -1,4 +1,6 @@
 // The journal that booked error entries are kept in (01, "Journal"): writing its records, and listing them as text.
+#![tactic(auto)]
+
 ghost use Rattle.std.specs.Prelude.{◌≡◌};
 ghost use Rattle.journal_records.specs.Record.{WritesRecord, valid_record};
 ghost use Rattle.journal_records.specs.Whole.{TellsWhole};

@@ -1,4 +1,6 @@
 // The frames of a cycle's isochronous part: PReq and PRes (powerlink-rs: frame/poll).
+#![tactic(auto)]
+
 pub mod preq;
 pub mod pres;
 

@@ -4,6 +4,8 @@
 //
 // A call answers with 01's number of the cause, or 0. A refusal leaves every buffer and out-parameter as it was, but for
 // `octet`, which receives the octet that 01's table returns with causes 4 to 7.
+#![tactic(auto)]
+
 pub mod collecting;
 mod frame_values;
 pub mod frames;

@@ -1,4 +1,6 @@
 // Error entries in lent octets, each at the front of a record: the store of both ends of the error exchange.
+#![tactic(auto)]
+
 ghost use Rattle.std.specs.Prelude.{◌≡◌, drop};
 ghost use Rattle.error_entry.specs.Entry.{ReadsEntry};
 ghost use Rattle.records.specs.Records.{PutsRecord};

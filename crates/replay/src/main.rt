@@ -2,6 +2,8 @@
 // tests/compare/calls/sample.rs lays them out. Each case's call is made, of the function that a caller in C calls, and all
 // that comes of it is compared. The last line says how many cases there are and how many differ, or where the file is
 // refused. That the records have the shape of their calls is looked at by tests/replay/run.sh.
+#![tactic(auto)]
+
 mod frames;
 mod judge;
 mod parts;

@@ -3,6 +3,8 @@
 // new, flips with each batch, and EA, exception acknowledge, comes back equal.
 //
 // Its state is octets that the caller lends. What they mean is told in specs/Layout.antt; every pattern means something.
+#![tactic(auto)]
+
 ghost use Rattle.std.specs.Prelude.{◌≡◌, length};
 ghost use Rattle.reporter.specs.Calls.{Makes, Raises, Answers, Reads};
 ghost use Rattle.reporter.specs.Layout.{head_of};

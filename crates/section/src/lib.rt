@@ -1,5 +1,7 @@
 // Writing a section, which is a frame without its Ethernet header: octets, a payload, and zeros up to the smallest size
 // that Ethernet carries.
+#![tactic(auto)]
+
 ghost use Rattle.std.specs.Prelude.{◌≡◌, ◌++◌, leb, ltb, length, replicate, ◌+◌, ◌-◌, ◌≤◌};
 ghost use Rattle.std.proofs.lemmas.List.Edits.{sets};
 ghost use Rattle.types.specs.Codes.{pick};

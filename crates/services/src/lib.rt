@@ -1,4 +1,6 @@
 // The services of ASnd frames, and the tables that say which of them are known (02, CR 1: 01's twelve are replaced by a loaded table).
+#![tactic(auto)]
+
 ghost use Rattle.std.specs.Prelude.{◌≡◌};
 ghost use Rattle.services.specs.Ids.{ds301_ids, is_listed};
 

@@ -1,4 +1,6 @@
 // The IDs, versions, times, constants, codes and errors that POWERLINK frames are made of (powerlink-rs: types.rs).
+#![tactic(auto)]
+
 ghost use Rattle.std.specs.Prelude.{◌≡◌};
 ghost use Rattle.types.specs.Nodes.{is_cn_node_id};
 
