@@ -6,7 +6,7 @@ use mathlib.Core.Bool.{Bool, true, false}
 use mathlib.Core.List.{List, [], ◌∷◌, ◌++◌}
 use native.Mathlib.Omega.{arith}
 use lib.ListN.{length, take, drop, length-append, length-take, take-append-drop}
-use lib.Seq.{take_length}
+use lib.Seq.{take-length}
 use Rattle.octets.proofs.Cases.{either}
 use Rattle.octets.proofs.NumberBack.{Octets}
 use Rattle.types.specs.Codes.{pick}
@@ -106,7 +106,7 @@ module _ {s : List ℕ} {at : ℕ} (f : Found s at) where
   unfolding booked_entries
   all_found e =
       let n = step_end s f.m f.within (ap (step_at s) (sym f.place) ∙ e) in
-      ap bookable (ap (λ (j : ℕ). take j (status_entries s)) n ∙ take_length (status_entries s))
+      ap bookable (ap (λ (j : ℕ). take j (status_entries s)) n ∙ take-length (status_entries s))
 
   module _ (e : ErrorEntry) (next : ℕ) (found : step_at s at ≡ Entry e next) where
     here : step_at s (14 + 20 * f.m) ≡ Entry e next

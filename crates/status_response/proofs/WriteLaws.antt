@@ -7,7 +7,7 @@ use mathlib.Core.List.{List, [], ◌∷◌, ◌++◌, append_assoc, append-nil}
 use native.Mathlib.Omega.{arith}
 use native.Mathlib.Nat.{le_of_lt}
 use lib.ListN.{length, take, drop, replicate, length-append, length-take, length-replicate}
-use lib.Seq.{sets, sets-eq, take-suc, take_length, length-take-le, drop_at}
+use lib.Seq.{sets, sets-eq, take-suc, take-length, length-take-le, drop_at}
 use Rattle.octets.proofs.Sets.{sets_append, sets_front}
 use Rattle.types.specs.Codes.{pick}
 use Rattle.types.specs.declared.hal.PowerlinkError.{PowerlinkError}
@@ -64,7 +64,7 @@ module _ (es : List ErrorEntry) (t : List ℕ) where
       let n : length (take 14 t) ≡ 14 = length-take-le 14 t (omega arith) in
       let a : length (take 14 t ++ bs) ≡ 14 + length bs = length-append (take 14 t) bs ∙ ap (λ (k : ℕ). k + length bs) n in
       ap (λ (s : List ℕ). sets s (14 + 20 * length es) (replicate 20 0))
-      (put_is (length es) (omega arith) ∙ ap (λ (s : List ErrorEntry). sets t 14 (entries_bytes s)) (take_length es))
+      (put_is (length es) (omega arith) ∙ ap (λ (s : List ErrorEntry). sets t 14 (entries_bytes s)) (take-length es))
       ∙ ap (λ (k : ℕ). sets (sets t 14 (entries_bytes es)) (14 + k) (replicate 20 0)) (sym (entries_length es))
       ∙ sym (sets_append t 14 (entries_bytes es) (replicate 20 0))
       ∙ sets-eq bs t 14 (omega arith)

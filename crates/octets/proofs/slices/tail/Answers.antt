@@ -6,39 +6,25 @@ use Prim.Native.Nat.{◌-◌}
 use lib.ListN.{length, drop, length-drop, drop_of_length-le}
 use lib.Seq.{take_all}
 use native.Mathlib.Omega.{arith}
-use Rattle.octets.proofs.slices.tail.Statement.{statement}
-use Rattle.octets.proofs.slices.tail.Tie as tie
+use Rattle.octets.proofs.slices.tail.Goals as goal
 
-returns : tie.Need-returns
-returns c =
-    let a = c.before.before.args in
+pub returns-then-at-s : goal.returns-then-at-s
+returns-then-at-s c =
+    let a = c.args in
     record {
       octets = take_all (length a.s.now - a.at) (drop a.at a.s.now) (simp length-drop (omega arith));
       block = refl;
-      offset = omega (arith, c.before.if1.true);
+      offset = omega (arith, c.if-at-s.true);
     }
 
-returns-2 : tie.Need-returns-2
-returns-2 c =
-    let a = c.before.before.args in
+pub returns-else-at-s : goal.returns-else-at-s
+returns-else-at-s c =
+    let a = c.args in
     record {
       octets =
           take_all (length a.s.now - length a.s.now) (drop (length a.s.now) a.s.now) (simp length-drop (omega arith))
           ∙ drop_of_length-le a.s.now {i = length a.s.now} (omega arith)
-          ∙ sym (drop_of_length-le a.s.now (le_of_lt c.before.if1.false));
+          ∙ sym (drop_of_length-le a.s.now (le_of_lt c.if-at-s.false));
       block = refl;
-      offset = omega (arith, c.before.if1.false);
+      offset = omega (arith, c.if-at-s.false);
     }
-
-pub tail-spec : {M : Type 1} → statement M
-tail-spec =
-    tie.close
-    (tie.spec
-    (λ c. search rules)
-    (λ c. search rules)
-    (λ c. search rules)
-    (λ c. search rules)
-    (λ c. search rules)
-    (λ c. search rules)
-    returns
-    returns-2)

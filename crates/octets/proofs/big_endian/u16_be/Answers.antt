@@ -1,0 +1,8 @@
+-- `big_endian::u16_be` meets its contract.
+-- Assumes nothing.
+use borrow.Author.Rules.{rules}
+use mathlib.Core.Path.{refl}
+use Rattle.octets.proofs.big_endian.u16_be.Goals as goal
+
+pub returns : goal.returns
+returns c = refl

@@ -1,0 +1,16 @@
+-- `slices::put_each` meets its contract. The loop's invariant: the first i bytes of `src` are stored. The measure is what is left of `src`.
+-- Assumes nothing.
+use Prim.Native.Nat.{◌-◌, ◌≤◌}
+use mathlib.Core.Path.{◌≡◌, refl, ap, ◌∙◌}
+use native.Mathlib.Omega.{arith}
+use lib.ListN.{length, take, length-set}
+use lib.Seq.{sets, take_all}
+use borrow.Author.Rules.{rules}
+use Rattle.octets.proofs.Sets.{sets_step}
+use Rattle.octets.proofs.slices.put_each.Given as goal
+
+abbrev pub invariant-loop-i : goal.invariant-loop-i
+invariant-loop-i l = (l.i ≤ length l.src) × ((l.dst ≡ sets l.initial.dst l.at (take l.i l.src)) × (length l.dst ≡ length l.initial.dst))
+
+abbrev pub decreases-loop-i : goal.decreases-loop-i
+decreases-loop-i l = length l.src - l.i
