@@ -1,0 +1,31 @@
+-- `MessageType::from_u8` meets its contract: each arm is a code of the table, and the default arm none.
+-- Assumes nothing.
+use Rattle.types.specs.Messages.{message_code, messages, message_of}
+use Rattle.types.specs.declared.message_type.MessageTypeAnswer.TheVariants.{Known}
+use Rattle.types.proofs.CodeCauses.{message_told}
+use Rattle.types.proofs.Codes.{unlisted}
+use Rattle.types.proofs.message_type.MessageType.from_u8.Goals as goal
+
+pub returns-in-1 : goal.returns-in-1
+unfolding message_of
+returns-in-1 c = message_told c.args.b _ (rw c.in-1.is)
+
+pub returns-in-3 : goal.returns-in-3
+unfolding message_of
+returns-in-3 c = message_told c.args.b _ (rw c.in-3.is)
+
+pub returns-in-4 : goal.returns-in-4
+unfolding message_of
+returns-in-4 c = message_told c.args.b _ (rw c.in-4.is)
+
+pub returns-in-5 : goal.returns-in-5
+unfolding message_of
+returns-in-5 c = message_told c.args.b _ (rw c.in-5.is)
+
+pub returns-in-6 : goal.returns-in-6
+unfolding message_of
+returns-in-6 c = message_told c.args.b _ (rw c.in-6.is)
+
+pub returns-in_default : goal.returns-in_default
+unfolding message_of
+returns-in_default c = message_told c.args.b _ (unlisted message_code Known _ _ Unit messages c.in_default.in_default-own.rest).1

@@ -1,0 +1,17 @@
+-- `poll_flags::poll_octet` meets its contract: both flags have three bits, so their octet holds them.
+-- Assumes nothing.
+use borrow.Author.Rules.{rules}
+use native.Mathlib.Omega.{arith}
+use Rattle.types.specs.PollFlags.{poll_octet}
+use Rattle.types.proofs.Priorities.{priority_small}
+use Rattle.types.proofs.poll_flags.poll_octet.Goals as goal
+
+pub returns : goal.returns
+unfolding poll_octet
+returns c = omega (arith, c.to_u8.ensures, c.get.ensures)
+
+pub overflow_mul-result : goal.overflow_mul-result
+overflow_mul-result c = record { fits = omega (arith, priority_small c.args.pr, c.to_u8.ensures) }
+
+pub overflow_add-result : goal.overflow_add-result
+overflow_add-result c = omega (arith, priority_small c.args.pr, c.to_u8.ensures, c.get.ensures)
