@@ -1,0 +1,14 @@
+-- `load::judge` meets its contract: each answer from the tests that lead to it.
+-- Assumes nothing.
+use borrow.Author.Rules.{rules}
+use Rattle.services.proofs.Loading.{answers}
+use Rattle.services.proofs.load.judge.Goals as goal
+
+pub returns-then-not-ascending : goal.returns-then-not-ascending
+returns-then-not-ascending c = search answers
+
+pub returns-then-not-has : goal.returns-then-not-has
+returns-then-not-has c = search answers
+
+pub returns : goal.returns
+returns c = search answers
