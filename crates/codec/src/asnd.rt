@@ -14,7 +14,7 @@ use types::NodeId;
 use types::hal::PowerlinkError;
 
 // What the tests of a section come to: it is read, or why it is refused.
-#[derive(Drop)]
+#[derive(Clone, Copy)]
 pub enum ASndVerdict {
     Read,
     TooShort,

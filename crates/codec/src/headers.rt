@@ -13,28 +13,28 @@ use types::message_type::{MessageType, MessageTypeAnswer};
 // The message type is the low seven bits of octet 0, which is the octet modulo this.
 pub(crate) const MESSAGE_TYPES: u8 = 0x80;
 
-#[derive(Drop)]
+#[derive(Clone, Copy)]
 pub enum EthHeaderAnswer {
     Read,
     Refused(PowerlinkError),
 }
 
 // The header stands beside the answer; where it is refused, octets past the end count as 0.
-#[derive(Drop)]
+#[derive(Clone, Copy)]
 pub struct DeserializedEthHeader {
     pub eth_header: EthernetHeader,
     pub answer: EthHeaderAnswer,
 }
 
 // The octets that every section begins with.
-#[derive(Drop)]
+#[derive(Clone, Copy)]
 pub struct PlHeader {
     pub message_type: MessageType,
     pub destination: NodeId,
     pub source: NodeId,
 }
 
-#[derive(Drop)]
+#[derive(Clone, Copy)]
 pub enum PlHeaderAnswer {
     Read(PlHeader),
     Refused(PowerlinkError),

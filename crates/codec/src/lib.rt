@@ -24,21 +24,21 @@ use types::hal::PowerlinkError;
 use types::message_type::MessageType;
 
 // The frame that was read, or why it is refused.
-#[derive(Drop)]
+#[derive(Clone, Copy)]
 pub enum FrameAnswer {
     Frame(PowerlinkFrame),
     Refused(PowerlinkError),
 }
 
 // The kind whose rules the section of a frame is read by, or why the frame is refused before.
-#[derive(Drop)]
+#[derive(Clone, Copy)]
 pub enum KindAnswer {
     Kind(MessageType),
     Refused(PowerlinkError),
 }
 
 // Where a payload lies in the bytes of its frame.
-#[derive(Drop)]
+#[derive(Clone, Copy)]
 pub struct PayloadPlace {
     pub start: usize,
     pub len: usize,
@@ -46,7 +46,7 @@ pub struct PayloadPlace {
 
 // What reading a frame gives. Arrays cannot stand in an answer, so the header stands beside it; where the frame is refused,
 // it is what the bytes give, those past the end counting as 0.
-#[derive(Drop)]
+#[derive(Clone, Copy)]
 pub struct DeserializedFrame {
     pub eth_header: EthernetHeader,
     pub answer: FrameAnswer,

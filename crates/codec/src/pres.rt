@@ -16,7 +16,7 @@ use types::states::{NmtState, NmtStateAnswer};
 use types::{C_ADR_BROADCAST_NODE_ID, NodeId};
 
 // What the tests of a section come to: the codes and the size that its fields are read with, or why it is refused.
-#[derive(Drop)]
+#[derive(Clone, Copy)]
 pub enum PResVerdict {
     Read(NmtState, u16),
     TooShort,

@@ -13,7 +13,7 @@ use types::states::{NmtState, NmtStateAnswer};
 use types::{EPLVersion, NodeId};
 
 // What the tests of a section come to: the codes and the size that its fields are read with, or why it is refused.
-#[derive(Drop)]
+#[derive(Clone, Copy)]
 pub enum SoAVerdict {
     Read(NmtState, RequestedServiceId),
     TooShort,

@@ -67,7 +67,7 @@ const PLACES: u8 = BOOK_LEN as u8;
 // What Take hands out goes into a journal whose length is saved with the state; after a restart the journal is cut to it.
 pub type Collector = [u8; COLLECTOR_LEN];
 
-#[derive(Drop)]
+#[derive(Clone, Copy)]
 pub enum RegisterAnswer {
     Registered,
     IdOutOfRange,
@@ -77,7 +77,7 @@ pub enum RegisterAnswer {
 }
 
 // What reading a frame comes to: its batch is booked; EN equals EA, so its batch is known; or why nothing is booked.
-#[derive(Drop)]
+#[derive(Clone, Copy)]
 pub enum ReadAnswer {
     Booked,
     Known,
@@ -89,27 +89,27 @@ pub enum ReadAnswer {
 }
 
 // What a request holds beside the node and EA.
-#[derive(Drop)]
+#[derive(Clone, Copy)]
 pub struct RequestFields {
     pub source_mac: MacAddress,
     pub nmt_state: NmtState,
     pub epl_version: EPLVersion,
 }
 
-#[derive(Drop)]
+#[derive(Clone, Copy)]
 pub enum RequestAnswer {
     Written(usize),
     NotRegistered,
     Refused(PowerlinkError),
 }
 
-#[derive(Drop)]
+#[derive(Clone, Copy)]
 pub enum FlagsAnswer {
     Flags(SoAFlags),
     NotRegistered,
 }
 
-#[derive(Drop)]
+#[derive(Clone, Copy)]
 pub enum TakeAnswer {
     Taken(ErrorEntry),
     NotRegistered,

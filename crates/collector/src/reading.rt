@@ -16,7 +16,7 @@ use types::NodeId;
 use types::hal::PowerlinkError;
 
 // What a frame is to the managing node.
-#[derive(Drop)]
+#[derive(Clone, Copy)]
 pub enum Heard {
     Status(NodeId),
     Other,

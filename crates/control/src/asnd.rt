@@ -21,7 +21,7 @@ pub const PAYLOAD_AT: usize = ETH_LEN + FIELDS_LEN;
 pub const SERVICE_AT: usize = 3;
 
 // The fields in front of the payload, which stands beside them.
-#[derive(Drop)]
+#[derive(Clone, Copy)]
 pub struct ASndFrame {
     pub destination: NodeId,
     pub source: NodeId,
@@ -29,7 +29,7 @@ pub struct ASndFrame {
 }
 
 // A frame with the header that goes in front of it.
-#[derive(Drop)]
+#[derive(Clone, Copy)]
 pub struct NewASndFrame {
     pub eth_header: EthernetHeader,
     pub frame: ASndFrame,

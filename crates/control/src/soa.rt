@@ -22,7 +22,7 @@ pub const STATE_AT: usize = 3;
 pub const SERVICE_AT: usize = 6;
 
 // The flags (EPSG DS 301, Table 22).
-#[derive(Drop)]
+#[derive(Clone, Copy)]
 pub struct SoAFlags {
     // Exception acknowledge.
     pub ea: bool,
@@ -35,7 +35,7 @@ pub const EA: u8 = 4;
 
 pub const ER: u8 = 2;
 
-#[derive(Drop)]
+#[derive(Clone, Copy)]
 pub struct SoAFrame {
     pub destination: NodeId,
     pub source: NodeId,
@@ -47,7 +47,7 @@ pub struct SoAFrame {
 }
 
 // A frame with the header that goes in front of it.
-#[derive(Drop)]
+#[derive(Clone, Copy)]
 pub struct NewSoAFrame {
     pub eth_header: EthernetHeader,
     pub frame: SoAFrame,

@@ -16,7 +16,7 @@ use types::{C_ADR_BROADCAST_NODE_ID, C_ADR_MN_DEF_NODE_ID, C_DLL_MULTICAST_SOC, 
 pub const FIELDS_LEN: usize = 22;
 
 // The flags (EPSG DS 301, Table 16).
-#[derive(Drop)]
+#[derive(Clone, Copy)]
 pub struct SocFlags {
     // Multiplexed cycle completed.
     pub mc: bool,
@@ -29,7 +29,7 @@ pub const MC: u8 = 0x80;
 
 pub const PS: u8 = 0x40;
 
-#[derive(Drop)]
+#[derive(Clone, Copy)]
 pub struct SocFrame {
     pub destination: NodeId,
     pub source: NodeId,
@@ -39,7 +39,7 @@ pub struct SocFrame {
 }
 
 // A frame with the header that goes in front of it.
-#[derive(Drop)]
+#[derive(Clone, Copy)]
 pub struct NewSocFrame {
     pub eth_header: EthernetHeader,
     pub frame: SocFrame,

@@ -24,7 +24,7 @@ const STATUS_ENTRY: u16 = 0x8000;
 const SEND_TO_QUEUE: u16 = 0x4000;
 
 // The type of an entry (EPSG DS 301, Table 96).
-#[derive(Drop)]
+#[derive(Clone, Copy)]
 pub struct EntryType {
     // A status entry shows what is wrong now; any other is an entry of the history.
     pub is_status_entry: bool,
@@ -35,7 +35,7 @@ pub struct EntryType {
 }
 
 // An entry (EPSG DS 301, Table 94).
-#[derive(Drop)]
+#[derive(Clone, Copy)]
 pub struct ErrorEntry {
     pub entry_type: EntryType,
     pub error_code: u16,
@@ -43,7 +43,7 @@ pub struct ErrorEntry {
     pub additional_information: u64,
 }
 
-#[derive(Drop)]
+#[derive(Clone, Copy)]
 pub enum ErrorEntryAnswer {
     Entry(ErrorEntry),
     Refused(PowerlinkError),

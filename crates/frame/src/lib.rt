@@ -16,7 +16,7 @@ use poll::pres::PResFrame;
 use section::{WriteAnswer, write_behind};
 use services::table::Services;
 
-#[derive(Drop)]
+#[derive(Clone, Copy)]
 pub enum PowerlinkFrame {
     Soc(SocFrame),
     PReq(PReqFrame),
@@ -26,31 +26,31 @@ pub enum PowerlinkFrame {
 }
 
 // A frame asked for as one kind: that kind, or the frame as it was.
-#[derive(Drop)]
+#[derive(Clone, Copy)]
 pub enum IntoSoc {
     Soc(SocFrame),
     Other(PowerlinkFrame),
 }
 
-#[derive(Drop)]
+#[derive(Clone, Copy)]
 pub enum IntoPReq {
     PReq(PReqFrame),
     Other(PowerlinkFrame),
 }
 
-#[derive(Drop)]
+#[derive(Clone, Copy)]
 pub enum IntoPRes {
     PRes(PResFrame),
     Other(PowerlinkFrame),
 }
 
-#[derive(Drop)]
+#[derive(Clone, Copy)]
 pub enum IntoSoA {
     SoA(SoAFrame),
     Other(PowerlinkFrame),
 }
 
-#[derive(Drop)]
+#[derive(Clone, Copy)]
 pub enum IntoASnd {
     ASnd(ASndFrame),
     Other(PowerlinkFrame),

@@ -20,7 +20,7 @@ pub const JOURNAL_START_LEN: usize = 5;
 // The octets of a record: the node ID, and the entry's 20.
 pub const JOURNAL_RECORD_LEN: usize = 1 + ENTRY_LEN;
 
-#[derive(Drop)]
+#[derive(Clone, Copy)]
 pub enum JournalAnswer {
     Written(usize),
     BufferTooShort,
@@ -28,7 +28,7 @@ pub enum JournalAnswer {
     RecordInvalid,
 }
 
-#[derive(Drop)]
+#[derive(Clone, Copy)]
 pub enum WholeLenAnswer {
     Whole(usize),
     // Mark and version are not there.

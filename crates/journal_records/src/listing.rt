@@ -22,14 +22,14 @@ pub const LINE_MAX: usize = 55;
 const NOT_REFUSED: u8 = 0;
 
 // What the octets to come are.
-#[derive(Drop)]
+#[derive(Clone, Copy)]
 pub enum Phase {
     Header,
     Records,
 }
 
 // Why a call listed no further.
-#[derive(Drop)]
+#[derive(Clone, Copy)]
 pub enum ListAnswer {
     // Octets have to come. The next call gets those that are not consumed, with more behind them.
     More,
@@ -49,7 +49,7 @@ pub enum ListAnswer {
 
 // What was done with a part: how many of its octets are dealt with, how many of text were written, why it was no more,
 // and what is to come if calls go on.
-#[derive(Drop)]
+#[derive(Clone, Copy)]
 pub struct Part {
     pub answer: ListAnswer,
     pub phase: Phase,

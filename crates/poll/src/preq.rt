@@ -13,7 +13,7 @@ use types::message_type::MessageType;
 use types::{C_ADR_MN_DEF_NODE_ID, NodeId};
 
 // The flags (EPSG DS 301, Table 18).
-#[derive(Drop)]
+#[derive(Clone, Copy)]
 pub struct PReqFlags {
     // Multiplexed slot.
     pub ms: bool,
@@ -28,7 +28,7 @@ pub struct PReqFlags {
 pub const EA: u8 = 4;
 
 // The fields in front of the payload, which stands beside them.
-#[derive(Drop)]
+#[derive(Clone, Copy)]
 pub struct PReqFrame {
     pub destination: NodeId,
     pub source: NodeId,
@@ -38,7 +38,7 @@ pub struct PReqFrame {
 }
 
 // A frame with the header that goes in front of it.
-#[derive(Drop)]
+#[derive(Clone, Copy)]
 pub struct NewPReqFrame {
     pub eth_header: EthernetHeader,
     pub frame: PReqFrame,

@@ -15,7 +15,7 @@ use types::states::NmtState;
 use types::{C_ADR_BROADCAST_NODE_ID, C_DLL_MULTICAST_PRES, NodeId};
 
 // The flags (EPSG DS 301, Table 20).
-#[derive(Drop)]
+#[derive(Clone, Copy)]
 pub struct PResFlags {
     // Multiplexed slot.
     pub ms: bool,
@@ -34,7 +34,7 @@ pub const STATE_AT: usize = 3;
 pub const EN: u8 = 0x10;
 
 // The fields in front of the payload, which stands beside them.
-#[derive(Drop)]
+#[derive(Clone, Copy)]
 pub struct PResFrame {
     pub destination: NodeId,
     pub source: NodeId,
@@ -45,7 +45,7 @@ pub struct PResFrame {
 }
 
 // A frame with the header that goes in front of it.
-#[derive(Drop)]
+#[derive(Clone, Copy)]
 pub struct NewPResFrame {
     pub eth_header: EthernetHeader,
     pub frame: PResFrame,

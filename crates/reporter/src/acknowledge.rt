@@ -12,7 +12,7 @@ use types::C_ADR_MN_DEF_NODE_ID;
 use types::hal::PowerlinkError;
 
 // What a frame tells a node.
-#[derive(Drop)]
+#[derive(Clone, Copy)]
 pub enum Heard {
     Ea(bool),
     Nothing,

@@ -70,13 +70,13 @@ const BARE_ANSWER_LEN: usize = PAYLOAD_AT + FRONT_LEN + ENTRY_LEN;
 // No other StatusResponse goes out under its ID, since each tells the box EN.
 pub type Reporter = [u8; REPORTER_LEN];
 
-#[derive(Drop)]
+#[derive(Clone, Copy)]
 pub enum NewAnswer {
     Made,
     IdOutOfRange,
 }
 
-#[derive(Drop)]
+#[derive(Clone, Copy)]
 pub enum RaiseAnswer {
     Raised,
     // The mode is the terminator's, or the profile has more than 12 bits.
@@ -88,7 +88,7 @@ pub enum RaiseAnswer {
 }
 
 // What an answer holds beside the entries and EN.
-#[derive(Drop)]
+#[derive(Clone, Copy)]
 pub struct AnswerFields {
     pub source_mac: MacAddress,
     pub dest_mac: MacAddress,
@@ -101,7 +101,7 @@ pub struct AnswerFields {
 
 // What reading a frame comes to: the open batch is acknowledged and closed; EA was read and closes nothing; the frame
 // holds no EA for this node; or it cannot be read.
-#[derive(Drop)]
+#[derive(Clone, Copy)]
 pub enum ReadAnswer {
     Closed,
     Kept,

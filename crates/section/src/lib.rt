@@ -17,7 +17,7 @@ pub const MIN_SECTION: usize = 46;
 pub const MIN_FRAME: usize = ETH_LEN + MIN_SECTION;
 
 // What writing gives: how many octets were written, or why none was.
-#[derive(Drop)]
+#[derive(Clone, Copy)]
 pub enum WriteAnswer {
     Written(usize),
     Refused(PowerlinkError),

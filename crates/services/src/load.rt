@@ -20,7 +20,7 @@ const VERSION_AT: usize = 3;
 // The octets of mark and version.
 const START_LEN: usize = 5;
 
-#[derive(Drop)]
+#[derive(Clone, Copy)]
 pub enum LoadAnswer {
     Loaded,
     // Under 5 octets, or the mark or the version is another.

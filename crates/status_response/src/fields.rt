@@ -21,7 +21,7 @@ pub const EN: u8 = 0x20;
 pub const EC: u8 = 0x10;
 
 // What stands in front of the entries, but for the error field, which stands beside it.
-#[derive(Drop)]
+#[derive(Clone, Copy)]
 pub struct StatusFields {
     // Exception new.
     pub en_flag: bool,
@@ -32,14 +32,14 @@ pub struct StatusFields {
     pub nmt_state: NmtState,
 }
 
-#[derive(Drop)]
+#[derive(Clone, Copy)]
 pub enum StatusAnswer {
     Status(StatusFields),
     Refused(PowerlinkError),
 }
 
 // The error field stands beside the answer; where the payload is refused, octets past the end count as 0.
-#[derive(Drop)]
+#[derive(Clone, Copy)]
 pub struct DeserializedStatus {
     pub static_error_bit_field: StaticErrorBitField,
     pub answer: StatusAnswer,

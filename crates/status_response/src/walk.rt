@@ -7,13 +7,13 @@ use crate::fields::FRONT_LEN;
 use error_entry::{ENTRY_LEN, ErrorEntry, ErrorEntryAnswer};
 
 // What a step finds: an entry with the offset after it, or the end of the list.
-#[derive(Drop)]
+#[derive(Clone, Copy)]
 pub enum EntryStep {
     Entry(ErrorEntry, usize),
     End,
 }
 
-#[derive(Drop)]
+#[derive(Clone, Copy)]
 pub struct EntryWalk<'a> {
     pub payload: &'a [u8],
     pub offset: usize,

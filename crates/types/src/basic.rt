@@ -7,7 +7,7 @@ use crate::C_DLL_ETHERTYPE_EPL;
 use octets::big_endian::u16_be;
 
 // The six octets of an address, in the order in which they are sent.
-#[derive(Drop)]
+#[derive(Clone, Copy)]
 pub struct MacAddress(pub [u8; 6]);
 
 impl MacAddress {
@@ -39,7 +39,7 @@ impl MacAddress {
 pub const ETH_LEN: usize = 14;
 
 // The octets in front of a frame's section.
-#[derive(Drop)]
+#[derive(Clone, Copy)]
 pub struct EthernetHeader {
     pub destination_mac: MacAddress,
     pub source_mac: MacAddress,

@@ -3,7 +3,7 @@ ghost use Rattle.std.specs.Prelude.{true, false, ◌≡◌};
 ghost use Rattle.types.specs.CodeCauses.{ReadsMode};
 ghost use Rattle.types.specs.Modes.{mode_code, mode_in, unless_terminator};
 
-#[derive(Drop)]
+#[derive(Clone, Copy)]
 pub enum ErrorEntryMode {
     Terminator,
     ErrorActive,
@@ -12,7 +12,7 @@ pub enum ErrorEntryMode {
 }
 
 // A code that was read: its mode, or the octet that is the code of none.
-#[derive(Drop)]
+#[derive(Clone, Copy)]
 pub enum ErrorEntryModeAnswer {
     Known(ErrorEntryMode),
     Unknown(u8),

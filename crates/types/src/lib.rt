@@ -17,7 +17,7 @@ pub mod requested_service;
 pub mod states;
 
 // A POWERLINK node ID. Any octet is one: what a frame holds is kept as it stands.
-#[derive(Drop)]
+#[derive(Clone, Copy)]
 pub struct NodeId(pub u8);
 
 impl NodeId {
@@ -34,7 +34,7 @@ impl NodeId {
 }
 
 // The version of POWERLINK (EPSG DS 301, Table 112).
-#[derive(Drop)]
+#[derive(Clone, Copy)]
 pub struct EPLVersion(pub u8);
 
 // The EtherType of POWERLINK frames.

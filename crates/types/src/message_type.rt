@@ -3,7 +3,7 @@ ghost use Rattle.std.specs.Prelude.{◌≡◌};
 ghost use Rattle.types.specs.CodeCauses.{ReadsMessage};
 ghost use Rattle.types.specs.Messages.{message_code};
 
-#[derive(Drop)]
+#[derive(Clone, Copy)]
 pub enum MessageType {
     SoC,
     PReq,
@@ -13,7 +13,7 @@ pub enum MessageType {
 }
 
 // A code that was read: its message type, or the octet that is the code of none.
-#[derive(Drop)]
+#[derive(Clone, Copy)]
 pub enum MessageTypeAnswer {
     Known(MessageType),
     Unknown(u8),

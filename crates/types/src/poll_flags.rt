@@ -3,7 +3,7 @@ ghost use Rattle.std.specs.Prelude.{◌≡◌};
 ghost use Rattle.types.specs.PollFlags.{priority_code, priority_in, requests_to_send, poll_octet, priority_at, requests_at};
 
 // The priority of the oldest request, highest first.
-#[derive(Drop)]
+#[derive(Clone, Copy)]
 pub enum PRFlag {
     PrioNmtRequest,
     High3,
@@ -50,7 +50,7 @@ impl PRFlag {
 }
 
 // How many requests wait to be sent. Above 7 counts as 7.
-#[derive(Drop)]
+#[derive(Clone, Copy)]
 pub struct RSFlag(pub u8);
 
 impl RSFlag {

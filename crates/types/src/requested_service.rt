@@ -3,7 +3,7 @@ ghost use Rattle.std.specs.Prelude.{◌≡◌};
 ghost use Rattle.types.specs.CodeCauses.{ReadsRequested};
 ghost use Rattle.types.specs.RequestedServices.{requested_code};
 
-#[derive(Drop)]
+#[derive(Clone, Copy)]
 pub enum RequestedServiceId {
     NoService,
     IdentRequest,
@@ -13,7 +13,7 @@ pub enum RequestedServiceId {
 }
 
 // A code that was read: its requested service, or the octet that is the code of none.
-#[derive(Drop)]
+#[derive(Clone, Copy)]
 pub enum RequestedServiceIdAnswer {
     Known(RequestedServiceId),
     Unknown(u8),

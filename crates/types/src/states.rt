@@ -3,7 +3,7 @@ ghost use Rattle.std.specs.Prelude.{◌≡◌};
 ghost use Rattle.types.specs.CodeCauses.{ReadsState};
 ghost use Rattle.types.specs.States.{state_code};
 
-#[derive(Drop)]
+#[derive(Clone, Copy)]
 pub enum NmtState {
     NmtGsOff,
     NmtGsInitialising,
@@ -20,7 +20,7 @@ pub enum NmtState {
 }
 
 // A code that was read: its state, or the octet that is the code of none.
-#[derive(Drop)]
+#[derive(Clone, Copy)]
 pub enum NmtStateAnswer {
     Known(NmtState),
     Unknown(u8),

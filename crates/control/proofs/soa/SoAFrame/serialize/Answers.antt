@@ -1,0 +1,10 @@
+-- `SoAFrame::serialize` meets its contract.
+-- Assumes nothing.
+use borrow.Author.Rules.{rules}
+use Rattle.control.specs.SoA.{soa_section}
+use Rattle.control.proofs.soa.SoAFrame.serialize.Goals as goal
+
+pub returns : goal.returns
+unfolding soa_section
+returns c =
+    rw c.to_bytes.ensures at c.write_section.ensures

@@ -1,0 +1,7 @@
+-- `soa::first_octets` meets its contract: the octets that it lays out are the first of the layout.
+-- Assumes nothing.
+use borrow.Author.Rules.{rules}
+use Rattle.control.proofs.soa.first_octets.Goals as goal
+
+pub returns : goal.returns
+returns c = rw (c.to_u8-3.ensures, c.flag-2.ensures.0, c.flag.ensures.0, c.to_u8-2.ensures, c.to_u8.ensures)

@@ -1,0 +1,10 @@
+-- `SocFrame::serialize` meets its contract.
+-- Assumes nothing.
+use borrow.Author.Rules.{rules}
+use Rattle.control.specs.SoC.{soc_section}
+use Rattle.control.proofs.soc.SocFrame.serialize.Goals as goal
+
+pub returns : goal.returns
+unfolding soc_section
+returns c =
+    rw c.to_bytes.ensures at c.write_section.ensures

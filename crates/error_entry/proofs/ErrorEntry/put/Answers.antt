@@ -1,0 +1,11 @@
+-- `ErrorEntry::put` meets its contract: the fields written one after the other are the entry's octets.
+-- Assumes nothing.
+use Rattle.error_entry.proofs.Fields.{put_fields}
+use borrow.Author.Rules.{rules}
+use Rattle.error_entry.proofs.ErrorEntry.put.Goals as goal
+
+pub returns : goal.returns
+returns c =
+    let a = c.args in
+    put_fields a.self a.target.now _ _ _ _ _ _ c.to_u16.ensures c.put_u16_le.ensures c.put_u16_le-2.ensures
+    c.put_u32_le.ensures c.put_u32_le-2.ensures c.put_u64_le.ensures

@@ -1,0 +1,7 @@
+-- `ErrorEntryAnswer::or_terminator` meets its contract.
+-- Assumes nothing.
+use borrow.Author.Rules.{rules}
+use Rattle.error_entry.proofs.ErrorEntryAnswer.or_terminator.Goals as goal
+
+pub returns-in-Refused : goal.returns-in-Refused
+returns-in-Refused c = rw c.in-Refused.is

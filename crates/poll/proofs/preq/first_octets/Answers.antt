@@ -1,0 +1,7 @@
+-- `preq::first_octets` meets its contract: the octets that it lays out are the first of the layout.
+-- Assumes nothing.
+use borrow.Author.Rules.{rules}
+use Rattle.poll.proofs.preq.first_octets.Goals as goal
+
+pub returns : goal.returns
+returns c = rw (c.flag-3.ensures.0, c.flag-2.ensures.0, c.flag.ensures.0, c.to_u8.ensures)

@@ -1,0 +1,7 @@
+-- `PResFrame::new` meets its contract.
+-- Assumes nothing.
+use borrow.Author.Rules.{rules}
+use Rattle.poll.proofs.pres.PResFrame.new.Goals as goal
+
+pub returns : goal.returns
+returns c = rw c.new.ensures
