@@ -1,7 +1,5 @@
-pub mod Again
 pub mod CausesTell
 pub mod GivenLaws
-pub mod Lent
 pub mod Padded
 pub mod Places
 pub mod ReadBack

@@ -1,0 +1,7 @@
+-- `write::serialize_pl_header` meets its contract.
+-- Assumes nothing.
+use borrow.Author.Rules.{rules}
+use Rattle.frame.proofs.write.serialize_pl_header.Goals as goal
+
+pub returns : goal.returns
+returns c = rw (← c.to_u8.ensures) c.write.ensures

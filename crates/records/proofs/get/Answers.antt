@@ -1,0 +1,7 @@
+-- `get` meets its contract.
+-- Assumes nothing.
+use borrow.Author.Rules.{rules}
+use Rattle.records.proofs.get.Goals as goal
+
+pub returns : goal.returns
+returns c = rw c.tail.ensures.octets at c.deserialize.ensures
