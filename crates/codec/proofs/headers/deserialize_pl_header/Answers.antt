@@ -1,0 +1,15 @@
+-- `codec::headers::deserialize_pl_header` meets its contract: each `return` is a case of `deserialize_pl_header`.
+-- Assumes nothing.
+use borrow.Author.Rules.{rules}
+use native.Mathlib.Omega.{arith}
+use Rattle.codec.proofs.HeaderLaws.{pl_short, pl-laws, pl_told}
+use Rattle.codec.proofs.headers.deserialize_pl_header.Goals as goal
+
+pub returns-then-s-lt3 : goal.returns-then-s-lt3
+returns-then-s-lt3 c = pl_told _ _ (pl_short _ (omega arith))
+
+pub returns-in-Unknown : goal.returns-in-Unknown
+returns-in-Unknown c = pl_told _ _ (search pl-laws)
+
+pub returns-in-Known : goal.returns-in-Known
+returns-in-Known c = pl_told _ _ (search pl-laws)

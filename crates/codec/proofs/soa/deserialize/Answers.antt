@@ -1,0 +1,16 @@
+-- `codec::soa::deserialize` meets its contract: each verdict is read as its answer.
+-- Assumes nothing.
+use borrow.Author.Rules.{rules}
+use Rattle.codec.proofs.soa.deserialize.Goals as goal
+
+pub returns-in-Read : goal.returns-in-Read
+returns-in-Read c = rw c.fields.ensures (rw c.in-Read.is at c.judge.ensures)
+
+pub returns-in-TooShort : goal.returns-in-TooShort
+returns-in-TooShort c = rw c.in-TooShort.is at c.judge.ensures
+
+pub returns-in-NoState : goal.returns-in-NoState
+returns-in-NoState c = rw c.in-NoState.is at c.judge.ensures
+
+pub returns-in-NoService : goal.returns-in-NoService
+returns-in-NoService c = rw c.in-NoService.is at c.judge.ensures
