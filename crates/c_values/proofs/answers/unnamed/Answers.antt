@@ -1,0 +1,14 @@
+-- `answers::unnamed` meets its contract.
+-- Assumes nothing.
+use borrow.Author.Rules.{rules}
+use mathlib.Core.Path.{refl}
+use borrow.Author.Tests.{le-leb, lt-leb}
+use Rattle.c_values.proofs.answers.unnamed.Goals as goal
+
+pub returns-then-len-needed : goal.returns-then-len-needed
+returns-then-len-needed c = rw (lt-leb c.args.needed c.args.len c.if-len-needed.true) (refl, refl)
+
+pub returns : goal.returns
+returns c =
+    let a = c.args in
+    rw (le-leb a.needed a.len c.if-len-needed.false) c.refusal.ensures

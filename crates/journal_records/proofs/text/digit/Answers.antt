@@ -1,0 +1,14 @@
+-- `digit` meets its contract.
+-- Assumes nothing.
+use borrow.Author.Rules.{rules}
+use borrow.Author.Tests.{lt-ltb, le-ltb}
+use Rattle.journal_records.specs.Text.{digit}
+use Rattle.journal_records.proofs.text.digit.Goals as goal
+
+pub returns-then-d-lt10 : goal.returns-then-d-lt10
+unfolding digit
+returns-then-d-lt10 c = rw (lt-ltb _ _ c.if-d-lt10.true)
+
+pub returns-else-d-lt10 : goal.returns-else-d-lt10
+unfolding digit
+returns-else-d-lt10 c = rw (le-ltb _ _ c.if-d-lt10.false)

@@ -1,0 +1,43 @@
+-- `batch::answer_frame` meets its contract: the payload is written behind the front's place, and then the front.
+-- Assumes nothing.
+use native.Mathlib.Omega.{arith}
+use mathlib.Core.List.{◌++◌}
+use lib.ListN.{length-append}
+use borrow.Author.Rules.{rules}
+use Rattle.section.proofs.Behind.{behind_refused, behind_bound, behind_written}
+use Rattle.section.proofs.Sections.{refuses}
+use Rattle.reporter.specs.Layout.{head_of}
+use Rattle.reporter.specs.Rules.{opened, filled_payload, answer_front}
+use Rattle.reporter.proofs.AnswerLaws.{frame_parts, front_length}
+use Rattle.reporter.proofs.batch.answer_frame.Goals as goal
+
+pub returns-then-target-lt-PAYLOAD_AT : goal.returns-then-target-lt-PAYLOAD_AT
+returns-then-target-lt-PAYLOAD_AT c =
+    let a = c.args in
+    let h = opened (head_of a.state.now) in
+    let front = answer_front a.fields h.id in
+    let payload = filled_payload a.fields h in
+    rw (frame_parts a.fields h)
+    (refuses (front ++ payload) a.target.now (omega (arith, length-append front payload, front_length a.fields h.id)))
+
+pub overflow_add-result : goal.overflow_add-result
+overflow_add-result c =
+    let a = c.args in
+    let h = opened (head_of a.state.now) in
+    omega (arith, c.well_formed.1.1, behind_bound (answer_front a.fields h.id) (filled_payload a.fields h) a.target.now 18 (front_length a.fields h.id) c.if-target-lt-PAYLOAD_AT.false _ _ c.write_payload.ensures _ c.in-Written.is)
+
+pub returns-in-Refused : goal.returns-in-Refused
+returns-in-Refused c =
+    let a = c.args in
+    let h = opened (head_of a.state.now) in
+    rw (frame_parts a.fields h)
+    (behind_refused (answer_front a.fields h.id) (filled_payload a.fields h) a.target.now 18 (front_length a.fields h.id) c.if-target-lt-PAYLOAD_AT.false _ _
+    c.write_payload.ensures _ c.in-Refused.is)
+
+pub returns-in-Written : goal.returns-in-Written
+returns-in-Written c =
+    let a = c.args in
+    let h = opened (head_of a.state.now) in
+    rw (frame_parts a.fields h)
+    (behind_written (answer_front a.fields h.id) (filled_payload a.fields h) a.target.now 18 (front_length a.fields h.id) c.if-target-lt-PAYLOAD_AT.false _ _
+    c.write_payload.ensures _ c.in-Written.is _ c.put_front.ensures)

@@ -1,0 +1,7 @@
+-- `close` meets its contract.
+-- Assumes nothing.
+use borrow.Author.Rules.{rules}
+use Rattle.reporter.proofs.state.close.Goals as goal
+
+pub returns : goal.returns
+returns c = rw (c.start.ensures.0, c.«open».ensures.0)
