@@ -31,8 +31,8 @@ with_octet (InvalidRequestedServiceId b) o h = refl
 
 pub returns-then-number-lt-UNKNOWN_MESSAGE : goal.returns-then-number-lt-UNKNOWN_MESSAGE
 returns-then-number-lt-UNKNOWN_MESSAGE c =
-    (c.number-number.ensures, without c.args.e _ (omega (arith, c.number-number.ensures, c.if-number-lt-UNKNOWN_MESSAGE.true)))
+    record { value = c.number-number.ensures; octet_after = without c.args.e _ (omega (arith, c.number-number.ensures, c.if-number-lt-UNKNOWN_MESSAGE.true)) }
 
 pub returns : goal.returns
 returns c =
-    (c.number-number.ensures, c.byte.ensures ∙ with_octet c.args.e _ (omega (arith, c.number-number.ensures, c.if-number-lt-UNKNOWN_MESSAGE.false)))
+    record { value = c.number-number.ensures; octet_after = c.byte.ensures ∙ with_octet c.args.e _ (omega (arith, c.number-number.ensures, c.if-number-lt-UNKNOWN_MESSAGE.false)) }

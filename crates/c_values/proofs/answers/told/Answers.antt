@@ -4,9 +4,9 @@ use borrow.Author.Rules.{rules}
 use Rattle.c_values.proofs.answers.told.Goals as goal
 
 pub returns-in-Written : goal.returns-in-Written
-returns-in-Written c = let e = c.in-Written.is in (rw e, (rw e, rw e))
+returns-in-Written c = let e = c.in-Written.is in record { value = rw e; written_after = rw e; octet_after = rw e }
 
 pub returns-in-Refused : goal.returns-in-Refused
 returns-in-Refused c =
     let e = c.in-Refused.is in
-    (rw e c.refusal.ensures.0, (rw e, rw e c.refusal.ensures.1))
+    record { value = rw e c.refusal.ensures.value; written_after = rw e; octet_after = rw e c.refusal.ensures.octet_after }
