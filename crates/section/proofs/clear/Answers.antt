@@ -1,6 +1,5 @@
 -- `section::clear` meets its contract.
 -- Assumes nothing.
-use borrow.Author.Rules.{rules}
 use borrow.Author.Tests.{lt-ltb, le-ltb}
 use Rattle.section.proofs.clear.Goals as goal
 

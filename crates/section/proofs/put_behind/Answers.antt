@@ -1,6 +1,5 @@
 -- `section::put_behind` meets its contract.
 -- Assumes nothing.
-use borrow.Author.Rules.{rules}
 use Rattle.section.specs.Write.{min_section, padded}
 use Rattle.section.proofs.Sections.{four_copies}
 use Rattle.section.proofs.put_behind.Goals as goal

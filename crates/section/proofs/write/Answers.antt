@@ -1,7 +1,6 @@
 -- `section::write` meets its contract.
 -- Assumes nothing.
 use mathlib.Core.Path.{refl}
-use borrow.Author.Rules.{rules}
 use Rattle.section.proofs.Sections.{refuses, writes}
 use Rattle.section.proofs.write.Goals as goal
 

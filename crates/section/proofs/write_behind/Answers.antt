@@ -4,7 +4,6 @@ use mathlib.Core.Path.{sym, ◌∙◌}
 use mathlib.Core.List.{◌++◌}
 use lib.ListN.{length}
 use native.Mathlib.Omega.{arith}
-use borrow.Author.Rules.{rules}
 use Rattle.section.specs.Write.{padded}
 use Rattle.section.proofs.Sections.{behind_length, room, no_room_lem, refuses, writes}
 use Rattle.section.proofs.write_behind.Goals as goal

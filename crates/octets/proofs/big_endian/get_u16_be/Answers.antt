@@ -1,9 +1,6 @@
 -- `big_endian::get_u16_be` meets its contract.
 -- Assumes nothing.
 use borrow.Author.Rules.{rules}
-use mathlib.Core.Path.{◌∙◌}
-use native.Mathlib.Omega.{arith}
-use Rattle.octets.specs.Numbers.{be_at}
 use Rattle.octets.proofs.Le.{be_joined}
 use Rattle.octets.proofs.big_endian.get_u16_be.Goals as goal
 

@@ -1,6 +1,5 @@
 -- `big_endian::u16_be` meets its contract.
 -- Assumes nothing.
-use borrow.Author.Rules.{rules}
 use mathlib.Core.Path.{refl}
 use Rattle.octets.proofs.big_endian.u16_be.Goals as goal
 

@@ -1,12 +1,9 @@
 -- `slices::front` meets its contract.
 -- Assumes nothing.
-use borrow.Author.Rules.{rules}
 use mathlib.Core.Path.{refl, sym}
 use native.Mathlib.Nat.{le_of_lt}
 use lib.Seq.{length-take-le, take_all}
 use native.Mathlib.Omega.{arith}
-use Rattle.octets.proofs.slices.front.Reads as reads
-use Rattle.octets.proofs.slices.front.Lts as lts
 use Rattle.octets.proofs.slices.front.Goals as goal
 
 pub slice_bounds-result-end : goal.slice_bounds-result-end

@@ -1,6 +1,5 @@
 -- `slices::has_mark` meets its contract: the answer from the octets that were compared.
 -- Assumes nothing.
-use borrow.Author.Rules.{rules}
 use borrow.Author.Tests.{eq-eqb, ne_eqb}
 use mathlib.Core.Path.{sym, ◌∙◌}
 use Rattle.octets.specs.Mark.{is_marked}

@@ -1,11 +1,9 @@
 -- `slices::put_each` meets its contract. The loop's invariant: the first i bytes of `src` are stored. The measure is what is left of `src`.
 -- Assumes nothing.
-use Prim.Native.Nat.{◌-◌, ◌≤◌}
-use mathlib.Core.Path.{◌≡◌, refl, ap, ◌∙◌}
+use mathlib.Core.Path.{refl, ap, ◌∙◌}
 use native.Mathlib.Omega.{arith}
-use lib.ListN.{length, take, length-set}
+use lib.ListN.{length-set}
 use lib.Seq.{sets, take_all}
-use borrow.Author.Rules.{rules}
 use Rattle.octets.proofs.Sets.{sets_step}
 use Rattle.octets.proofs.slices.put_each.Goals as goal
 

@@ -5,7 +5,6 @@ use mathlib.Core.Path.{◌≡◌, sym, ap, ◌∙◌}
 use mathlib.Core.List.{List}
 use lib.ListN.{length, take, replicate, length-replicate}
 use lib.Seq.{sets}
-use borrow.Author.Rules.{rules}
 use Rattle.octets.proofs.Sets.{taken_back}
 use Rattle.octets.proofs.slices.put_part.Goals as goal
 

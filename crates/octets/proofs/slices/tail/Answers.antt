@@ -1,5 +1,4 @@
 -- `slices::tail` meets its contract. Assumes nothing.
-use borrow.Author.Rules.{rules}
 use mathlib.Core.Path.{refl, sym, ◌∙◌}
 use native.Mathlib.Nat.{le_of_lt}
 use Prim.Native.Nat.{◌-◌}

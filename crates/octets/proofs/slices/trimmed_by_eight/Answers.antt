@@ -1,12 +1,11 @@
 -- `slices::trimmed_by_eight` meets its contract. The loop's invariant: only zeros stand from n on. The measure is n.
 -- Assumes nothing.
-use borrow.Author.Rules.{rules}
 use Prim.Native.Nat.{ℕ, ◌+◌, ◌-◌}
-use mathlib.Core.Path.{◌≡◌, refl, sym, ap, ◌∙◌}
+use mathlib.Core.Path.{◌≡◌, sym, ap, ◌∙◌}
 use native.Mathlib.Omega.{arith}
 use lib.ListN.{take}
 use lib.Seq.{take-length}
-use Rattle.octets.specs.Trim.{trimmed_length, TrimsTo}
+use Rattle.octets.specs.Trim.{trimmed_length}
 use Rattle.octets.proofs.Trim.{trimmed_number}
 use Rattle.octets.proofs.slices.trimmed_by_eight.Goals as goal
 

@@ -1,12 +1,6 @@
 -- `slices::trimmed_len` meets its contract. The loop's invariant: only zeros stand from n on. The measure is n.
 -- Assumes nothing.
-use borrow.Author.Rules.{rules}
-use Prim.Native.Nat.{ℕ}
-use mathlib.Core.Path.{◌≡◌, sym, ap, ◌∙◌}
-use native.Mathlib.Omega.{arith}
-use lib.ListN.{take}
-use Rattle.octets.specs.Trim.{trimmed_length, TrimsTo}
-use Rattle.octets.proofs.Trim.{trimmed_zero, trimmed_other}
+use Rattle.octets.specs.Trim.{TrimsTo}
 use Rattle.octets.proofs.slices.trimmed_len.Given as goal
 
 abbrev pub invariant-loop-n : goal.invariant-loop-n

@@ -1,11 +1,9 @@
 -- `load::ascending` meets its contract: at each turn all hangs on the IDs from the last one compared on.
 -- Assumes nothing.
-use Prim.Native.Nat.{◌+◌, ◌≤◌, ◌-◌}
-use mathlib.Core.Path.{◌≡◌, refl, ◌∙◌, sym}
-use native.Mathlib.Omega.{arith}
+use Prim.Native.Nat.{◌≤◌, ◌-◌}
+use mathlib.Core.Path.{◌≡◌}
 use lib.ListN.{length, drop}
 use Rattle.services.specs.Load.{is_ascending}
-use Rattle.services.proofs.Laws.{ascending_next, ascending_no, ascending_end}
 use Rattle.services.proofs.load.ascending.Given as goal
 
 abbrev pub invariant-loop-i : goal.invariant-loop-i

@@ -1,11 +1,9 @@
 -- `load::has` meets its contract: at each turn the ID is none of those passed.
 -- Assumes nothing.
 use Prim.Native.Nat.{◌≤◌, ◌-◌}
-use mathlib.Core.Path.{◌≡◌, refl, ◌∙◌, sym}
-use native.Mathlib.Omega.{arith}
+use mathlib.Core.Path.{◌≡◌}
 use lib.ListN.{length, drop}
 use Rattle.services.specs.Ids.{is_in}
-use Rattle.services.proofs.Laws.{in_here, in_next, in_none}
 use Rattle.services.proofs.load.has.Given as goal
 
 abbrev pub invariant-loop-i : goal.invariant-loop-i

@@ -1,6 +1,5 @@
 -- `load::is_table` meets its contract.
 -- Assumes nothing.
-use borrow.Author.Rules.{rules}
 use native.Mathlib.Omega.{arith}
 use Rattle.services.proofs.Loading.{short, tables}
 use Rattle.services.proofs.load.is_table.Goals as goal

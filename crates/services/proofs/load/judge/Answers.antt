@@ -1,6 +1,5 @@
 -- `load::judge` meets its contract: each answer from the tests that lead to it.
 -- Assumes nothing.
-use borrow.Author.Rules.{rules}
 use Rattle.services.proofs.Loading.{answers}
 use Rattle.services.proofs.load.judge.Goals as goal
 

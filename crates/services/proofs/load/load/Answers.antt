@@ -1,6 +1,5 @@
 -- `load::load` meets its contract.
 -- Assumes nothing.
-use borrow.Author.Rules.{rules}
 use Rattle.services.proofs.Loading.{loads}
 use Rattle.services.proofs.load.load.Goals as goal
 

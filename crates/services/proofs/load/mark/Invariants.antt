@@ -1,11 +1,9 @@
 -- `load::mark` meets its contract: at each turn what is marked by then, with the IDs that are left, gives the whole.
 -- Assumes nothing.
 use Prim.Native.Nat.{◌≤◌, ◌-◌}
-use mathlib.Core.Path.{◌≡◌, refl, ◌∙◌, sym}
-use native.Mathlib.Omega.{arith}
+use mathlib.Core.Path.{◌≡◌}
 use lib.ListN.{length, drop}
 use Rattle.services.specs.Table.{marked}
-use Rattle.services.proofs.Laws.{mark_next, mark_end}
 use Rattle.services.proofs.load.mark.Given as goal
 
 abbrev pub invariant-loop-i : goal.invariant-loop-i

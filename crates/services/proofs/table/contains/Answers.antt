@@ -1,6 +1,5 @@
 -- `table::contains` meets its contract.
 -- Assumes nothing.
-use borrow.Author.Rules.{rules}
 use Rattle.services.proofs.Tables.{held}
 use Rattle.services.proofs.table.contains.Goals as goal
 

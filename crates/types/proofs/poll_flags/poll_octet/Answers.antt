@@ -1,6 +1,5 @@
 -- `poll_flags::poll_octet` meets its contract: both flags have three bits, so their octet holds them.
 -- Assumes nothing.
-use borrow.Author.Rules.{rules}
 use native.Mathlib.Omega.{arith}
 use Rattle.types.specs.PollFlags.{poll_octet}
 use Rattle.types.proofs.Priorities.{priority_small}

@@ -1,6 +1,5 @@
 -- `EthernetHeader::to_bytes` meets its contract.
 -- Assumes nothing.
-use borrow.Author.Rules.{rules}
 use Rattle.types.specs.Header.{eth_bytes}
 use Rattle.types.proofs.basic.EthernetHeader.to_bytes.Goals as goal
 

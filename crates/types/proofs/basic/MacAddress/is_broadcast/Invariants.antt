@@ -1,11 +1,9 @@
 -- `MacAddress::is_broadcast` meets its contract. The loop's invariant: what is left decides. The measure is how much is left.
 -- Assumes nothing.
-use Prim.Native.Nat.{ℕ, ◌-◌, ◌≤◌}
-use mathlib.Core.Path.{◌≡◌, refl, sym, ap, ◌∙◌}
-use native.Mathlib.Omega.{arith}
+use Prim.Native.Nat.{◌-◌, ◌≤◌}
+use mathlib.Core.Path.{◌≡◌}
 use lib.ListN.{drop}
-use Rattle.types.specs.Addresses.{ones, is_broadcast}
-use Rattle.types.proofs.Broadcast.{ones_next, ones_not}
+use Rattle.types.specs.Addresses.{ones}
 use Rattle.types.proofs.basic.MacAddress.is_broadcast.Given as goal
 
 abbrev pub invariant-loop-i : goal.invariant-loop-i
