@@ -1,12 +1,9 @@
 -- `put_hex` meets its contract. The loop's invariant: what is stored, with the digits that remain put in front of it, is the text.
 -- Assumes nothing.
-use Prim.Native.Nat.{◌≤◌}
-use mathlib.Core.Path.{◌≡◌, refl, ◌∙◌}
+use mathlib.Core.Path.{refl, ◌∙◌}
 use native.Mathlib.Omega.{arith}
-use lib.ListN.{length, length-set}
-use lib.Seq.{sets}
+use lib.ListN.{length-set}
 use borrow.Author.Rules.{rules}
-use Rattle.journal_records.specs.Text.{hex}
 use Rattle.journal_records.proofs.TextLaws.{hex_step, hex_done}
 use Rattle.journal_records.proofs.text.put_hex.Goals as goal
 
