@@ -1,11 +1,9 @@
 -- The numbers of the journal's answers are those of 01's table, and rows tell answers apart: each is read back from its row.
 -- Assumes nothing.
-use Prim.Native.Nat.{ℕ}
 use mathlib.Core.Path.{◌≡◌, refl}
-use mathlib.Core.List.{[], ◌∷◌}
 use lib.Dec.{eqb}
 use lib.ListN.{get_or}
-use Rattle.types.specs.Causes.{Cause, row}
+use Rattle.types.specs.Causes.{Cause}
 use Rattle.types.specs.Codes.{pick}
 use Rattle.types.proofs.Apart.{apart}
 use Rattle.journal_records.specs.CausesTell.{CausesTell}

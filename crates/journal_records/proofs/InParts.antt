@@ -11,7 +11,7 @@ use lib.ListN.{length, take, drop, replicate, length-append, length-drop, length
 use lib.Seq.{drop-drop, take-append_seam}
 use borrow.Author.Tests.{eqb-true, eqb-false}
 use Rattle.journal_records.specs.InParts.{Run, over, call, EndsIn, ListsInParts}
-use Rattle.journal_records.specs.Listing.{version1, refused_line}
+use Rattle.journal_records.specs.Listing.{refused_line}
 use Rattle.journal_records.specs.Parts.{Piece, stopped, ahead, step_of, part_of, told, Lists, list_cause, text_from, goes_on, crowded, due_after, needed}
 use Rattle.types.specs.Codes.{pick}
 use Rattle.journal_records.specs.declared.listing.ListAnswer.{ListAnswer}

@@ -2,7 +2,7 @@
 -- Assumes nothing.
 use Prim.Native.Nat.{ℕ, ◌+◌, ◌*◌, ◌-◌, ◌/◌, ◌≤◌, ◌<◌}
 use mathlib.Core.Path.{◌≡◌, refl, sym, ap, ◌∙◌}
-use mathlib.Core.List.{List, [], ◌∷◌, ◌++◌, append_assoc}
+use mathlib.Core.List.{List, ◌++◌, append_assoc}
 use native.Mathlib.Omega.{arith}
 use lib.ListN.{length, take, length-append}
 use lib.Seq.{take_at}
@@ -11,7 +11,6 @@ use Rattle.journal_records.specs.Listing.{version1, header_line, layout_of, list
 use Rattle.journal_records.specs.ReadBack.{Recorded, Journaled, none, more, fields_lines, journal_start}
 use Rattle.journal_records.specs.Whole.{whole_len, TornReadsBack}
 use Rattle.journal_records.specs.declared.JournalAnswer.TheVariants.{Written}
-use Rattle.journal_records.specs.declared.WholeLenAnswer.{WholeLenAnswer}
 use Rattle.journal_records.specs.declared.WholeLenAnswer.TheVariants.{Whole, TooShort, UnknownVersion}
 use Rattle.journal_records.proofs.ReadBack.{at_front, records_read_back}
 use Rattle.journal_records.proofs.RecordLaws.{record_length}

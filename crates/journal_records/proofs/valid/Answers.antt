@@ -2,8 +2,6 @@
 -- Assumes nothing.
 use mathlib.Core.Bool.{true, false}
 use mathlib.Core.Path.{sym, ◌∙◌}
-use borrow.Author.Rules.{rules}
-use borrow.Author.Tests.{not-true, not-false}
 use Rattle.types.proofs.Modes.{is_terminator, is_entry}
 use Rattle.journal_records.proofs.RecordLaws.{id_bad, by_mode}
 use Rattle.journal_records.proofs.valid.Goals as goal

@@ -2,8 +2,6 @@
 -- Assumes nothing.
 use mathlib.Core.Path.{◌≡◌, ap}
 use Prim.Native.Nat.{ℕ}
-use borrow.Author.Rules.{rules}
-use borrow.Author.Tests.{eqb-true, eqb-false}
 use Rattle.journal_records.specs.Whole.{whole_len, whole_len_cause, TellsWhole}
 use Rattle.journal_records.specs.declared.WholeLenAnswer.{WholeLenAnswer}
 use Rattle.journal_records.proofs.Whole.{whole_cut, whole_version, whole_known}

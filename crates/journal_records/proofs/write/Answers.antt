@@ -1,8 +1,6 @@
 -- `write` meets its contract.
 -- Assumes nothing.
 use mathlib.Core.Path.{sym, ◌∙◌}
-use borrow.Author.Rules.{rules}
-use borrow.Author.Tests.{not-true, not-false}
 use Rattle.journal_records.proofs.RecordLaws.{record_short, record_bad, record_put}
 use Rattle.journal_records.proofs.write.Goals as goal
 

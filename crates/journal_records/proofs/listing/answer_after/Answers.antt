@@ -1,7 +1,6 @@
 -- `answer_after` meets its contract.
 -- Assumes nothing.
 use mathlib.Core.Path.{sym, ◌∙◌}
-use borrow.Author.Rules.{rules}
 use Rattle.journal_records.proofs.Answers.{after_none, after_some}
 use Rattle.journal_records.proofs.listing.answer_after.Goals as goal
 

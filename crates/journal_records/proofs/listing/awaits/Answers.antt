@@ -1,6 +1,5 @@
 -- `awaits` meets its contract.
 -- Assumes nothing.
-use borrow.Author.Rules.{rules}
 use Rattle.journal_records.specs.Listing.{version1}
 use Rattle.journal_records.proofs.StepLaws.{awaits_none, awaits_by}
 use Rattle.journal_records.proofs.listing.awaits.Goals as goal

@@ -1,6 +1,5 @@
 -- `ended` meets its contract.
 -- Assumes nothing.
-use borrow.Author.Rules.{rules}
 use Rattle.journal_records.specs.Parts.{ended}
 use Rattle.journal_records.proofs.StepLaws.{ended_by}
 use Rattle.journal_records.proofs.listing.ended.Goals as goal

@@ -1,8 +1,6 @@
 -- `header` meets its contract.
 -- Assumes nothing.
 use mathlib.Core.Path.{refl, sym, ◌∙◌}
-use borrow.Author.Rules.{rules}
-use borrow.Author.Tests.{not-true, not-false, eqb-true, eqb-false}
 use Rattle.journal_records.specs.Listing.{marked, version1, header_line}
 use Rattle.journal_records.proofs.StepLaws.{header_cut, header_unmarked, header_version, header_good, prints_as}
 use Rattle.journal_records.proofs.listing.header.Goals as goal
@@ -22,7 +20,7 @@ unfolding marked
 returns-then-not-known c =
     prints_as
     (header_version _ c.if-bytes-lt-JOURNAL_START_LEN.false (sym c.has_mark-mark.ensures ∙ c.if-not-mark.false)
-    (λ e. eqb-false _ _ c.if-not-known.true (c.get_u16_le-known.ensures ∙ e)))
+    (λ e. c.if-not-known.true (c.get_u16_le-known.ensures ∙ e)))
     c.refuse-then-not-known.ensures
 
 pub returns : goal.returns
@@ -30,5 +28,5 @@ unfolding marked version1 header_line
 returns c =
     prints_as
     (header_good _ c.if-bytes-lt-JOURNAL_START_LEN.false (sym c.has_mark-mark.ensures ∙ c.if-not-mark.false)
-    (sym c.get_u16_le-known.ensures ∙ eqb-true _ _ c.if-not-known.false))
+    (sym c.get_u16_le-known.ensures ∙ c.if-not-known.false))
     (record { answer = refl; holds = c.put.ensures })

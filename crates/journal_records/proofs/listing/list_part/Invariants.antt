@@ -1,11 +1,9 @@
 -- `list_part` meets its contract. The loop's invariant: what is done so far, in front of what the rest comes to, is the whole.
 -- The measure is what is left of the part.
 -- Assumes nothing.
-use Prim.Native.Nat.{◌-◌, ◌≤◌}
-use native.Mathlib.Omega.{arith}
+use Prim.Native.Nat.{◌-◌}
 use lib.ListN.{length}
-use borrow.Author.Rules.{rules}
-use Rattle.journal_records.proofs.PartLaws.{Held, held_first, turn_most, turn_fits, turn_size, turn_less, turn_on, turn_stop}
+use Rattle.journal_records.proofs.PartLaws.{Held}
 use Rattle.journal_records.proofs.listing.list_part.Given as goal
 
 abbrev pub invariant-loop-answer : goal.invariant-loop-answer

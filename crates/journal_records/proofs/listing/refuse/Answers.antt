@@ -3,7 +3,6 @@
 use Prim.Native.Nat.{ℕ}
 use mathlib.Core.Path.{refl, ap}
 use mathlib.Core.List.{[], ◌∷◌, ◌++◌}
-use borrow.Author.Rules.{rules}
 use Rattle.journal_records.specs.Listing.{refused_line}
 use Rattle.journal_records.specs.Parts.{refusal}
 use Rattle.journal_records.specs.Text.{decimal}

@@ -1,8 +1,6 @@
 -- `step` meets its contract.
 -- Assumes nothing.
 use mathlib.Core.Path.{sym, ◌∙◌}
-use borrow.Author.Rules.{rules}
-use borrow.Author.Tests.{not-true, not-false}
 use Rattle.journal_records.proofs.StepLaws.{step_waits, step_ends, step_full, step_by, prints_as, prints_none}
 use Rattle.journal_records.proofs.listing.step.Goals as goal
 

@@ -1,6 +1,5 @@
 -- `digit` meets its contract.
 -- Assumes nothing.
-use borrow.Author.Rules.{rules}
 use borrow.Author.Tests.{lt-ltb, le-ltb}
 use Rattle.journal_records.specs.Text.{digit}
 use Rattle.journal_records.proofs.text.digit.Goals as goal

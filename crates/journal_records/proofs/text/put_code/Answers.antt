@@ -1,7 +1,6 @@
 -- `put_code` meets its contract.
 -- Assumes nothing.
 use native.Mathlib.Omega.{arith}
-use borrow.Author.Rules.{rules}
 use Rattle.journal_records.proofs.TextLaws.{put_digits, put_ended}
 use Rattle.journal_records.proofs.text.put_code.Goals as goal
 

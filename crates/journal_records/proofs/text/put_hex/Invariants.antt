@@ -1,13 +1,10 @@
 -- `put_hex` meets its contract. The loop's invariant: what is stored, with the digits that remain put in front of it, is the text.
 -- Assumes nothing.
 use Prim.Native.Nat.{◌≤◌}
-use mathlib.Core.Path.{◌≡◌, refl, ◌∙◌}
-use native.Mathlib.Omega.{arith}
-use lib.ListN.{length, length-set}
+use mathlib.Core.Path.{◌≡◌}
+use lib.ListN.{length}
 use lib.Seq.{sets}
-use borrow.Author.Rules.{rules}
 use Rattle.journal_records.specs.Text.{hex}
-use Rattle.journal_records.proofs.TextLaws.{hex_step, hex_done}
 use Rattle.journal_records.proofs.text.put_hex.Given as goal
 
 abbrev pub invariant-loop-i : goal.invariant-loop-i

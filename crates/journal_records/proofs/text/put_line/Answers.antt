@@ -1,6 +1,5 @@
 -- `put_line` meets its contract: the columns one after the other are the line.
 -- Assumes nothing.
-use borrow.Author.Rules.{rules}
 use Rattle.journal_records.proofs.LineLaws.{line_put}
 use Rattle.journal_records.proofs.text.put_line.Goals as goal
 

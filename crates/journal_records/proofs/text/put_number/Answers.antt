@@ -1,7 +1,6 @@
 -- `put_number` meets its contract.
 -- Assumes nothing.
 use native.Mathlib.Omega.{arith}
-use borrow.Author.Rules.{rules}
 use Rattle.journal_records.proofs.TextLaws.{decimal_ten, put_ended}
 use Rattle.journal_records.proofs.text.put_number.Goals as goal
 

@@ -2,7 +2,6 @@
 -- Assumes nothing.
 use mathlib.Core.Path.{sym}
 use lib.Seq.{set_out}
-use borrow.Author.Rules.{rules}
 use Rattle.journal_records.proofs.text.put_octet.Goals as goal
 
 pub returns-else-at-out : goal.returns-else-at-out
