@@ -12,7 +12,7 @@ use Rattle.types.specs.Nodes.{is_cn_node_id}
 use Rattle.error_entry.specs.declared.ErrorEntry.{ErrorEntry}
 use Rattle.collector.specs.Layout.{collector_length, ea_in, find_of, slot_of, count_in, start_in, entry_in, account_in, account_of, vacant_of, box_of}
 use Rattle.collector.specs.Rules.{heads, book_length, register_answer, book_answer, take_answer}
-use Rattle.collector.specs.declared.ReadAnswer.TheVariants.{Booked, Known, NotRegistered, BookFull}
+use Rattle.collector.specs.declared.ReadAnswer.TheVariants.{Booked, Known, BookFull}
 use Rattle.collector.specs.declared.RegisterAnswer.TheVariants.{Registered, IdOutOfRange, IdRegistered, Full}
 use Rattle.collector.specs.declared.TakeAnswer.TheVariants as taking
 use Rattle.collector.proofs.BookLaws.{book_empty, book_taken, book_length_lem}

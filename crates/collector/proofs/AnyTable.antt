@@ -15,11 +15,11 @@ use Rattle.services.specs.Ids.{status_response}
 use Rattle.frame.specs.declared.PowerlinkFrame.TheVariants.{ASnd}
 use Rattle.codec.specs.ASnd.{asnd_of}
 use Rattle.codec.specs.declared.FrameAnswer.{FrameAnswer}
-use Rattle.codec.specs.declared.FrameAnswer.TheVariants.{Frame, Refused}
+use Rattle.codec.specs.declared.FrameAnswer.TheVariants.{Frame}
 use Rattle.codec.proofs.AnyTable.{IsOther, frames_told, frames_alike}
 use Rattle.collector.specs.AnyTable.{AnyTable, SixOrTen}
 use Rattle.collector.specs.Layout.{box_of, booking_bytes}
-use Rattle.collector.specs.Rules.{Box, Said, when_booked, status_in, response_in_answer, response_in, response_answer, read_answer, after_booking}
+use Rattle.collector.specs.Rules.{when_booked, status_in, response_in_answer, response_in, response_answer, read_answer, after_booking}
 use Rattle.collector.specs.declared.reading.Heard.{Heard}
 use Rattle.collector.specs.declared.reading.Heard.TheVariants as heard
 

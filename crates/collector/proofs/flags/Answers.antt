@@ -5,7 +5,6 @@ use mathlib.Core.Bool.{Bool, false}
 use mathlib.Core.List.{List}
 use Prim.Native.Nat.{ℕ}
 use native.Mathlib.Omega.{arith}
-use borrow.Author.Rules.{rules}
 use Rattle.types.specs.declared.NodeId.{NodeId}
 use Rattle.collector.specs.Calls.{Flags}
 use Rattle.collector.specs.Layout.{slot_of, ea_in, account_of}

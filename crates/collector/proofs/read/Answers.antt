@@ -22,7 +22,7 @@ returns-in-Other c =
 pub returns-in-Status : goal.returns-in-Status
 returns-in-Status c =
     let a = c.args in
-    reads_status a.services.now a.state.now a.buffer.now c.read_status.ensures.1 (λ i. omega (arith, c.shared_slice_known-1.given i))
+    reads_status a.services.now a.state.now a.buffer.now c.read_status.ensures.1 (λ i. search rules)
     c.in-Status.source (sym c.in-Status.is ∙ c.hear.ensures) _
     (c.payload.ensures.octets ∙ take_all (length a.buffer.now) (drop asnd_payload_at a.buffer.now) (simp length-drop (omega arith))) _ _
     c.read_status.ensures.0

@@ -3,8 +3,6 @@
 use Prim.Native.Nat.{ℕ}
 use mathlib.Core.Path.{refl, sym, ap, ◌∙◌}
 use native.Mathlib.Omega.{arith}
-use borrow.Author.Rules.{rules}
-use borrow.Author.Tests.{not-true, not-false}
 use Rattle.collector.specs.Layout.{placed_bytes}
 use Rattle.collector.proofs.AnswerLaws.{register_bad, register_known, register_full, register_new}
 use Rattle.collector.proofs.CallLaws.{registers, registers_none}

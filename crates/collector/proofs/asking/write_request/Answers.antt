@@ -1,7 +1,6 @@
 -- `write_request` meets its contract.
 -- Assumes nothing.
 use mathlib.Core.Path.{sym, ap, ◌∙◌}
-use borrow.Author.Rules.{rules}
 use Rattle.collector.specs.Rules.{as_request}
 use Rattle.collector.proofs.CallLaws.{request_writes}
 use Rattle.collector.proofs.asking.write_request.Goals as goal

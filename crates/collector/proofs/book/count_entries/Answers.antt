@@ -1,12 +1,10 @@
 -- `count_entries` meets its contract. The loop's invariant: n is how many of the entries before `at` are booked. The measure is what is left
 -- of the payload.
 -- Assumes nothing.
-use Prim.Native.Nat.{◌-◌}
-use mathlib.Core.Path.{◌≡◌, sym, ap, ◌∙◌}
+use mathlib.Core.Path.{sym, ap, ◌∙◌}
 use native.Mathlib.Omega.{arith}
 use lib.ListN.{length}
-use borrow.Author.Rules.{rules}
-use Rattle.collector.proofs.BookableLaws.{Found, at_start, none_yet, so_far, so_far_few, all_found, one_more, next_inside, more_count}
+use Rattle.collector.proofs.BookableLaws.{at_start, none_yet, so_far_few, all_found, one_more, next_inside, more_count}
 use Rattle.collector.proofs.book.count_entries.Goals as goal
 
 pub loop-e-init : goal.loop-e-init

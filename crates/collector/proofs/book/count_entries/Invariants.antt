@@ -2,11 +2,9 @@
 -- of the payload.
 -- Assumes nothing.
 use Prim.Native.Nat.{◌-◌}
-use mathlib.Core.Path.{◌≡◌, sym, ap, ◌∙◌}
-use native.Mathlib.Omega.{arith}
+use mathlib.Core.Path.{◌≡◌}
 use lib.ListN.{length}
-use borrow.Author.Rules.{rules}
-use Rattle.collector.proofs.BookableLaws.{Found, at_start, none_yet, so_far, so_far_few, all_found, one_more, next_inside, more_count}
+use Rattle.collector.proofs.BookableLaws.{Found, so_far}
 use Rattle.collector.proofs.book.count_entries.Given as goal
 
 abbrev pub invariant-loop-e : goal.invariant-loop-e

@@ -13,6 +13,6 @@ pub returns : goal.returns
 unfolding pushed_bytes
 returns c =
     let a = c.args in
-    let e : set c.put.new.0 (block a.k + 3) (c.count-n.result + 1) ≡ pushed_bytes a.state.now a.k a.e =
+    let e : set c.put.new.s (block a.k + 3) (c.count-n.result + 1) ≡ pushed_bytes a.state.now a.k a.e =
     rw (c.put.ensures.holds, c.record_place-at.ensures, c.start.ensures.0, c.count-n.ensures.0) in
-    (e, ap (λ (l : List ℕ). count_in l a.k) e ∙ pushed_count a.state.now a.k a.e c.put-arg-1.given.0.1 c.requires.0 c.requires.1)
+    (e, ap (λ (l : List ℕ). count_in l a.k) e ∙ pushed_count a.state.now a.k a.e (search rules) c.requires.0 c.requires.1)

@@ -1,7 +1,6 @@
 -- `push_bookable` meets its contract.
 -- Assumes nothing.
 use native.Mathlib.Omega.{arith}
-use borrow.Author.Rules.{rules}
 use Rattle.collector.proofs.BookableLaws.{join_none, join_one}
 use Rattle.collector.proofs.book.push_bookable.Goals as goal
 

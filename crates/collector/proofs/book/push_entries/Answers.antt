@@ -1,13 +1,10 @@
 -- `push_entries` meets its contract. The loop's invariant: those of the entries before `at` that are booked have joined the book. The measure is
 -- what is left of the payload.
 -- Assumes nothing.
-use Prim.Native.Nat.{◌+◌, ◌-◌}
-use mathlib.Core.Path.{◌≡◌, sym, ap, ◌∙◌}
+use mathlib.Core.Path.{sym, ap, ◌∙◌}
 use native.Mathlib.Omega.{arith}
-use lib.ListN.{length}
-use borrow.Author.Rules.{rules}
-use Rattle.collector.specs.Layout.{count_in, pushed_all}
-use Rattle.collector.proofs.BookableLaws.{Found, at_start, joined_none, so_far, all_found, one_more, more_fits, next_inside, more_joined}
+use Rattle.collector.specs.Layout.{pushed_all}
+use Rattle.collector.proofs.BookableLaws.{at_start, joined_none, all_found, one_more, more_fits, next_inside, more_joined}
 use Rattle.collector.proofs.book.push_entries.Goals as goal
 
 pub loop-e-init : goal.loop-e-init

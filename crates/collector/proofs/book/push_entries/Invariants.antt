@@ -2,12 +2,10 @@
 -- what is left of the payload.
 -- Assumes nothing.
 use Prim.Native.Nat.{◌+◌, ◌-◌}
-use mathlib.Core.Path.{◌≡◌, sym, ap, ◌∙◌}
-use native.Mathlib.Omega.{arith}
+use mathlib.Core.Path.{◌≡◌}
 use lib.ListN.{length}
-use borrow.Author.Rules.{rules}
 use Rattle.collector.specs.Layout.{count_in, pushed_all}
-use Rattle.collector.proofs.BookableLaws.{Found, at_start, joined_none, so_far, all_found, one_more, more_fits, next_inside, more_joined}
+use Rattle.collector.proofs.BookableLaws.{Found, so_far}
 use Rattle.collector.proofs.book.push_entries.Given as goal
 
 abbrev pub invariant-loop-e : goal.invariant-loop-e

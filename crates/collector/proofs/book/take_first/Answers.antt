@@ -1,7 +1,6 @@
 -- `take_first` meets its contract.
 -- Assumes nothing.
 use mathlib.Core.Path.{◌∙◌}
-use native.Mathlib.Omega.{arith}
 use borrow.Author.Rules.{rules}
 use Rattle.records.proofs.RecordLaws.{record_read}
 use Rattle.collector.specs.Layout.{taken_bytes}
@@ -11,7 +10,7 @@ pub returns : goal.returns
 unfolding taken_bytes
 returns c =
     let a = c.args in (
-      record_read a.state.now c.record_place.result _ _ (omega (arith, c.get-arg-2-1.given.0, c.requires.0)) c.get.ensures.answer c.or_terminator-e.ensures
+      record_read a.state.now c.record_place.result _ _ (search rules) c.get.ensures.answer c.or_terminator-e.ensures
           ∙ rw (c.record_place.ensures, c.start-first.ensures.0),
       rw (c.count-n.ensures.0, c.start-first.ensures.0),
     )

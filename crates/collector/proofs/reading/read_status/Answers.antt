@@ -2,7 +2,6 @@
 -- Assumes nothing.
 use mathlib.Core.Path.{sym, ◌∙◌}
 use native.Mathlib.Omega.{arith}
-use borrow.Author.Rules.{rules}
 use Rattle.collector.proofs.CallLaws.{status_unknown, status_refused, status_books}
 use Rattle.collector.proofs.reading.read_status.Goals as goal
 

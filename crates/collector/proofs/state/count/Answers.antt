@@ -1,7 +1,6 @@
 -- `count` meets its contract.
 -- Assumes nothing.
 use native.Mathlib.Omega.{arith}
-use borrow.Author.Rules.{rules}
 use Rattle.collector.specs.Layout.{count_in}
 use Rattle.collector.proofs.state.count.Goals as goal
 

@@ -1,7 +1,6 @@
 -- `ea` meets its contract.
 -- Assumes nothing.
 use mathlib.Core.Path.{refl}
-use borrow.Author.Rules.{rules}
 use Rattle.collector.specs.Layout.{ea_in}
 use Rattle.collector.proofs.state.ea.Goals as goal
 

@@ -19,12 +19,12 @@ is-not {r} {x} {b} e f = ne_eqb x b (λ q. f (e ∙ q))
 
 pub returns-then-byte_at-id : goal.returns-then-byte_at-id
 unfolding find_of node_in
-returns-then-byte_at-id c = (rw (is c.byte_at.ensures c.if-byte_at-id.true), omega arith, c.byte_at-arg-1.given.0)
+returns-then-byte_at-id c = (rw (is c.byte_at.ensures c.if-byte_at-id.true), omega arith, search rules)
 
 pub returns-then-byte_at-id-2 : goal.returns-then-byte_at-id-2
 unfolding find_of node_in
 returns-then-byte_at-id-2 c =
-    (rw (is-not c.byte_at.ensures c.if-byte_at-id.false, is c.byte_at-2.ensures c.if-byte_at-id-2.true), omega arith, c.byte_at-arg-1.given.0)
+    (rw (is-not c.byte_at.ensures c.if-byte_at-id.false, is c.byte_at-2.ensures c.if-byte_at-id-2.true), omega arith, search rules)
 
 pub returns-then-byte_at-id-3 : goal.returns-then-byte_at-id-3
 unfolding find_of node_in
@@ -35,7 +35,7 @@ returns-then-byte_at-id-3 c = (
     is c.byte_at-3.ensures c.if-byte_at-id-3.true,
   ),
   omega arith,
-  c.byte_at-arg-1.given.0,
+  search rules,
 )
 
 pub returns-then-byte_at-id-4 : goal.returns-then-byte_at-id-4
@@ -48,7 +48,7 @@ returns-then-byte_at-id-4 c = (
     is c.byte_at-4.ensures c.if-byte_at-id-4.true,
   ),
   omega arith,
-  c.byte_at-arg-1.given.0,
+  search rules,
 )
 
 pub returns : goal.returns
@@ -61,5 +61,5 @@ returns c = (
     is-not c.byte_at-4.ensures c.if-byte_at-id-4.false,
   ),
   omega arith,
-  c.byte_at-arg-1.given.0,
+  search rules,
 )

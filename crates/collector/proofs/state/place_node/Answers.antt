@@ -1,7 +1,6 @@
 -- `place_node` meets its contract.
 -- Assumes nothing.
 use mathlib.Core.Path.{refl}
-use borrow.Author.Rules.{rules}
 use Rattle.collector.specs.Layout.{placed_bytes}
 use Rattle.collector.proofs.state.place_node.Goals as goal
 

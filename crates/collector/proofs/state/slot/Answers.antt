@@ -11,7 +11,7 @@ unfolding slot_of
 returns-then-id-eq0 c =
     let n = c.no_block.ensures in
     let i = c.if-id-eq0.true in
-    (simp (eq-eqb _ _ i) n, omega (arith, n), c.no_block-arg-1.given.0)
+    (simp (eq-eqb _ _ i) n, omega (arith, n), search rules)
 
 pub returns : goal.returns
 unfolding slot_of

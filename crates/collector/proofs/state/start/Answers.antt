@@ -2,7 +2,6 @@
 -- Assumes nothing.
 use native.Mathlib.Omega.{arith}
 use mathlib.Core.Path.{refl}
-use borrow.Author.Rules.{rules}
 use Rattle.collector.specs.Layout.{start_in}
 use Rattle.collector.proofs.state.start.Goals as goal
 
