@@ -1,7 +1,7 @@
 -- The table makes no difference to an answer, to EA and to the head.
 -- Assumes nothing.
 use Prim.Native.Nat.{ℕ}
-use mathlib.Core.Bool.{Bool, true, false}
+use mathlib.Core.Bool.{Bool}
 use mathlib.Core.Path.{◌≡◌, refl, sym, ap, ◌∙◌}
 use mathlib.Core.Logic.{inl, inr}
 use mathlib.Core.List.{List}
@@ -17,7 +17,7 @@ use Rattle.codec.specs.declared.FrameAnswer.{FrameAnswer}
 use Rattle.reporter.specs.AnyTable.{AnyTable, SixOrIgnored}
 use Rattle.reporter.specs.Calls.{Answers}
 use Rattle.reporter.specs.Layout.{head_of}
-use Rattle.reporter.specs.Rules.{Head, opened, answer_frame, answer_writing, acknowledge_answer, after_acknowledge, ea_in_answer, ea_told}
+use Rattle.reporter.specs.Rules.{Head, opened, answer_frame, answer_writing, acknowledge_answer, after_acknowledge, ea_in_answer}
 use Rattle.reporter.specs.declared.AnswerFields.{AnswerFields}
 use Rattle.reporter.specs.declared.acknowledge.Heard.{Heard}
 use Rattle.reporter.specs.declared.acknowledge.Heard.TheVariants as heard

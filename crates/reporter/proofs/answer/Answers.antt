@@ -5,22 +5,16 @@ use mathlib.Core.Path.{refl, ap, ◌∙◌}
 use Rattle.reporter.specs.Layout.{head_of}
 use Rattle.reporter.proofs.AnswerLaws.{answers}
 use Rattle.reporter.proofs.Meaning.{opens_means}
-use Rattle.reporter.specs.Calls.{AnswerSizes}
 use Rattle.reporter.proofs.answer.Goals as goal
-
--- the sizes that the types give
-sizes : (start : tie.Start) → AnswerSizes start.args.fields
-sizes start =
-    record { source = search rules; destination = search rules; errors = search rules }
 
 pub returns-in-Written : goal.returns-in-Written
 returns-in-Written c =
     let a = c.args in
     let s = a.state.now in
     let o = c.open_batch.ensures in
-    answers a.fields s a.services.now (sizes c) _ _ _ _ _ c.in-Written.is c.answer_frame.ensures (ap head_of o.0 ∙ opens_means s o.1) o.0
+    answers a.fields s a.services.now (search rules) _ _ _ _ _ c.in-Written.is c.answer_frame.ensures (ap head_of o.0 ∙ opens_means s o.1) o.0
 
 pub returns-in-Refused : goal.returns-in-Refused
 returns-in-Refused c =
     let a = c.args in
-    answers a.fields a.state.now a.services.now (sizes c) _ _ _ _ _ c.in-Refused.is c.answer_frame.ensures refl refl
+    answers a.fields a.state.now a.services.now (search rules) _ _ _ _ _ c.in-Refused.is c.answer_frame.ensures refl refl

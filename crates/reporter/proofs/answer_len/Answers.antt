@@ -3,7 +3,6 @@
 use Prim.Native.Nat.{ℕ, zero, suc, ◌+◌, ◌*◌}
 use mathlib.Core.Path.{◌≡◌, refl, sym, ap, ◌∙◌}
 use native.Mathlib.Omega.{arith}
-use borrow.Author.Rules.{rules}
 use Rattle.reporter.specs.Rules.{answer_length}
 use Rattle.reporter.proofs.Meaning.{carried_length}
 use Rattle.reporter.proofs.answer_len.Goals as goal

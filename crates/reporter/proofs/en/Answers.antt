@@ -1,6 +1,5 @@
 -- `en` meets its contract.
 -- Assumes nothing.
-use borrow.Author.Rules.{rules}
 use Rattle.reporter.specs.Layout.{head_of}
 use Rattle.reporter.proofs.en.Goals as goal
 

@@ -1,8 +1,6 @@
 -- `new` meets its contract.
 -- Assumes nothing.
 use mathlib.Core.Path.{sym, ◌∙◌}
-use borrow.Author.Rules.{rules}
-use borrow.Author.Tests.{not-true, not-false}
 use Rattle.reporter.proofs.CallLaws.{makes_not, makes, id_bad, id_good}
 use Rattle.reporter.proofs.new.Goals as goal
 

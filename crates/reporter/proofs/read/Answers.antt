@@ -1,6 +1,5 @@
 -- `read` meets its contract.
 -- Assumes nothing.
-use borrow.Author.Rules.{rules}
 use mathlib.Core.Path.{refl, sym, ◌∙◌}
 use Rattle.reporter.specs.Layout.{head_of}
 use Rattle.reporter.proofs.CallLaws.{reads}

@@ -1,7 +1,6 @@
 -- `acknowledge::hear` meets its contract: the answer of `read_frame` picks the case of `ea_in_answer`.
 -- Assumes nothing.
 use mathlib.Core.Path.{sym, ap, ◌∙◌}
-use borrow.Author.Rules.{rules}
 use Rattle.reporter.specs.Rules.{ea_in_answer}
 use Rattle.reporter.proofs.acknowledge.hear.Goals as goal
 

@@ -1,6 +1,5 @@
 -- `acknowledge::hear_frame` meets its contract.
 -- Assumes nothing.
-use borrow.Author.Rules.{rules}
 use Rattle.reporter.proofs.acknowledge.hear_frame.Goals as goal
 
 pub returns-in-Soc : goal.returns-in-Soc

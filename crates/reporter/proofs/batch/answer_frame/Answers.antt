@@ -3,7 +3,6 @@
 use native.Mathlib.Omega.{arith}
 use mathlib.Core.List.{◌++◌}
 use lib.ListN.{length-append}
-use borrow.Author.Rules.{rules}
 use Rattle.section.proofs.Behind.{behind_refused, behind_bound, behind_written}
 use Rattle.section.proofs.Sections.{refuses}
 use Rattle.reporter.specs.Layout.{head_of}

@@ -1,7 +1,5 @@
 -- `batch::carried` meets its contract.
 -- Assumes nothing.
-use borrow.Author.Rules.{rules}
-use borrow.Author.Tests.{not-true, not-false}
 use Rattle.reporter.proofs.Tests.{carries_open, carries_all, carries_four}
 use Rattle.reporter.proofs.batch.carried.Goals as goal
 

@@ -3,19 +3,14 @@
 -- Assumes nothing.
 use Prim.Native.Nat.{ℕ, ◌+◌, ◌-◌, ◌≤◌}
 use mathlib.Core.Path.{◌≡◌, sym, ap, ◌∙◌}
-use mathlib.Core.List.{List, [], ◌∷◌}
+use mathlib.Core.List.{List, [], ◌∷◌, ◌++◌}
 use native.Mathlib.Omega.{arith}
 use lib.ListN.{length, replicate, set, length-replicate, length-set, replicate-append-replicate}
 use lib.Seq.{sets}
 use borrow.Author.Rules.{rules}
 use Rattle.octets.proofs.Sets.{sets_append}
+use Rattle.reporter.proofs.batch.fill.Invariants.{Cleared}
 use Rattle.reporter.proofs.batch.fill.Goals as goal
-
-record Cleared (len : ℕ) (before target : List ℕ) (at : ℕ) : Type 0 where
-  pub from : len ≤ at
-  pub to : at ≤ len + (42 - len)
-  pub long : length target ≡ length before
-  pub zeros : target ≡ sets before len (replicate (at - len) 0)
 
 -- one more zero
 more : (len : ℕ) (before target : List ℕ) (at : ℕ) → Cleared len before target at → at + 1 ≤ len + (42 - len) → Cleared len before (set target at 0) (at + 1)
@@ -31,7 +26,7 @@ more len before target at c h =
       zeros = ap (λ (l : List ℕ). set l at 0) c.zeros
           ∙ ap (λ (i : ℕ). set (sets before len zs) i 0) here
           ∙ sym (sets_append before len zs (0 ∷ []))
-          ∙ ap (sets before len) (replicate-append-replicate k 1 0)
+          ∙ ap (sets before len) {x = zs ++ (0 ∷ [])} {y = replicate (k + 1) 0} (replicate-append-replicate k 1 0)
           ∙ ap (λ (n : ℕ). sets before len (replicate n 0)) one;
     }
 

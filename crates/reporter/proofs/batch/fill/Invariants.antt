@@ -2,14 +2,17 @@
 -- left.
 -- Assumes nothing.
 use Prim.Native.Nat.{ℕ, ◌+◌, ◌-◌, ◌≤◌}
-use mathlib.Core.Path.{◌≡◌, sym, ap, ◌∙◌}
-use mathlib.Core.List.{List, [], ◌∷◌}
-use native.Mathlib.Omega.{arith}
-use lib.ListN.{length, replicate, set, length-replicate, length-set, replicate-append-replicate}
+use mathlib.Core.Path.{◌≡◌}
+use mathlib.Core.List.{List}
+use lib.ListN.{length, replicate}
 use lib.Seq.{sets}
-use borrow.Author.Rules.{rules}
-use Rattle.octets.proofs.Sets.{sets_append}
 use Rattle.reporter.proofs.batch.fill.Given as goal
+
+pub record Cleared (len : ℕ) (before target : List ℕ) (at : ℕ) : Type 0 where
+  pub from : len ≤ at
+  pub to : at ≤ len + (42 - len)
+  pub long : length target ≡ length before
+  pub zeros : target ≡ sets before len (replicate (at - len) 0)
 
 abbrev pub invariant-loop-at : goal.invariant-loop-at
 invariant-loop-at l = Cleared l.len l.initial.target l.target l.at

@@ -1,11 +1,12 @@
 -- `batch::first_four` meets its contract.
 -- Assumes nothing.
 use borrow.Author.Rules.{rules}
-use mathlib.Core.Path.{ap, ◌∙◌}
+use mathlib.Core.Path.{◌≡◌, ap, ◌∙◌}
 use Prim.Native.Nat.{ℕ, ◌+◌}
+use lib.ListN.{length}
 use native.Mathlib.Omega.{arith}
 use Rattle.records.specs.Ring.{ring}
-use Rattle.reporter.specs.Layout.{places, entry_in}
+use Rattle.reporter.specs.Layout.{reporter_length, places, entry_in}
 use Rattle.reporter.specs.Rules.{batch_length}
 use Rattle.reporter.proofs.Entries.{entry_got, four_got}
 use Rattle.reporter.proofs.batch.first_four.Goals as goal
@@ -18,7 +19,7 @@ overflow_add-at-3 c =
 pub returns : goal.returns
 returns c =
     let s = c.args.state.now in
-    let size = c.get-arg-1.given.0 in
+    let size : length s ≡ reporter_length = search rules in
     let at : ℕ = c.start-at.result in
     four_got s at _ _ _ _
     (entry_got s at _ _ _ size c.record_place.ensures c.get.ensures.answer c.or_terminator.ensures)

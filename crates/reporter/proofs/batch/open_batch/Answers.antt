@@ -1,9 +1,6 @@
 -- `batch::open_batch` meets its contract.
 -- Assumes nothing.
-use borrow.Author.Rules.{rules}
-use mathlib.Core.Logic.{⊎_elim}
 use mathlib.Core.Path.{◌≡◌}
-use borrow.Author.Tests.{not-true, not-false}
 use Rattle.types.specs.Codes.{pick}
 use Rattle.reporter.specs.Layout.{en_of}
 use Rattle.reporter.proofs.Tests.{en_octet, opens_nothing, opens_some, opens_octets}
@@ -23,10 +20,10 @@ pub returns : goal.returns
 returns c =
     let s = c.args.state.now in
     let x : c.if-en.state ≡ pick (en_of s) 0 1 =
-    ⊎_elim
-    (λ y. en_octet s _ _ c.en.ensures y.0.taken y.1)
-    (λ y. en_octet s _ _ c.en.ensures y.0.left y.1)
-    c.if-en.branch in (
+    elim c.if-en.branch [
+      | goal.then-en y ↦ en_octet s _ _ c.en.ensures y.if-en.true y.state-is
+      | goal.else-en y ↦ en_octet s _ _ c.en.ensures y.if-en.false y.state-is
+    ] in (
       opens_octets s c.opens.result c.opens.ensures.0 c.if-not-opens.false _ _ c.carried-n.ensures.0 c.waiting.ensures.0 _ x,
       c.opens.ensures.1,
     )

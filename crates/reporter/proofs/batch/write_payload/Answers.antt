@@ -1,9 +1,5 @@
 -- `batch::write_payload` meets its contract.
 -- Assumes nothing.
-use mathlib.Core.Path.{◌≡◌, ap, ◌∙◌}
-use lib.ListN.{length}
-use borrow.Author.Rules.{rules}
-use Rattle.section.specs.declared.WriteAnswer.TheVariants.{Written}
 use Rattle.reporter.specs.Layout.{head_of}
 use Rattle.reporter.specs.Rules.{opened, answer_payload}
 use Rattle.reporter.proofs.AnswerLaws.{filled_short, filled_refused, filled_written, payload_writes}

@@ -1,6 +1,5 @@
 -- `close` meets its contract.
 -- Assumes nothing.
-use borrow.Author.Rules.{rules}
 use Rattle.reporter.proofs.state.close.Goals as goal
 
 pub returns : goal.returns

@@ -2,7 +2,6 @@
 -- Assumes nothing.
 use mathlib.Core.Path.{ap}
 use lib.Dec.{ltb}
-use borrow.Author.Rules.{rules}
 use Rattle.reporter.specs.Rules.{queue_length}
 use Rattle.reporter.proofs.state.has_room.Goals as goal
 

@@ -3,7 +3,6 @@
 use mathlib.Core.Bool.{false}
 use mathlib.Core.Path.{sym, ◌∙◌}
 use lib.Dec.{ltb}
-use borrow.Author.Rules.{rules}
 use Rattle.types.proofs.Modes.{is_terminator, is_entry}
 use Rattle.reporter.specs.Rules.{is_raisable}
 use Rattle.reporter.proofs.state.raisable.Goals as goal
