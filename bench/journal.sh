@@ -1,10 +1,10 @@
 #!/bin/sh
 # Lists a journal of 100 MB, of records that differ in every field, with the program `journal` and with a plain C program
-# that uses printf, in turn, and prints the medians of seven rounds and their ratio. Needs cc and target/bin/journal (rt check
-# journal).
+# that uses printf, in turn, and prints the medians of seven rounds and their ratio. Needs cc and crates/journal/out/journal
+# (tests/program.sh journal).
 set -eu
 cd "$(dirname "$0")/.."
-journal=target/bin/journal
+journal=crates/journal/out/journal
 dir=$(mktemp -d)
 trap 'rm -rf "$dir"' EXIT
 cc -O2 -Wall -Wextra -Werror bench/journal_printf.c -o "$dir/printf"

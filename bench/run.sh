@@ -2,7 +2,7 @@
 # Builds powerlink-rs unchanged and bench/speed.rs, and times our C functions beside it. Writes all rows to docs/performance.txt,
 # and prints them by group. ROUNDS says how many rounds (501); ROWS picks rows by a part of their name, which are then only
 # printed. Needs rustc, the sources of powerlink-rs (POWERLINK_RS names another folder than the one beside the repository) and
-# the archive that `rt staticlib powerlink` makes (POWERLINK_LIB_DIR names another folder than target/staticlib).
+# the archive that tests/archive.sh makes (POWERLINK_LIB_DIR names another folder than target/staticlib).
 set -eu
 cd "$(dirname "$0")/.."
 if ! lacks=$(tests/compare/inputs.sh); then
@@ -11,7 +11,7 @@ if ! lacks=$(tests/compare/inputs.sh); then
 fi
 lib=${POWERLINK_LIB_DIR:-target/staticlib}
 if [ ! -f "$lib/libpowerlink.a" ]; then
-    echo "there is no $lib/libpowerlink.a: run \`rt staticlib powerlink\`" >&2
+    echo "there is no $lib/libpowerlink.a: run tests/archive.sh" >&2
     exit 1
 fi
 oracle=target/oracle

@@ -15,7 +15,7 @@ fn main() {
     println!("cargo::rerun-if-changed={}", archive.display());
     if !archive.is_file() {
         println!(
-            "cargo::error=there is no {}: run `rt staticlib powerlink` at the repository's root, \
+            "cargo::error=there is no {}: run `tests/archive.sh` at the repository's root, \
              or name the folder that holds libpowerlink.a in POWERLINK_LIB_DIR",
             archive.display()
         );

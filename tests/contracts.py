@@ -12,14 +12,9 @@ from sources import functions
 MUTABLE = re.compile(r"&(?:'\w+ )?mut\b")
 
 
-def names(parameter):
-    """A parameter's name as a contract writes it."""
-    return rf'(?:\b{parameter}\b|«{parameter}»)'
-
-
-def speaks_of_result(clause):
-    result, _, said = clause.removeprefix('λ ').partition('. ')
-    return result != '_' and re.search(rf'(?<![\w.-]){re.escape(result)}(?![\w-])', said)
+# The result, and what such a parameter holds at the end, as a clause writes them.
+RESULT = re.compile(r'(?<![\w.-])result(?![\w-])')
+AT_THE_END = r'(?<![\w.-])(?:{0}|«{0}»)\.new\b'
 
 
 def faults(function):
@@ -28,10 +23,10 @@ def faults(function):
     if not function.ensures:
         yield 'has no ensures'
         return
-    if function.result and not any(map(speaks_of_result, function.ensures)):
+    if function.result and not any(map(RESULT.search, function.ensures)):
         yield 'has an ensures that does not speak of its result'
     for name, kind in function.parameters:
-        if MUTABLE.match(kind) and not re.search(rf'{names(name)} \.exit\b', ' '.join(function.ensures)):
+        if MUTABLE.match(kind) and not re.search(AT_THE_END.format(re.escape(name)), ' '.join(function.ensures)):
             yield f'has an ensures that does not speak of what `{name}` holds at the end'
 
 

@@ -1,7 +1,9 @@
 """include/powerlink.h says what the sources say. Run this at the repository's root.
 
-- Every exported function of crates/powerlink/src is declared, with the same parameters in the same order, and no other:
+- Every exported function of crates/powerlink_c/src is declared, with the same parameters in the same order, and no other:
   a lent slice is a pointer and a length, an array has its length, what is not `&mut` is const, and pointers are restrict.
+- The exported functions are the public ones of crates/powerlink/src, each with the parameters, the result and the contract of the
+  one that it calls, and with nothing but that call.
 - Every declaration has a comment of its own. Its causes and their order are those of the contract: of a writer, as its
   definition in specs/Given.antt tests them; of loading a table, as its definition in services/specs/Load.antt does; of any
   other call, as ORDERS has them. `octet` goes with those of 4 to 7. What else the comments say is not looked at.
@@ -15,6 +17,8 @@ import functools
 import pathlib
 import re
 import sys
+
+from sources import functions
 
 CRATES = pathlib.Path('crates')
 HEADER = pathlib.Path('include/powerlink.h')
@@ -38,7 +42,7 @@ def constant(crate, name):
     code = code_of(crate)
     found = re.search(rf'\bconst {name}: [^=]*= ([^;]+);', code)
     if not found:
-        owner = re.search(rf'^(?:pub )?use (\w+)::(?:\w+::)*{name};', code, re.M)
+        owner = re.search(rf'^(?:pub )?use (\w+)::[^;]*\b{name}\b[^;]*;', code, re.M)
         return constant(owner[1], name)
     if found[1].startswith('['):
         return [value_of(crate, item) for item in found[1].strip('[]').split(',') if item.strip()]
@@ -90,23 +94,23 @@ CONSTANTS = {
 
 # Tables of codes, with the name of a constant for that of a variant.
 CODES = {
-    ('Messages', 'messageCode'): str.upper,
-    ('States', 'stateCode'): lambda name: re.sub('^NMT_(CS_)?', '', snake(name)),
-    ('RequestedServices', 'requestedCode'): snake,
-    ('PollFlags', 'priorityCode'): lambda name: 'PRIO_' + snake(name).removeprefix('PRIO_'),
-    ('Modes', 'modeCode'): snake,
+    ('Messages', 'message_code'): str.upper,
+    ('States', 'state_code'): lambda name: re.sub('^NMT_(CS_)?', '', snake(name)),
+    ('RequestedServices', 'requested_code'): snake,
+    ('PollFlags', 'priority_code'): lambda name: 'PRIO_' + snake(name).removeprefix('PRIO_'),
+    ('Modes', 'mode_code'): snake,
 }
 
 # Lists of values: the definition, and what its constants begin with. What all kinds of frames share has no kind.
 VALUES = [
-    ('c_values/specs/Values.antt', r'socNumbers f p', 'SOC_'),
-    ('c_values/specs/Values.antt', r'preqNumbers f p', 'PREQ_'),
-    ('c_values/specs/Values.antt', r'presNumbers f p', 'PRES_'),
-    ('c_values/specs/Values.antt', r'soaNumbers f p', 'SOA_'),
-    ('c_values/specs/Values.antt', r'asndNumbers f p', 'ASND_'),
-    ('c_values/specs/Values.antt', r'statusNumbers f', 'STATUS_'),
-    ('error_entry/specs/Values.antt', r'entryNumbers e', 'ENTRY_'),
-    ('powerlink/specs/Reading.antt', r'plAfter \(pl.Read h\) before', 'PL_'),
+    ('c_values/specs/Values.antt', r'soc_numbers f p', 'SOC_'),
+    ('c_values/specs/Values.antt', r'preq_numbers f p', 'PREQ_'),
+    ('c_values/specs/Values.antt', r'pres_numbers f p', 'PRES_'),
+    ('c_values/specs/Values.antt', r'soa_numbers f p', 'SOA_'),
+    ('c_values/specs/Values.antt', r'asnd_numbers f p', 'ASND_'),
+    ('c_values/specs/Values.antt', r'status_numbers f', 'STATUS_'),
+    ('error_entry/specs/Values.antt', r'entry_numbers e', 'ENTRY_'),
+    ('powerlink/specs/Reading.antt', r'pl_after \(pl.Read h\) before', 'PL_'),
 ]
 SHARED = ['MESSAGE_TYPE', 'DESTINATION', 'SOURCE', 'PAYLOAD_START', 'PAYLOAD_LEN']
 FIELD_NAMES = {
@@ -124,17 +128,21 @@ FIELD_NAMES = {
 }
 
 
+def one_word(name):
+    return name.replace('_', '').upper()
+
+
 def cause_numbers():
     """The numbers of the causes, by their names in specs/."""
     return {name: int(number) for name, number in re.findall(r'^(\w+) = (\d+)$', text_of('types/specs/CauseNumbers.antt'), re.M)}
 
 
 def causes():
-    """The causes of the sources, whose names in specs/ are the same."""
+    """The causes of the sources, whose names in specs/ are the same but for letters' size and for where words are parted."""
     yield 'DONE', 0
-    in_specs = {snake(name): number for name, number in cause_numbers().items()}
+    in_specs = {one_word(name): number for name, number in cause_numbers().items()}
     for name, number in re.findall(r'^pub const (\w+): u8 = (\d+);$', text_of('types/src/causes.rt'), re.M):
-        if in_specs.pop(name, None) == int(number):
+        if in_specs.pop(one_word(name), None) == int(number):
             yield name, int(number)
         else:
             yield f'{name} of types/src/causes.rt, which is not that of types/specs/CauseNumbers.antt', int(number)
@@ -148,7 +156,7 @@ def places():
             if item == '0':
                 continue
             named = [name for name in re.findall(r'\.«?(\w+)', item) if not name.isdigit()]
-            field = 'message_type' if item.startswith('messageCode') else named[-1]
+            field = 'message_type' if item.startswith('message_code') else named[-1]
             name = FIELD_NAMES.get(field, field.upper())
             frame = left.endswith(' p')
             yield (name if frame and name in SHARED else prefix + name), place
@@ -160,19 +168,19 @@ def lengths():
     for (file, table), named in CODES.items():
         for variant, value in equations(text_of('types', 'specs', f'{file}.antt'), table):
             yield named(variant), int(value, 0)
-    request = re.search(r'length \(requestFrame .*\) ≡ (\d+)$', text_of('collector/specs/Calls.antt'), re.M)
+    request = re.search(r'length \(request_frame .*\) ≡ (\d+)$', text_of('collector/specs/Calls.antt'), re.M)
     yield 'REQUEST_LEN', int(request[1])
     rules = text_of('reporter/specs/Rules.antt')
-    front, entry = re.search(r'^answerLength \(suc n\) = (\d+) \+ (\d+) \* suc n$', rules, re.M).groups()
-    batch = re.search(r'^batchLength = (\d+)$', rules, re.M)
+    front, entry = re.search(r'^answer_length \(suc n\) = (\d+) \+ (\d+) \* suc n$', rules, re.M).groups()
+    batch = re.search(r'^batch_length = (\d+)$', rules, re.M)
     yield 'ANSWER_MAX', int(front) + int(entry) * int(batch[1])
-    start = items(text_of('journal_records/specs/ReadBack.antt'), 'journalStart')
+    start = items(text_of('journal_records/specs/ReadBack.antt'), 'journal_start')
     yield 'JOURNAL_START', [int(octet) for octet in start]
 
 
 def services():
     """The twelve services by their names, and their table: what C leaves out at an array's end is 0."""
-    ids = [int(octet, 0) for octet in items(text_of('services/specs/Ids.antt'), 'ds301Ids')]
+    ids = [int(octet, 0) for octet in items(text_of('services/specs/Ids.antt'), 'ds301_ids')]
     named = re.findall(r'^pub const (\w+): u8 = (\w+);$', text_of('services/src/lib.rt'), re.M)
     for name, octet in named:
         yield name, int(octet, 0)
@@ -187,7 +195,7 @@ def services():
 
 def outcomes():
     for crate in ['reporter', 'collector']:
-        for variant, value in re.findall(r'^readCause (\w+) = row 0 \((\d+) ∷ \[\]\)$', text_of(crate, 'specs/Rules.antt'), re.M):
+        for variant, value in re.findall(r'^read_cause (\w+) = row 0 \((\d+) ∷ \[\]\)$', text_of(crate, 'specs/Rules.antt'), re.M):
             yield snake(variant), int(value)
 
 
@@ -195,7 +203,7 @@ def outcomes():
 
 SCALARS = {'u8': 'uint8_t', 'u16': 'uint16_t', 'u32': 'uint32_t', 'u64': 'uint64_t', 'usize': 'size_t', 'bool': 'bool'}
 EXPORTED = re.compile(
-    r'^(#\[no_mangle\]\s+)?(?:pub(?:\(\w+\))? )?extern "C" fn (\w+)\((.*?)\)\s*->\s*(\w+)\s+ensures \{ λ r\. ⌜ (\w+)(?: \((\w+))?',
+    r'^(#\[unsafe\(no_mangle\)\]\s+)?(?:pub(?:\(\w+\))? )?extern "C" fn (\w+)\((.*?)\)\s*->\s*(\w+)\s+ensures \{ (\w+)(?: \((\w+))?',
     re.M | re.S,
 )
 
@@ -214,8 +222,8 @@ NAMED = {'typed': 4, 'stated': 5, 'served': 6, 'requested': 7}
 def load_order():
     """The causes of loading a table, in the order in which its definition names their cases."""
     text = text_of('services/specs/Load.antt')
-    rows = {case: value.split()[1] for case, value in equations(text, 'loadCause')}
-    tests = ' '.join(re.search(rf'^{name} \w+ = (.*)$', text, re.M)[1] for name in ('loadAnswer', 'idsAnswer'))
+    rows = {case: value.split()[1] for case, value in equations(text, 'load_cause')}
+    tests = ' '.join(re.search(rf'^{name} \w+ = (.*)$', text, re.M)[1] for name in ('load_answer', 'ids_answer'))
     return [cause_numbers()[rows[word]] for word in re.findall(r'\w+', tests) if rows.get(word, '0') != '0']
 
 
@@ -257,11 +265,33 @@ def exported():
     for crate in ('reporter', 'collector', 'services'):
         for name, length in re.findall(r'^pub type (\w+) = \[u8; (\w+)\];', code_of(crate), re.M):
             arrays[name] = f'[u8; {constant(crate, length)}]'
-    for mangled, name, parameters, result, contract, given in EXPORTED.findall(code_of('powerlink')):
+    for mangled, name, parameters, result, contract, given in EXPORTED.findall(code_of('powerlink_c')):
         found = []
         for parameter in filter(None, (' '.join(part.split()) for part in parameters.split(','))):
             found += as_c(*parameter.split(': ', 1), arrays)
         yield name, (SCALARS[result], found), bool(mangled), order(contract, given), contract in MAKERS
+
+
+def calls():
+    """What an exported function is beside a call of the library's function of its name, under that one's contract."""
+
+    def said(crate):
+        source = CRATES / crate / 'src'
+        for path in sorted(source.rglob('*.rt')):
+            for function in functions(path.relative_to(source).as_posix(), path.read_text(encoding='utf-8')):
+                if function.public:
+                    yield function.name, function._replace(public=None)
+
+    library, exports = dict(said('powerlink')), dict(said('powerlink_c'))
+    for name in sorted(library.keys() ^ exports.keys()):
+        yield f'{name} is public in {"powerlink" if name in library else "powerlink_c"} alone'
+    for name in sorted(library.keys() & exports.keys()):
+        if library[name] != exports[name]:
+            yield f'{name} is exported with other parameters, another result or another contract than those of powerlink'
+        given = r',\s*'.join(parameter for parameter, _ in exports[name].parameters)
+        place, _, called = name.rpartition('::')
+        if not re.search(rf'fn {called}\b[^}}]*}}\s*\{{\s*powerlink::{place}::{called}\(\s*{given},?\s*\)\s*\}}', code_of('powerlink_c')):
+            yield f'{name} is exported as something else than the call of powerlink with its own parameters'
 
 
 def versions():
@@ -330,7 +360,7 @@ def function_faults(header):
         if other != ([plain] if plain != name else []):
             yield f'{name} is called by {other or "this name"}'
         if not mangled:
-            yield f'{name} is exported without #[no_mangle]'
+            yield f'{name} is exported without #[unsafe(no_mangle)]'
         if name not in header.functions:
             yield f'{name} is not declared'
         elif header.functions[name] != signature:
@@ -370,7 +400,7 @@ def constant_faults(header):
 
 def main():
     header = Header(HEADER.read_text(encoding='utf-8'))
-    found = list(dict.fromkeys([*header.faults, *function_faults(header), *constant_faults(header)]))
+    found = list(dict.fromkeys([*header.faults, *calls(), *function_faults(header), *constant_faults(header)]))
     functions, constants = len(header.functions), len(header.constants)
     print('\n'.join(found) or f'powerlink.h: {functions} functions and {constants} constants are those of the sources')
     return 1 if found else 0

@@ -1,16 +1,18 @@
 """moved.py OLD NEW [--logs OLDLOG NEWLOG] [--out FILE]: what a change moved, and what stayed. Run this at the repository's root.
 
-OLD and NEW are commits; NEW may be `.`, the files as they are. By name, for each crate:
+OLD and NEW are commits; NEW may be `.`, the files as they are. A commit from before the move to today's Rattle is not compared: its
+contracts, definitions and names are spelled otherwise, so that nearly all would count as changed. By name, for each crate:
 - the definitions of specs/, compared by their text without comments and layout;
 - the contracts of src/, those of public functions and the others apart, compared by their clauses; beside a contract stand the
   definitions that it cites and that changed, so that a promise whose words stayed is seen to say something else;
 - the proofs: of each function, and each law of the other files.
 What has the same text under the same name in another file has moved. Standard output has the counts, and the names of what
-did not stay; FILE has the names of what stayed too. With two logs of the gate it prints the seconds of each crate.
+did not stay; FILE has the names of what stayed too. With two logs of the gate it prints after how many seconds each crate was proved.
 """
 import argparse
 import collections
 import io
+import itertools
 import pathlib
 import re
 import subprocess
@@ -20,10 +22,14 @@ import tarfile
 from sources import bare, declarations, functions
 
 KINDS = ['definitions', 'public contracts', 'other contracts', 'proofs']
+# The files of a function's proof.
+OF_FUNCTION = ['Answers', 'Invariants', 'Proof']
 STATES = ['added', 'changed', 'removed', 'moved', 'stayed']
-CITED = re.compile(r'ghost use Rattle·(\w+?)(?:·specs)?\.specs\.(\w[\w.]*)\.\{([^}]*)\}')
+CITED = re.compile(r'ghost use Rattle\.(\w+)\.specs\.(\w[\w.]*)\.\{([^}]*)\}')
+# What stands in the contracts of an older Rattle alone.
+OLDER = re.compile(r'ghost use \w+·|^ *(?:requires|ensures) \{ (?:λ \w+\. )?⌜', re.M)
 GATE = re.compile(r'^in all (\d+) s, (\d+) s of processor time$', re.M)
-WORD = re.compile(r'[^\s(){},.;⌜⌝«»]+')
+WORD = re.compile(r'[^\s(){},.;«»]+')
 
 
 class Item:
@@ -41,7 +47,8 @@ def files(commit):
     """The files of crates/ at a commit: path and text."""
     if commit == '.':
         for path in sorted(pathlib.Path('crates').rglob('*')):
-            if path.suffix in ('.rt', '.antt'):
+            # What rt makes lies in out/.
+            if path.suffix in ('.rt', '.antt') and path.parts[2] != 'out':
                 yield path.as_posix(), path.read_text(encoding='utf-8')
         return
     packed = subprocess.run(['git', 'archive', commit, 'crates'], capture_output=True, check=True).stdout
@@ -70,11 +77,12 @@ def contracts(crate, path, text):
 
 
 def proofs(crate, path, text):
-    """A function's proof is one, whatever laws stand in front of it; elsewhere each law is."""
+    """A function's proof is one, whatever its files are and its laws in front of it; elsewhere each law is."""
     found = declarations(text)
-    if path.endswith('/Proof'):
-        place, _, name = path.removesuffix('/Proof').rpartition('/')
-        found = [(name, bare(' '.join(law for _, law in found)))]
+    folder, _, file = path.rpartition('/')
+    if file in OF_FUNCTION:
+        place, _, name = folder.rpartition('/')
+        found = [(name, f'{file}: ' + bare(' '.join(law for _, law in found)))]
     else:
         place = path
     for name, law in found:
@@ -84,7 +92,9 @@ def proofs(crate, path, text):
 def items(commit):
     """All definitions, contracts and proofs of a commit: for each kind, by crate, place and name."""
     found = {kind: {} for kind in KINDS}
-    for path, text in files(commit):
+    for path, text in sorted(files(commit)):
+        if path.endswith('.rt') and OLDER.search(text):
+            sys.exit(f'{commit} is from before the move to today\'s Rattle ({path}): it is not compared')
         _, crate, folder, rest = path.split('/', 3)
         rest = rest.rsplit('.', 1)[0]
         if folder == 'specs':
@@ -94,6 +104,9 @@ def items(commit):
         else:
             pairs = proofs(crate, rest, text)
         for kind, key, item in pairs:
+            # A function's proof has several files.
+            if kind == 'proofs' and key in found[kind]:
+                item = Item(f'{found[kind][key].text} {item.text}')
             found[kind][key] = item
     return found
 
@@ -160,18 +173,18 @@ def report(old, new, whole):
 
 
 def seconds(log):
-    """The seconds of each crate in a gate's log, of its proof and of its edits; and of the gate, with those of the processors."""
+    """The seconds after which each crate was proved, in a gate's log; and those of the gate, with those of the processors."""
     command = [pathlib.Path(__file__).parent / 'seconds.sh', log]
     lines = subprocess.run(command, capture_output=True, text=True, check=True).stdout
-    found = re.findall(r'^seconds (\w+) (\d+) (\d+)$', lines, re.M)
+    found = re.findall(r'^seconds (\w+) (\d+)$', lines, re.M)
     found += [('gate', *pair) for pair in GATE.findall(pathlib.Path(log).read_text(encoding='utf-8', errors='replace'))]
     return {name: pair for name, *pair in found}
 
 
 def times(before, after):
-    yield 'seconds, before and after: proof; edits (of the gate: time; processor time)'
-    for name in sorted(before.keys() | after.keys(), key=lambda name: (name in ('all', 'gate'), name)):
-        pairs = zip(before.get(name, '--'), after.get(name, '--'))
+    yield 'seconds after which each was proved, before and after (of the gate: its time; processor time)'
+    for name in sorted(before.keys() | after.keys(), key=lambda name: (name == 'gate', name)):
+        pairs = itertools.zip_longest(before.get(name, ()), after.get(name, ()), fillvalue='-')
         yield f'  {name}: ' + '; '.join(f'{was} -> {now}' for was, now in pairs)
 
 

@@ -27,31 +27,41 @@ OLD = {
         gone = 0
     """,
     'a/src/lib.rt': """
-        ghost use Rattle·a·specs.specs.Sizes.{size, kept};
+        ghost use Rattle.a.specs.Sizes.{size, kept};
 
         // A comment.
         pub fn fits(n: usize) -> bool
-            ensures { λ r. ⌜ r ≡ leb n size ⌝ }
+            ensures { result ≡ leb n size }
         {
             n <= 4
         }
 
         pub fn twice(n: usize) -> usize
-            ensures { λ r. ⌜ r ≡ n ⌝ }
+            ensures { result ≡ n }
         {
             n
         }
 
         fn own(n: usize) -> usize
-            requires { ⌜ n ≤ 4 ⌝ }
-            ensures { λ r. ⌜ r ≡ kept n ⌝ }
+            requires { n ≤ 4 }
+            ensures value { result ≡ kept n }
         {
             n
         }
     """,
-    'a/proofs/fits/Proof.antt': """
-        returns : tie.Need-returns
-        returns c = search needs
+    'a/proofs/fits/Answers.antt': """
+        use Rattle.a.proofs.fits.Goals as goal
+
+        pub returns : goal.returns
+        returns c = search rules
+    """,
+    'a/proofs/own/Invariants.antt': """
+        pub loop-n : ℕ → ℕ
+        loop-n n = n
+    """,
+    'a/proofs/own/Answers.antt': """
+        pub returns : goal.returns
+        returns c = refl
     """,
     'a/proofs/Laws.antt': """
         pub low : 0 ≤ 1
@@ -61,17 +71,27 @@ OLD = {
         high = omega arith
     """,
 }
+# A contract as an older Rattle has it.
+OLDER = """
+        fn own(n: usize) -> usize
+            ensures { λ r. ⌜ r ≡ n ⌝ }
+        {
+            n
+        }
+    """
 # The text of a file in the second commit, made of the first by replacing texts; or the file that it moved to.
 CHANGES = {
     'a/specs/Sizes.antt': [('-- a comment', '-- another'), ('size = 4', 'size = 5'), ('kept n = n', 'kept n =\n            n'), ('(n : ℕ) where\n', '(m n : ℕ) where\n')],
     'a/specs/Gone.antt': 'a/specs/Here.antt',
-    'a/src/lib.rt': [('// A comment.\n', ''), ('n <= 4', 'n <= 5'), ('⌜ r ≡ n ⌝', '⌜ r ≡ n + n ⌝'), ('n ≤ 4', 'n ≤ 5')],
-    'a/proofs/fits/Proof.antt': [('search needs', 'search (needs)')],
+    'a/src/lib.rt': [('// A comment.\n', ''), ('n <= 4', 'n <= 5'), ('result ≡ n }', 'result ≡ n + n }'), ('n ≤ 4', 'n ≤ 5')],
+    'a/proofs/fits/Answers.antt': [('search rules', 'search (rules)')],
+    'a/proofs/own/Invariants.antt': [('loop-n n = n', 'loop-n n = 1')],
+    'a/proofs/own/Answers.antt': [],
     'a/proofs/Laws.antt': [('high', 'upper')],
 }
 LOGS = [
-    'rt: a proved (12 s)\nrt: must-fail a/wrong: refused, as it must be (first at proofs/Laws.antt:1:1; 3 s)\nin all 20 s, 30 s of processor time\n',
-    "rt: a proved (5 s)\nrt: a ran as nobody, and wrote what its file 'stdout' has (1 s)\nrt: must-fail a/wrong: refused, as it must be (2 s)\nin all 9 s, 12 s of processor time\n",
+    '12 rt: a proved\n15 rt: must-fail a/wrong.edit: refused, as it must be\nin all 20 s, 30 s of processor time\n',
+    '5 rt: a proved\n7 rt: b is kept: an earlier run on this machine proved the same files\nin all 9 s, 12 s of processor time\n',
 ]
 EXPECTED = """\
 a
@@ -83,17 +103,17 @@ a
     stayed: fits (cites what changed: Sizes.size)
   other contracts: 1 changed
     changed: own
-  proofs: 1 added, 1 changed, 1 removed, 1 stayed
+  proofs: 1 added, 2 changed, 1 removed, 1 stayed
     added: Laws.upper
-    changed: fits
+    changed: fits, own
     removed: Laws.high
 all definitions: 0 added, 2 changed, 0 removed, 1 moved, 2 stayed
 all public contracts: 0 added, 1 changed, 0 removed, 0 moved, 1 stayed
 all other contracts: 0 added, 1 changed, 0 removed, 0 moved, 0 stayed
-all proofs: 1 added, 1 changed, 1 removed, 0 moved, 1 stayed
-seconds, before and after: proof; edits (of the gate: time; processor time)
-  a: 12 -> 6; 3 -> 2
-  all: 12 -> 6; 3 -> 2
+all proofs: 1 added, 2 changed, 1 removed, 0 moved, 1 stayed
+seconds after which each was proved, before and after (of the gate: its time; processor time)
+  a: 12 -> 5
+  b: - -> 7
   gate: 20 -> 9; 30 -> 12
 """
 
@@ -134,8 +154,14 @@ def main():
             pathlib.Path(root, name).write_text(log, encoding='utf-8')
         said = run(sys.executable, str(MOVED), 'old', 'new', '--logs', 'old.log', 'new.log', '--out', 'whole')
         whole = pathlib.Path(root, 'whole').read_text(encoding='utf-8')
+        older = dict(OLD, **{'a/src/lib.rt': OLDER})
+        commit(older, 'older')
+        refused = subprocess.run([sys.executable, str(MOVED), 'older', 'new'], cwd=root, capture_output=True, text=True)
     if said != EXPECTED or 'stayed: Sizes.Fits, Sizes.kept\n' not in whole or 'stayed: Laws.low\n' not in whole:
         print(f'moved.py says\n{said}and its file\n{whole}')
+        return 1
+    if refused.returncode == 0 or 'older is from before' not in refused.stderr:
+        print(f'moved.py compares a commit of an older Rattle: {refused.stdout}{refused.stderr}')
         return 1
     print('moved.py: what moved and what stayed is told apart')
     return 0

@@ -5,7 +5,8 @@ import typing
 IMPL = re.compile(r'^impl(?:<[^>]*>)? (\w+).*?^}', re.M | re.S)
 FUNCTION = re.compile(r'^[ \t]*(pub(?:\(\w+\))? )?(?:const )?(?:extern "C" )?fn (\w+)(?:<[^>]*>)?(?=\()', re.M)
 RESULT = re.compile(r'\s*(?:->\s*([^{]*?))?\s*(?=\{|\brequires\b|\bensures\b)')
-CLAUSE = re.compile(r'\s*(requires|ensures) (?=\{)')
+# A clause, with its name where it has one.
+CLAUSE = re.compile(r'\s*(requires|ensures)\*? (?:\w+ )?(?=\{)')
 CLOSES = {'(': ')', '{': '}'}
 # What stands in front of a name that is declared: of a record or of data, or of what has a type.
 WORDS = r'(?:(?:pub|abbrev|unfoldable) )*'

@@ -1,4 +1,4 @@
-//! The declarations in src/ffi.rs against the library's source, ../crates/powerlink/src: the same
+//! The declarations in src/ffi.rs against the library's source, ../crates/powerlink_c/src: the same
 //! functions, with the same parameters in the same order, and states and tables of the same length.
 use std::collections::BTreeMap;
 use std::fs;
@@ -96,7 +96,7 @@ fn declarations_are_those_of_the_source() {
         return;
     };
     let theirs = functions(
-        &source(&crates.join("powerlink")),
+        &source(&crates.join("powerlink_c")),
         "pub extern \"C\" fn ",
         declared,
     );

@@ -80,13 +80,13 @@ mkdir "$out/host"
 "$out/journal" > "$out/plb"
 
 # Journals, as the program `journal` lists them.
-if [ ! -x target/bin/journal ]; then
-    skip 'the journals of C programs, listed' 'target/bin/journal: rt check journal'
+if [ ! -x crates/journal/out/journal ]; then
+    skip 'the journals of C programs, listed' 'crates/journal/out/journal: tests/program.sh journal'
     exit 0
 fi
 lists() {
     printf '%s\n' 'node code mode profile sec nsec info' "$@" > "$out/expected"
-    target/bin/journal < "$out/in" | diff "$out/expected" -
+    crates/journal/out/journal < "$out/in" | diff "$out/expected" -
 }
 first='7 1234 1 2 5 6 0000000000000000'
 second='1 ABCD 2 4095 4294967295 6 0123456789ABCDEF'

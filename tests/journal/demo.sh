@@ -3,8 +3,8 @@
 # the first on, each once, and as many as the demo says were taken. What an entry holds is computed here a second time
 # (crates/demo/src/entries.rt).
 set -eu
-demo=${DEMO:-target/bin/demo}
-journal=${JOURNAL:-target/bin/journal}
+demo=${DEMO:-crates/demo/out/demo}
+journal=${JOURNAL:-crates/journal/out/journal}
 dir=$(mktemp -d)
 trap 'rm -rf "$dir"' EXIT
 

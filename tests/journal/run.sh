@@ -1,7 +1,7 @@
 #!/bin/sh
 # Runs the program `journal` on journals that are written here octet by octet; the listings were written by hand from 01.
 set -eu
-journal=${JOURNAL:-target/bin/journal}
+journal=${JOURNAL:-crates/journal/out/journal}
 dir=$(mktemp -d)
 trap 'rm -rf "$dir"' EXIT
 count=0

@@ -3,7 +3,7 @@
 # difference, and refuses what is no sample. In a case of each call and cause every octet that it expects is changed by
 # itself; and each part of a file is broken once.
 set -eu
-replay=${REPLAY:-target/bin/replay}
+replay=${REPLAY:-crates/replay/out/replay}
 sample=crates/replay/stdin
 from_01=tests/replay/from_01
 dir=$(mktemp -d)

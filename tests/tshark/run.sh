@@ -6,11 +6,11 @@ set -eu
 cd "$(dirname "$0")/../.."
 lib=target/staticlib/libpowerlink.a
 if [ ! -f "$lib" ]; then
-    echo "tests/tshark: there is no $lib (rt staticlib powerlink)"
+    echo "tests/tshark: there is no $lib (tests/archive.sh)"
     exit 1
 fi
-if [ -n "$(find crates crates.txt \( -name '*.rt' -o -name crates.txt \) -newer "$lib" | head -n 1)" ]; then
-    echo "tests/tshark: $lib is older than the sources (rt staticlib powerlink)"
+if [ -n "$(find crates crates.txt -name out -prune -o \( -name '*.rt' -o -name crates.txt \) -newer "$lib" -print | head -n 1)" ]; then
+    echo "tests/tshark: $lib is older than the sources (tests/archive.sh)"
     exit 1
 fi
 out=$(mktemp -d)

@@ -19,8 +19,7 @@ use types::states::{NmtState, NmtStateAnswer};
 use types::{EPLVersion, NodeId};
 
 // Makes a fresh state: no node is registered. The name carries the interface's version, as include/powerlink.h tells.
-#[unsafe(no_mangle)]
-pub extern "C" fn powerlink_collector_new_v2(state: &mut Collector) -> u8
+pub fn powerlink_collector_new_v2(state: &mut Collector) -> u8
     ensures { CollectorMakes result state.new }
 {
     new(state);
@@ -28,8 +27,7 @@ pub extern "C" fn powerlink_collector_new_v2(state: &mut Collector) -> u8
 }
 
 // Gives a node a place, with EA 0 and an empty book.
-#[unsafe(no_mangle)]
-pub extern "C" fn powerlink_collector_register(state: &mut Collector, id: u8) -> u8
+pub fn powerlink_collector_register(state: &mut Collector, id: u8) -> u8
     ensures { CollectorRegisters id result state.old state.new }
 {
     match register(state, NodeId(id)) {
@@ -41,8 +39,7 @@ pub extern "C" fn powerlink_collector_register(state: &mut Collector, id: u8) ->
 }
 
 // Reads a frame; the outcome is 0 where its batch was booked before, and 1 where it is booked now.
-#[unsafe(no_mangle)]
-pub extern "C" fn powerlink_collector_read_v2(
+pub fn powerlink_collector_read_v2(
     state: &mut Collector,
     services: &Services,
     buffer: &[u8],
@@ -69,13 +66,7 @@ pub extern "C" fn powerlink_collector_read_v2(
 
 // What every frame of the managing node to a registered node has to carry: EA in a PReq to it, EA and ER in an SoA with it as
 // target.
-#[unsafe(no_mangle)]
-pub extern "C" fn powerlink_collector_flags(
-    state: &Collector,
-    id: u8,
-    ea: &mut bool,
-    er: &mut bool,
-) -> u8
+pub fn powerlink_collector_flags(state: &Collector, id: u8, ea: &mut bool, er: &mut bool) -> u8
     ensures { CollectorFlags id result state.now ea.old ea.new er.old er.new }
 {
     match flags(state, NodeId(id)) {
@@ -89,8 +80,7 @@ pub extern "C" fn powerlink_collector_flags(
 }
 
 // Writes the SoA that asks a registered node for its StatusResponse and tells it EA.
-#[unsafe(no_mangle)]
-pub extern "C" fn powerlink_collector_request(
+pub fn powerlink_collector_request(
     state: &Collector,
     id: u8,
     source_mac: &[u8; 6],
@@ -133,12 +123,7 @@ pub extern "C" fn powerlink_collector_request(
 }
 
 // Hands out the oldest entry of a node's book.
-#[unsafe(no_mangle)]
-pub extern "C" fn powerlink_collector_take(
-    state: &mut Collector,
-    id: u8,
-    values: &mut [u64; 8],
-) -> u8
+pub fn powerlink_collector_take(state: &mut Collector, id: u8, values: &mut [u64; 8]) -> u8
     ensures { CollectorTakes id result state.old state.new values.old values.new }
 {
     match take(state, NodeId(id)) {

@@ -38,8 +38,7 @@ fn put_frame(
 }
 
 // SoC goes from the managing node to all, by its multicast address.
-#[unsafe(no_mangle)]
-pub extern "C" fn powerlink_new_soc(
+pub fn powerlink_new_soc(
     source_mac: &[u8; 6],
     mc: bool,
     ps: bool,
@@ -65,8 +64,7 @@ pub extern "C" fn powerlink_new_soc(
 }
 
 // PReq goes from the managing node to one node, whose address the caller knows.
-#[unsafe(no_mangle)]
-pub extern "C" fn powerlink_new_preq(
+pub fn powerlink_new_preq(
     source_mac: &[u8; 6],
     dest_mac: &[u8; 6],
     target_node: u8,
@@ -93,8 +91,7 @@ pub extern "C" fn powerlink_new_preq(
 }
 
 // PRes goes from a node to all, by its multicast address: 1, then 5.
-#[unsafe(no_mangle)]
-pub extern "C" fn powerlink_new_pres(
+pub fn powerlink_new_pres(
     source_mac: &[u8; 6],
     source: u8,
     state: u8,
@@ -146,8 +143,7 @@ pub extern "C" fn powerlink_new_pres(
 }
 
 // SoA goes from the managing node to all, by its multicast address: 1, then 5, then 7.
-#[unsafe(no_mangle)]
-pub extern "C" fn powerlink_new_soa(
+pub fn powerlink_new_soa(
     source_mac: &[u8; 6],
     state: u8,
     ea: bool,
@@ -195,8 +191,7 @@ pub extern "C" fn powerlink_new_soa(
 
 // ASnd goes from any node to any, so that both addresses and both IDs are the caller's: 1, then 6, where the table does not
 // hold its service.
-#[unsafe(no_mangle)]
-pub extern "C" fn powerlink_new_asnd_v2(
+pub fn powerlink_new_asnd_v2(
     services: &Services,
     source_mac: &[u8; 6],
     dest_mac: &[u8; 6],

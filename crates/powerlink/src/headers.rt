@@ -15,8 +15,7 @@ use types::hal::PowerlinkError;
 use types::message_type::{MessageType, MessageTypeAnswer};
 
 // Reads an Ethernet header, whatever its EtherType.
-#[unsafe(no_mangle)]
-pub extern "C" fn powerlink_deserialize_eth_header(
+pub fn powerlink_deserialize_eth_header(
     buffer: &[u8],
     destination: &mut [u8; 6],
     source: &mut [u8; 6],
@@ -41,12 +40,7 @@ pub extern "C" fn powerlink_deserialize_eth_header(
 }
 
 // Reads what every section begins with: message type, destination, source.
-#[unsafe(no_mangle)]
-pub extern "C" fn powerlink_deserialize_pl_header(
-    buffer: &[u8],
-    values: &mut [u64; 3],
-    octet: &mut u8,
-) -> u8
+pub fn powerlink_deserialize_pl_header(buffer: &[u8], values: &mut [u64; 3], octet: &mut u8) -> u8
     ensures { PlRead buffer.now result values.old values.new octet.old octet.new }
 {
     match deserialize_pl_header(buffer) {
@@ -64,8 +58,7 @@ pub extern "C" fn powerlink_deserialize_pl_header(
 }
 
 // Writes an Ethernet header.
-#[unsafe(no_mangle)]
-pub extern "C" fn powerlink_serialize_eth_header(
+pub fn powerlink_serialize_eth_header(
     destination: &[u8; 6],
     source: &[u8; 6],
     ether_type: u16,
@@ -84,8 +77,7 @@ pub extern "C" fn powerlink_serialize_eth_header(
 }
 
 // Writes what every section begins with.
-#[unsafe(no_mangle)]
-pub extern "C" fn powerlink_serialize_pl_header(
+pub fn powerlink_serialize_pl_header(
     message_type: u8,
     destination: u8,
     source: u8,

@@ -9,8 +9,7 @@ use types::causes::{NOT_A_JOURNAL, RECORD_INVALID, TOO_SHORT, UNKNOWN_VERSION};
 use types::error_mode::{ErrorEntryMode, ErrorEntryModeAnswer};
 
 // Writes one record; mark and version are the caller's. A mode that is none is no record's: cause 19, after 1.
-#[unsafe(no_mangle)]
-pub extern "C" fn powerlink_journal_record(
+pub fn powerlink_journal_record(
     id: u8,
     status_entry: bool,
     send_to_queue: bool,
@@ -56,8 +55,7 @@ pub extern "C" fn powerlink_journal_record(
 }
 
 // How many octets of a journal are its mark, its version and whole records: what it is cut to before anything is appended.
-#[unsafe(no_mangle)]
-pub extern "C" fn powerlink_journal_whole_len(version: u16, len: usize, whole: &mut usize) -> u8
+pub fn powerlink_journal_whole_len(version: u16, len: usize, whole: &mut usize) -> u8
     ensures { JournalWhole version len result whole.old whole.new }
 {
     match whole_len(version, len) {

@@ -1,6 +1,6 @@
 // The library for C and for other languages that call as C does: every frame, tables of services, the StatusResponse, the error
 // exchange and the journal's record (01: "offered to the differential harness as C functions on numbers and byte slices").
-// include/powerlink.h declares it.
+// The crate `powerlink_c` exports each function under its name, and include/powerlink.h declares it.
 //
 // A call answers with 01's number of the cause, or 0. A refusal leaves every buffer and out-parameter as it was, but for
 // `octet`, which receives the octet that 01's table returns with causes 4 to 7.

@@ -25,8 +25,7 @@ use types::hal::PowerlinkError;
 use types::message_type::MessageType;
 
 // Reads a frame, from its Ethernet header on; an ASnd is read where the table holds its service.
-#[unsafe(no_mangle)]
-pub extern "C" fn powerlink_deserialize_frame_v2(
+pub fn powerlink_deserialize_frame_v2(
     services: &Services,
     buffer: &[u8],
     values: &mut [u64; 16],

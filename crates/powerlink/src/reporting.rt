@@ -19,8 +19,7 @@ use types::poll_flags::{PRFlag, RSFlag};
 use types::states::{NmtState, NmtStateAnswer};
 
 // Makes a fresh state for a node. The name carries the interface's version, as include/powerlink.h tells.
-#[unsafe(no_mangle)]
-pub extern "C" fn powerlink_reporter_new_v2(state: &mut Reporter, id: u8) -> u8
+pub fn powerlink_reporter_new_v2(state: &mut Reporter, id: u8) -> u8
     ensures { ReporterMakes id result state.old state.new }
 {
     match new(state, NodeId(id)) {
@@ -30,8 +29,7 @@ pub extern "C" fn powerlink_reporter_new_v2(state: &mut Reporter, id: u8) -> u8
 }
 
 // An entry joins the waiting ones, last. A mode that is none is no entry's: cause 8, whatever its other values are.
-#[unsafe(no_mangle)]
-pub extern "C" fn powerlink_reporter_raise(
+pub fn powerlink_reporter_raise(
     state: &mut Reporter,
     status_entry: bool,
     send_to_queue: bool,
@@ -68,8 +66,7 @@ pub extern "C" fn powerlink_reporter_raise(
 }
 
 // Writes a StatusResponse with the open batch, or with the batch that it opens.
-#[unsafe(no_mangle)]
-pub extern "C" fn powerlink_reporter_answer_v2(
+pub fn powerlink_reporter_answer_v2(
     state: &mut Reporter,
     services: &Services,
     source_mac: &[u8; 6],
@@ -111,8 +108,7 @@ pub extern "C" fn powerlink_reporter_answer_v2(
 }
 
 // The EN that a PRes of this node carries.
-#[unsafe(no_mangle)]
-pub extern "C" fn powerlink_reporter_en(state: &Reporter, en: &mut bool) -> u8
+pub fn powerlink_reporter_en(state: &Reporter, en: &mut bool) -> u8
     ensures { ReporterEn result state.now en.new }
 {
     *en = reporter::en(state);
@@ -120,8 +116,7 @@ pub extern "C" fn powerlink_reporter_en(state: &Reporter, en: &mut bool) -> u8
 }
 
 // Reads a frame; the outcome is 0 where it is ignored, 1 where its EA closes nothing, and 2 where it closes the batch.
-#[unsafe(no_mangle)]
-pub extern "C" fn powerlink_reporter_read_v2(
+pub fn powerlink_reporter_read_v2(
     state: &mut Reporter,
     services: &Services,
     buffer: &[u8],

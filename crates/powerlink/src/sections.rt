@@ -22,8 +22,7 @@ use types::states::{NmtState, NmtStateAnswer};
 use types::{EPLVersion, NodeId};
 
 // Start of Cycle (EPSG DS 301, 4.6.1.1.2).
-#[unsafe(no_mangle)]
-pub extern "C" fn powerlink_serialize_soc(
+pub fn powerlink_serialize_soc(
     destination: u8,
     source: u8,
     mc: bool,
@@ -51,8 +50,7 @@ pub extern "C" fn powerlink_serialize_soc(
 }
 
 // Poll Request (4.6.1.1.3). The payload size is the caller's, as powerlink-rs has it: a frame of any size can be made.
-#[unsafe(no_mangle)]
-pub extern "C" fn powerlink_serialize_preq(
+pub fn powerlink_serialize_preq(
     destination: u8,
     source: u8,
     ms: bool,
@@ -78,8 +76,7 @@ pub extern "C" fn powerlink_serialize_preq(
 }
 
 // Poll Response (4.6.1.1.4): 1, then 5.
-#[unsafe(no_mangle)]
-pub extern "C" fn powerlink_serialize_pres(
+pub fn powerlink_serialize_pres(
     destination: u8,
     source: u8,
     state: u8,
@@ -129,8 +126,7 @@ pub extern "C" fn powerlink_serialize_pres(
 }
 
 // Start of Asynchronous (4.6.1.1.5): 1, then 5, then 7.
-#[unsafe(no_mangle)]
-pub extern "C" fn powerlink_serialize_soa(
+pub fn powerlink_serialize_soa(
     destination: u8,
     source: u8,
     state: u8,
@@ -179,8 +175,7 @@ pub extern "C" fn powerlink_serialize_soa(
 }
 
 // Asynchronous Send (4.6.1.1.6): 1, then 6.
-#[unsafe(no_mangle)]
-pub extern "C" fn powerlink_serialize_asnd_v2(
+pub fn powerlink_serialize_asnd_v2(
     services: &Services,
     destination: u8,
     source: u8,

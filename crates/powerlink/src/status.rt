@@ -19,8 +19,7 @@ use types::poll_flags::{PRFlag, RSFlag};
 use types::states::{NmtState, NmtStateAnswer};
 
 // Reads what stands in front of the entries: en, ec, pr, rs and state, and the error field.
-#[unsafe(no_mangle)]
-pub extern "C" fn powerlink_deserialize_status(
+pub fn powerlink_deserialize_status(
     payload: &[u8],
     values: &mut [u64; 5],
     field: &mut [u8; 8],
@@ -45,8 +44,7 @@ pub extern "C" fn powerlink_deserialize_status(
 }
 
 // Reads the static error bit field (EPSG DS 301, 6.5.8.1) by itself.
-#[unsafe(no_mangle)]
-pub extern "C" fn powerlink_deserialize_error_field(buffer: &[u8], field: &mut [u8; 8]) -> u8
+pub fn powerlink_deserialize_error_field(buffer: &[u8], field: &mut [u8; 8]) -> u8
     ensures { FieldRead buffer.now result field.old field.new }
 {
     let read = StaticErrorBitField::deserialize(buffer);
@@ -62,8 +60,7 @@ pub extern "C" fn powerlink_deserialize_error_field(buffer: &[u8], field: &mut [
 }
 
 // Reads one entry: status entry, send to queue, mode, profile, code, seconds, nanoseconds, information.
-#[unsafe(no_mangle)]
-pub extern "C" fn powerlink_deserialize_entry(buffer: &[u8], values: &mut [u64; 8]) -> u8
+pub fn powerlink_deserialize_entry(buffer: &[u8], values: &mut [u64; 8]) -> u8
     ensures { EntryRead buffer.now result values.old values.new }
 {
     match ErrorEntry::deserialize(buffer) {
@@ -76,8 +73,7 @@ pub extern "C" fn powerlink_deserialize_entry(buffer: &[u8], values: &mut [u64; 
 }
 
 // One step of the walk over the entries, the first of which is at offset 14. No entry ends at offset 0: it tells the end.
-#[unsafe(no_mangle)]
-pub extern "C" fn powerlink_entry_step(
+pub fn powerlink_entry_step(
     payload: &[u8],
     offset: usize,
     values: &mut [u64; 8],
@@ -96,8 +92,7 @@ pub extern "C" fn powerlink_entry_step(
 }
 
 // Writes one entry (EPSG DS 301, Table 94), a terminator too. A mode that is none is no entry's: cause 8, after 1.
-#[unsafe(no_mangle)]
-pub extern "C" fn powerlink_serialize_entry(
+pub fn powerlink_serialize_entry(
     status_entry: bool,
     send_to_queue: bool,
     mode: u8,
@@ -136,8 +131,7 @@ pub extern "C" fn powerlink_serialize_entry(
 }
 
 // Writes the static error bit field by itself.
-#[unsafe(no_mangle)]
-pub extern "C" fn powerlink_serialize_error_field(
+pub fn powerlink_serialize_error_field(
     field: &[u8; 8],
     target: &mut [u8],
     written: &mut usize,
@@ -151,8 +145,7 @@ pub extern "C" fn powerlink_serialize_error_field(
 
 // Writes the payload of a StatusResponse. `entries` are the octets of the entries, 20 each; a rest is an entry that is too
 // short: cause 1.
-#[unsafe(no_mangle)]
-pub extern "C" fn powerlink_serialize_status(
+pub fn powerlink_serialize_status(
     en: bool,
     ec: bool,
     pr: u8,

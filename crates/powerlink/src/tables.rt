@@ -6,8 +6,7 @@ use services::table::{Services, contains};
 use types::causes::{NOT_A_TABLE, NOT_ASCENDING, WITHOUT_STATUS_RESPONSE};
 
 // Loads a table: 20, then 21, then 22. A refusal leaves the lent one as it was.
-#[unsafe(no_mangle)]
-pub extern "C" fn powerlink_services_load(file: &[u8], services: &mut Services) -> u8
+pub fn powerlink_services_load(file: &[u8], services: &mut Services) -> u8
     ensures { ServicesLoad file.now result services.old services.new }
 {
     match load(file, services) {
@@ -19,8 +18,7 @@ pub extern "C" fn powerlink_services_load(file: &[u8], services: &mut Services) 
 }
 
 // Whether a table holds a service.
-#[unsafe(no_mangle)]
-pub extern "C" fn powerlink_services_contains(services: &Services, id: u8, held: &mut bool) -> u8
+pub fn powerlink_services_contains(services: &Services, id: u8, held: &mut bool) -> u8
     ensures { ServicesContain id result services.now held.new }
 {
     *held = contains(services, id);

@@ -1,0 +1,13 @@
+// The static library for C and for other languages that call as C does. Each function is one of `powerlink`, under its name and
+// with its contract; include/powerlink.h declares it.
+#![tactic(auto)]
+
+mod collecting;
+mod frames;
+mod headers;
+mod journal;
+mod reading;
+mod reporting;
+mod sections;
+mod status;
+mod tables;
