@@ -63,7 +63,13 @@ fn rest_after(answer: ListAnswer, phase: Phase, at: usize) -> Rest
 }
 
 // Lists a part, and writes `out` as often as it fills.
-fn list(rt: &(impl Print + Eprint), streams: Streams, phase: Phase, bytes: &[u8], out: &mut [u8]) -> Outcome
+fn list(
+    rt: &(impl Print + Eprint),
+    streams: Streams,
+    phase: Phase,
+    bytes: &[u8],
+    out: &mut [u8],
+) -> Outcome
     requires stands { Stands streams phase bytes.now }
     requires said_le_count_most { (streams.said ≤ count_most) × ((length bytes.now ≤ buffer_len) × Buffer out.old) }
     ensures { Listed bytes.now streams result.streams result.rest }
@@ -108,7 +114,14 @@ fn keep(text: &mut [u8], from: usize, to: usize) -> usize
 }
 
 // Lists the first `n` octets, and moves what is left of them to the front.
-fn list_held(rt: &(impl Print + Eprint), streams: Streams, phase: Phase, text: &mut [u8], n: usize, out: &mut [u8]) -> Outcome
+fn list_held(
+    rt: &(impl Print + Eprint),
+    streams: Streams,
+    phase: Phase,
+    text: &mut [u8],
+    n: usize,
+    out: &mut [u8],
+) -> Outcome
     requires stands { Stands streams phase (take n text.old) }
     requires said_le_count_most { (streams.said ≤ count_most) × ((n ≤ length text.old) × (Buffer text.old × Buffer out.old)) }
     ensures { Left streams result.streams result.rest text.new }
@@ -136,7 +149,14 @@ fn list_held(rt: &(impl Print + Eprint), streams: Streams, phase: Phase, text: &
 }
 
 // Reads behind the octets that are held, and lists.
-fn turn(rt: &(impl Input + Print + Eprint), streams: Streams, phase: Phase, text: &mut [u8], held: usize, out: &mut [u8]) -> Outcome
+fn turn(
+    rt: &(impl Input + Print + Eprint),
+    streams: Streams,
+    phase: Phase,
+    text: &mut [u8],
+    held: usize,
+    out: &mut [u8],
+) -> Outcome
     requires stands { Stands streams phase (take held text.old) × (streams.ended ≡ false) }
     requires streams_value { (has_room streams ≡ true) × ((held < record_len) × (Buffer text.old × Buffer out.old)) }
     ensures { Waits streams result.streams result.rest text.new }
