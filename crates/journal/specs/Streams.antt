@@ -21,7 +21,7 @@ abbrev pub failing : Streams → Streams
 failing s = record { got = s.got; said = s.said; ended = s.ended; failed = true }
 
 -- a read's answer as one number: how many octets it gave, or -1 where it failed
-abbrev pub answered : Result ℕ Error → ℤ
+abbrev pub answered : {E : Type 0} → Result ℕ E → ℤ
 answered (Ok n) = pos (min n 9223372036854775807)
 answered (Err e) = negsuc 0
 
