@@ -12,11 +12,12 @@ use control::soa::SoAFrame;
 use control::soc::SocFrame;
 use poll::pres::PResFrame;
 use print::{column, end, name, octet, octets, say};
+use std::io;
 use tables::Listed;
 use types::constants;
 use types::poll_flags::RSFlag;
 
-#[derive(Drop)]
+#[derive(Clone, Copy)]
 enum Table {
     Messages,
     States,
@@ -37,51 +38,58 @@ fn listed(table: Table, b: u8) -> Listed {
     }
 }
 
-fn entry(names: &[u8], listed: Listed) {
+fn entry(rt: &impl Print, names: &[u8], listed: Listed) -> io::Result<()> {
     match listed {
-        Listed::Nothing => {}
+        Listed::Nothing => Ok(()),
         Listed::Value { code, place } => {
-            name(names, place);
-            octet(code);
-            end();
+            name(rt, names, place)?;
+            octet(rt, code)?;
+            end(rt)
         }
     }
 }
 
 // The first name is the table's.
-fn list(names: &[u8], table: Table) {
-    name(names, 0);
-    say(b"code\n");
+fn list(rt: &impl Print, names: &[u8], table: Table) -> io::Result<()> {
+    name(rt, names, 0)?;
+    say(rt, b"code\n")?;
     for b in 0..256u64 {
-        entry(names, listed(table, b as u8));
+        entry(rt, names, listed(table, b as u8))?;
     }
+    Ok(())
 }
 
-fn lists() {
+fn lists(rt: &impl Print) -> io::Result<()> {
     list(
+        rt,
         b"message types           SoC                     PReq                    PRes                    SoA                     ASnd                    ",
         Table::Messages,
-    );
+    )?;
     list(
+        rt,
         b"NMT states              NmtGsOff                NmtGsInitialising       NmtGsResetApplication   NmtGsResetCommunication NmtGsResetConfiguration NmtNotActive            NmtPreOperational1      NmtPreOperational2      NmtReadyToOperate       NmtOperational          NmtCsStopped            NmtBasicEthernet        ",
         Table::States,
-    );
+    )?;
     list(
+        rt,
         b"services                IdentResponse           StatusResponse          NmtRequest              NmtCommand              Sdo                     NMTPublishTime          NMTPublishNMTState      NMTPublishNodeState     NMTPublishNodeList      NMTPublishEmergNew      NMTPublishHeartbeat     NMTPublishActiveNodes   ",
         Table::Services,
-    );
+    )?;
     list(
+        rt,
         b"requested services      NoService               IdentRequest            StatusRequest           NmtRequestInvite        UnspecifiedInvite       ",
         Table::RequestedServices,
-    );
+    )?;
     list(
+        rt,
         b"priorities              PrioNmtRequest          High3                   High2                   High1                   PrioGenericRequest      Low3                    Low2                    Low1                    ",
         Table::Priorities,
-    );
+    )?;
     list(
+        rt,
         b"error entry modes       Terminator              ErrorActive             ErrorCleared            EventOccurred           ",
         Table::Modes,
-    );
+    )
 }
 
 fn multicast(k: u8) -> [u8; 6] {
@@ -93,12 +101,13 @@ fn multicast(k: u8) -> [u8; 6] {
     }
 }
 
-fn addresses(names: &[u8]) {
+fn addresses(rt: &impl Print, names: &[u8]) -> io::Result<()> {
     for k in 0..4u8 {
-        name(names, k);
-        octets(&multicast(k));
-        end();
+        name(rt, names, k)?;
+        octets(rt, &multicast(k))?;
+        end(rt)?;
     }
+    Ok(())
 }
 
 fn constant(k: u8) -> u64 {
@@ -111,31 +120,34 @@ fn constant(k: u8) -> u64 {
     }
 }
 
-fn numbers(names: &[u8]) {
+fn numbers(rt: &impl Print, names: &[u8]) -> io::Result<()> {
     for k in 0..4u8 {
-        name(names, k);
-        column(constant(k));
-        end();
+        name(rt, names, k)?;
+        column(rt, constant(k))?;
+        end(rt)?;
     }
+    Ok(())
 }
 
 // How many frames wait, of 0 to 9: above 7 counts as 7.
-fn requests() {
+fn requests(rt: &impl Print) -> io::Result<()> {
     for n in 0..10u8 {
-        column(RSFlag::new(n).0 as u64);
+        column(rt, RSFlag::new(n).0 as u64)?;
     }
-    end();
+    end(rt)
 }
 
-fn main() {
-    lists();
+fn main(rt: HostRuntime) -> io::Result<()> {
+    lists(&rt)?;
     addresses(
+        &rt,
         b"SoC address             PRes address            SoA address             ASnd address            ",
-    );
+    )?;
     numbers(
+        &rt,
         b"EtherType               managing node           last controlled node    all nodes               ",
-    );
-    requests();
-    frames::all();
-    batch::all();
+    )?;
+    requests(&rt)?;
+    frames::all(&rt)?;
+    batch::all(&rt)
 }

@@ -1,7 +1,7 @@
 // Text, names and numbers on standard output.
-use libc::STDOUT_FILENO;
 use octets::slices::{front, tail};
 use section::WriteAnswer;
+use std::io;
 
 // The width of a name.
 const WIDTH: usize = 24;
@@ -9,43 +9,44 @@ const WIDTH: usize = 24;
 // Every octet of a target before the call.
 pub const FILL: u8 = 0xFC;
 
-pub fn say(text: &[u8]) {
-    io::write_all(STDOUT_FILENO, text);
+pub fn say(rt: &impl Print, text: &[u8]) -> io::Result<()> {
+    rt.write_all(text)
 }
 
-pub fn end() {
-    say(b"\n");
+pub fn end(rt: &impl Print) -> io::Result<()> {
+    say(rt, b"\n")
 }
 
 // Name `k` of a list of them.
-pub fn name(names: &[u8], k: u8) {
-    say(front(tail(names, WIDTH * (k as usize)), WIDTH));
+pub fn name(rt: &impl Print, names: &[u8], k: u8) -> io::Result<()> {
+    say(rt, front(tail(names, WIDTH * (k as usize)), WIDTH))
 }
 
-pub fn octet(b: u8) {
-    io::print_hex(STDOUT_FILENO, b as u64, 2);
+pub fn octet(rt: &impl Print, b: u8) -> io::Result<()> {
+    print!(rt; "{b:02x}")
 }
 
-pub fn octets(s: &[u8]) {
+pub fn octets(rt: &impl Print, s: &[u8]) -> io::Result<()> {
     let mut i = 0;
     while i < s.len() {
-        say(b" ");
-        octet(s[i]);
+        say(rt, b" ")?;
+        octet(rt, s[i])?;
         i += 1;
     }
+    Ok(())
 }
 
-pub fn number(label: &[u8], n: u64) {
-    say(label);
-    io::print_decimal(STDOUT_FILENO, n);
+pub fn number(rt: &impl Print, label: &[u8], n: u64) -> io::Result<()> {
+    say(rt, label)?;
+    print!(rt; "{n}")
 }
 
-pub fn column(n: u64) {
-    number(b" ", n);
+pub fn column(rt: &impl Print, n: u64) -> io::Result<()> {
+    number(rt, b" ", n)
 }
 
-pub fn flag(on: bool) {
-    column(if on { 1 } else { 0 });
+pub fn flag(rt: &impl Print, on: bool) -> io::Result<()> {
+    column(rt, if on { 1 } else { 0 })
 }
 
 fn length_or_number(answer: WriteAnswer) -> u64 {
@@ -56,8 +57,8 @@ fn length_or_number(answer: WriteAnswer) -> u64 {
 }
 
 // A line: 01's number or the length, and what the target holds after the call.
-pub fn written(answer: WriteAnswer, target: &[u8]) {
-    column(length_or_number(answer));
-    octets(target);
-    end();
+pub fn written(rt: &impl Print, answer: WriteAnswer, target: &[u8]) -> io::Result<()> {
+    column(rt, length_or_number(answer))?;
+    octets(rt, target)?;
+    end(rt)
 }

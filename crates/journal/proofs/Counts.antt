@@ -11,8 +11,7 @@ use lib.Dec.{leb}
 use lib.Signed.{lt_z}
 use borrow.Author.Tests.{leb-true, ltb-true}
 use Rattle.octets.proofs.Cases.{both}
-use Rattle.io.specs.Counts.{clamp_len}
-use Rattle.journal.specs.Streams.{failing, said_more, got_more, after_read, after_write, count_most, has_room, OrFails, Reads}
+use Rattle.journal.specs.Streams.{failing, said_more, got_more, clamp_len, after_read, after_write, count_most, has_room, OrFails, Reads}
 use Rattle.journal.specs.declared.streams.Reading.{Reading}
 use Rattle.journal.specs.declared.streams.Streams.{Streams}
 

@@ -14,7 +14,7 @@ use Rattle.journal.specs.declared.Rest.{Rest}
 use Rattle.journal.specs.declared.Rest.TheVariants.{More, Over, Failed}
 use Rattle.journal.specs.declared.streams.Streams.{Streams}
 
--- the octets of `io::large_buffer`
+-- the octets of `large_buffer`
 abbrev pub buffer_len : ℕ
 buffer_len = 65536
 

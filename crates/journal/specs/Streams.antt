@@ -1,7 +1,6 @@
 -- What the program has read and said, by the counts of `streams.rt`, which `read` and `say` alone raise.
 -- Assumes nothing.
-use Rattle.std.specs.Prelude.{ℕ, ◌+◌, ◌≤◌, ℤ, pos, negsuc, Bool, true, false, ◌&&◌, ◌⊎◌, ◌≡◌, leb, eqb}
-use Rattle.io.specs.Counts.{clamp_len}
+use Rattle.std.specs.Prelude.{ℕ, ◌+◌, ◌≤◌, min, ℤ, pos, negsuc, Bool, true, false, ◌&&◌, ◌⊎◌, ◌≡◌, leb, eqb, Result, Ok, Err}
 use Rattle.journal.specs.declared.streams.Reading.{Reading}
 use Rattle.journal.specs.declared.streams.Streams.{Streams}
 
@@ -21,7 +20,17 @@ said_more s n = record { got = s.got; said = s.said + n; ended = s.ended; failed
 abbrev pub failing : Streams → Streams
 failing s = record { got = s.got; said = s.said; ended = s.ended; failed = true }
 
--- what C's answer to a read into `most` octets means: how many it gave, or, below 0, that it failed
+-- a read's answer as one number: how many octets it gave, or -1 where it failed
+abbrev pub answered : {E : Type 0} → Result ℕ E → ℤ
+answered (Ok n) = pos (min n 9223372036854775807)
+answered (Err e) = negsuc 0
+
+-- how many of `most` octets an answer gives: none where the read failed
+abbrev pub clamp_len : ℤ → ℕ → ℕ
+clamp_len (pos k) most = min k most
+clamp_len (negsuc k) most = 0
+
+-- what the answer to a read into `most` octets means: how many it gave, or, below 0, that it failed
 abbrev pub after_read : Streams → ℤ → ℕ → Reading
 after_read s (pos k) most = record { streams = got_more s (clamp_len (pos k) most); len = clamp_len (pos k) most }
 after_read s (negsuc k) most = record { streams = failing s; len = 0 }

@@ -13,6 +13,7 @@ ghost use Rattle.journal_records.specs.Parts.{crowded};
 
 use journal_records::listing::{ListAnswer, Phase, list_part};
 use octets::slices::{front, tail};
+use std::io::Input;
 use streams::{Streams, tell_too_long};
 
 // What follows a part of the journal: octets that go on from `at`, or nothing.
@@ -62,7 +63,13 @@ fn rest_after(answer: ListAnswer, phase: Phase, at: usize) -> Rest
 }
 
 // Lists a part, and writes `out` as often as it fills.
-fn list(streams: Streams, phase: Phase, bytes: &[u8], out: &mut [u8]) -> Outcome
+fn list(
+    rt: &(impl Print + Eprint),
+    streams: Streams,
+    phase: Phase,
+    bytes: &[u8],
+    out: &mut [u8],
+) -> Outcome
     requires stands { Stands streams phase bytes.now }
     requires said_le_count_most { (streams.said ≤ count_most) × ((length bytes.now ≤ buffer_len) × Buffer out.old) }
     ensures { Listed bytes.now streams result.streams result.rest }
@@ -76,7 +83,7 @@ fn list(streams: Streams, phase: Phase, bytes: &[u8], out: &mut [u8]) -> Outcome
         let answer = part.answer;
         let next = part.phase;
         at += part.consumed;
-        streams = streams.say(front(out, part.written));
+        streams = streams.say(rt, front(out, part.written));
         if streams.has_failed() {
             return Outcome {
                 streams,
@@ -107,12 +114,19 @@ fn keep(text: &mut [u8], from: usize, to: usize) -> usize
 }
 
 // Lists the first `n` octets, and moves what is left of them to the front.
-fn list_held(streams: Streams, phase: Phase, text: &mut [u8], n: usize, out: &mut [u8]) -> Outcome
+fn list_held(
+    rt: &(impl Print + Eprint),
+    streams: Streams,
+    phase: Phase,
+    text: &mut [u8],
+    n: usize,
+    out: &mut [u8],
+) -> Outcome
     requires stands { Stands streams phase (take n text.old) }
     requires said_le_count_most { (streams.said ≤ count_most) × ((n ≤ length text.old) × (Buffer text.old × Buffer out.old)) }
     ensures { Left streams result.streams result.rest text.new }
 {
-    let outcome = list(streams, phase, front(text, n), out);
+    let outcome = list(rt, streams, phase, front(text, n), out);
     let streams = outcome.streams;
     let rest = outcome.rest;
     match rest {
@@ -135,12 +149,19 @@ fn list_held(streams: Streams, phase: Phase, text: &mut [u8], n: usize, out: &mu
 }
 
 // Reads behind the octets that are held, and lists.
-fn turn(streams: Streams, phase: Phase, text: &mut [u8], held: usize, out: &mut [u8]) -> Outcome
+fn turn(
+    rt: &(impl Input + Print + Eprint),
+    streams: Streams,
+    phase: Phase,
+    text: &mut [u8],
+    held: usize,
+    out: &mut [u8],
+) -> Outcome
     requires stands { Stands streams phase (take held text.old) × (streams.ended ≡ false) }
     requires streams_value { (has_room streams ≡ true) × ((held < record_len) × (Buffer text.old × Buffer out.old)) }
     ensures { Waits streams result.streams result.rest text.new }
 {
-    let reading = streams.read(&mut text[held..]);
+    let reading = streams.read(rt, &mut text[held..]);
     let after = reading.streams;
     if after.has_failed() {
         return Outcome {
@@ -148,7 +169,7 @@ fn turn(streams: Streams, phase: Phase, text: &mut [u8], held: usize, out: &mut 
             rest: Rest::Failed,
         };
     }
-    list_held(after, phase, text, held + reading.len, out)
+    list_held(rt, after, phase, text, held + reading.len, out)
 }
 
 // How the turns end.
@@ -168,7 +189,7 @@ struct Ended {
 
 // Turns, one after the other. A proved loop has to end, and nothing says that the input does: so it does where the counts would
 // be used up, which no run brings about.
-fn all_turns(text: &mut [u8], out: &mut [u8]) -> Ended
+fn all_turns(rt: &(impl Input + Print + Eprint), text: &mut [u8], out: &mut [u8]) -> Ended
     requires { Buffer text.old × Buffer out.old }
     ensures { InAll result.streams result.end }
 {
@@ -176,7 +197,7 @@ fn all_turns(text: &mut [u8], out: &mut [u8]) -> Ended
     let mut to_come = Phase::Header;
     let mut held = 0;
     while streams.has_room() {
-        let outcome = turn(streams, to_come, text, held, out);
+        let outcome = turn(rt, streams, to_come, text, held, out);
         let rest = outcome.rest;
         streams = outcome.streams;
         match rest {
@@ -198,15 +219,22 @@ fn all_turns(text: &mut [u8], out: &mut [u8]) -> Ended
             }
         }
     }
-    tell_too_long();
+    tell_too_long(rt);
     Ended {
         streams,
         end: End::TooLong,
     }
 }
 
-fn main() {
-    let mut text = io::large_buffer();
-    let mut out = io::large_buffer();
-    all_turns(&mut text, &mut out);
+// 65,536 zeros.
+fn large_buffer() -> [u8; 65536]
+    ensures { 65536 ≡ length result }
+{
+    [0; 65536]
+}
+
+fn main(rt: HostRuntime) {
+    let mut text = large_buffer();
+    let mut out = large_buffer();
+    all_turns(&rt, &mut text, &mut out);
 }

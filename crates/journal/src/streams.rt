@@ -1,18 +1,19 @@
 // The program's streams, and what became of them: how many octets were read from standard input and said on standard
 // output, whether the input is at its end, and whether a read or a write has failed. The fields are this module's own, so that no
-// other code can count what was not read or not said, or call an end or a failure what was none. No contract tells what C has read
-// and written: `after_read` and `after_write` judge what it answers, and that `read` and `say` hand its answer on is tested
+// other code can count what was not read or not said, or call an end or a failure what was none. No contract tells what the system
+// has read and written: `after_read` and `after_write` judge what it answers, and that `read` and `say` hand its answer on is tested
 // (tests/journal/run.sh).
 ghost use Rattle.std.specs.Prelude.{◌+◌, ◌≤◌, ◌≡◌, length};
 ghost use Rattle.journal.specs.Rest.{Says};
-ghost use Rattle.journal.specs.Streams.{fresh, failing, said_more, has_room, after_read, after_write, Counted, Open, Reads, OrFails};
+ghost use Rattle.journal.specs.Streams.{fresh, failing, said_more, has_room, answered, clamp_len, after_read, after_write, Counted, Open, Reads, OrFails};
 
-use libc::{STDERR_FILENO, STDIN_FILENO, STDOUT_FILENO};
+use std::io;
+use std::io::{Input, Read};
 
 // Counts up to this leave room for what a turn adds to them, and no run reaches it.
 const COUNT_MAX: usize = usize::MAX / 2;
 
-#[derive(Drop)]
+#[derive(Clone, Copy)]
 pub(crate) struct Streams {
     got: usize,
     said: usize,
@@ -28,8 +29,29 @@ pub(crate) struct Reading {
 }
 
 // The counts are used up. Like a failure, this is said on standard error.
-pub(crate) fn tell_too_long() {
-    io::write_all(STDERR_FILENO, b"journal: the input is too long\n");
+pub(crate) fn tell_too_long(rt: &impl Eprint) {
+    let _ = eprintln!(rt; "journal: the input is too long");
+}
+
+// A read's answer as one number: how many octets it gave, or -1 where it failed.
+fn answered(got: io::Result<usize>) -> isize
+    ensures { result ≡ answered got }
+{
+    match got {
+        Ok(n) => n.min(isize::MAX as usize) as isize,
+        Err(_) => -1,
+    }
+}
+
+// How many octets of `buffer` a read gave, by its answer: none where it failed, and never more than `buffer` has.
+fn count(got: isize, buffer: &[u8]) -> usize
+    ensures { result ≡ clamp_len got (length buffer.now) }
+{
+    if got > 0 {
+        (got as usize).min(buffer.len())
+    } else {
+        0
+    }
 }
 
 impl Streams {
@@ -74,7 +96,7 @@ impl Streams {
         }
     }
 
-    // What C's read of `buffer` brought about, by what it answered.
+    // What the read of `buffer` brought about, by what it answered.
     fn after_read(self, got: isize, buffer: &[u8]) -> Reading
         requires { Counted (self.got + length buffer.now) }
         ensures { result ≡ after_read self got (length buffer.now) }
@@ -85,7 +107,7 @@ impl Streams {
                 len: 0,
             };
         }
-        let len = io::count(got, buffer);
+        let len = count(got, buffer);
         let streams = Streams {
             got: self.got + len,
             said: self.said,
@@ -112,28 +134,28 @@ impl Streams {
     }
 
     // Reads to the front of `buffer`, which is not empty: what a read into nothing gives looks like the end of the input.
-    pub(crate) fn read(self, buffer: &mut [u8]) -> Reading
+    pub(crate) fn read(self, rt: &(impl Input + Eprint), buffer: &mut [u8]) -> Reading
         requires { Open self × ((1 ≤ length buffer.old) × Counted (self.got + length buffer.old)) }
         ensures { Reads self result.streams result.len (length buffer.new) }
     {
-        let got = libc::read(STDIN_FILENO, buffer);
+        let got = answered(rt.reader().read(buffer));
         let reading = self.after_read(got, buffer);
         let streams = reading.streams;
         if streams.failed {
-            io::write_all(STDERR_FILENO, b"journal: cannot read\n");
+            let _ = eprintln!(rt; "journal: cannot read");
         }
         reading
     }
 
     // Writes the text that is due at the place up to which the listing is said.
-    pub(crate) fn say(self, text: &[u8]) -> Streams
+    pub(crate) fn say(self, rt: &(impl Print + Eprint), text: &[u8]) -> Streams
         requires { Says self text.now × Counted (self.said + length text.now) }
         ensures { OrFails self result (said_more self (length text.now)) }
     {
-        let all = io::write_all(STDOUT_FILENO, text);
+        let all = rt.write_all(text).is_ok();
         let streams = self.after_write(all, text.len());
         if streams.failed {
-            io::write_all(STDERR_FILENO, b"journal: cannot write\n");
+            let _ = eprintln!(rt; "journal: cannot write");
         }
         streams
     }
