@@ -1,0 +1,24 @@
+-- `frames::powerlink_new_pres` meets its contract.
+-- Assumes nothing.
+use mathlib.Core.Path.{ap, sym, ◌∙◌}
+use lib.ListN.{length, length-set}
+use borrow.Author.Rules.{rules}
+use Rattle.types.proofs.CodeCauses.{state_code_lem}
+use Rattle.poll.specs.PRes.{pres_section}
+use Rattle.frame.specs.Write.{frame_bytes}
+use Rattle.powerlink.proofs.Writers.{writes_named, refuses_coded}
+use Rattle.powerlink.proofs.frames.powerlink_new_pres.Goals as goal
+
+pub slice_bounds-put_frame-end : goal.slice_bounds-put_frame-end
+slice_bounds-put_frame-end c = sym (length-set c.to_bytes-fields.result _ _ ∙ ap length c.to_bytes-fields.ensures)
+
+pub returns-in-Unknown : goal.returns-in-Unknown
+returns-in-Unknown c =
+    refuses_coded _ _ _ _ _ _ _ _ (rw (← c.from_u8.ensures.answer, c.in-Unknown.is, c.padded_len-needed.ensures)) (c.unnamed.ensures.value, c.unnamed.ensures.octet_after)
+
+pub returns-in-Known : goal.returns-in-Known
+unfolding frame_bytes pres_section
+returns-in-Known c =
+    let known = sym c.from_u8.ensures.answer ∙ c.in-Known.is in
+    let code = state_code_lem _ _ known in
+    writes_named _ _ _ _ _ _ _ _ (rw (known, c.from_u8-in-Known.ensures, code)) (rw (c.to_bytes-fields.ensures, c.new-new.ensures) at c.put_frame.ensures)

@@ -1,0 +1,11 @@
+-- `frames::powerlink_new_soc` meets its contract.
+-- Assumes nothing.
+use borrow.Author.Rules.{rules}
+use Rattle.control.specs.SoC.{soc_section}
+use Rattle.frame.specs.Write.{frame_bytes}
+use Rattle.powerlink.proofs.frames.powerlink_new_soc.Goals as goal
+
+pub returns : goal.returns
+unfolding frame_bytes soc_section
+returns c =
+    rw (c.to_bytes.ensures, c.new-new.ensures) at c.put_frame.ensures

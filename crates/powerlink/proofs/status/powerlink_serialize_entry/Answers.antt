@@ -1,0 +1,18 @@
+-- `status::powerlink_serialize_entry` meets its contract.
+-- Assumes nothing.
+use borrow.Author.Rules.{rules}
+use mathlib.Core.Path.{sym, ◌∙◌}
+use Rattle.powerlink.proofs.Writers.{writes_to, entry_short, entry_none, entry_told_lem}
+use Rattle.powerlink.proofs.status.powerlink_serialize_entry.Goals as goal
+
+pub returns-then-target-lt-ENTRY_LEN : goal.returns-then-target-lt-ENTRY_LEN
+returns-then-target-lt-ENTRY_LEN c =
+    entry_short _ _ _ _ _ (sym c.from_u8.ensures.answer ∙ c.in-Unknown.is) c.if-target-lt-ENTRY_LEN.true
+
+pub returns-else-target-lt-ENTRY_LEN : goal.returns-else-target-lt-ENTRY_LEN
+returns-else-target-lt-ENTRY_LEN c =
+    entry_none _ _ _ _ _ (sym c.from_u8.ensures.answer ∙ c.in-Unknown.is) c.if-target-lt-ENTRY_LEN.false
+
+pub returns-in-Known : goal.returns-in-Known
+returns-in-Known c =
+    entry_told_lem _ _ _ _ _ _ _ _ _ (sym c.from_u8.ensures.answer ∙ c.in-Known.is) c.entry_given-entry.ensures (writes_to _ _ _ _ _ _ _ c.serialize-answer.ensures (c.written_or.ensures.value, c.written_or.ensures.written_after))

@@ -1,0 +1,27 @@
+-- `tables::powerlink_services_load` meets its contract: each answer is told by its number.
+-- Assumes nothing.
+use Prim.Native.Nat.{ℕ}
+use mathlib.Core.List.{List}
+use mathlib.Core.Path.{◌≡◌, refl, ap, sym, ◌∙◌}
+use borrow.Author.Rules.{rules}
+use Rattle.services.specs.Load.{load_cause, Loads}
+use Rattle.services.specs.declared.load.LoadAnswer.{LoadAnswer}
+use Rattle.powerlink.specs.Tables.{ServicesLoad}
+use Rattle.powerlink.proofs.tables.powerlink_services_load.Goals as goal
+
+loads-told : (f : List ℕ) (a k : LoadAnswer) (services after : List ℕ) → Loads f a services after → a ≡ k
+    → ServicesLoad f (load_cause k).number services after
+loads-told f a k services after l q =
+    record { cause = ap (λ (x : LoadAnswer). (load_cause x).number) (sym q ∙ l.answer); loads = rw l.answer at l }
+
+pub returns-in-Loaded : goal.returns-in-Loaded
+returns-in-Loaded c = loads-told _ _ _ _ _ c.load.ensures c.in-Loaded.is
+
+pub returns-in-NotATable : goal.returns-in-NotATable
+returns-in-NotATable c = loads-told _ _ _ _ _ c.load.ensures c.in-NotATable.is
+
+pub returns-in-NotAscending : goal.returns-in-NotAscending
+returns-in-NotAscending c = loads-told _ _ _ _ _ c.load.ensures c.in-NotAscending.is
+
+pub returns-in-WithoutStatusResponse : goal.returns-in-WithoutStatusResponse
+returns-in-WithoutStatusResponse c = loads-told _ _ _ _ _ c.load.ensures c.in-WithoutStatusResponse.is
