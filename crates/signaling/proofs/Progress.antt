@@ -26,9 +26,9 @@ eases le y = record { ready = y.ready; few = omega (arith, le, y.few) }
 -- ---- many exchanges
 
 closed_often : {i k n : ℕ} {w v : World} → AtMost i k w → (xs : Exchanges i n w v) → Found xs → AtMost i (k - n) v
-closed_often {i} {k} y (done l) f = eases (omega arith) (quiet_stays (AtMost i k) at_most_stays l y)
-closed_often {i} {k} y (more l x xs) f =
-    eases (omega arith) (closed_often (exchanged (quiet_stays (AtMost i k) at_most_stays l y) x f.0) xs f.1)
+closed_often {i = i} {k = k} y (done l) f = eases (omega arith) (quiet_stays (AtMost i k) at_most_stays l y)
+closed_often {i = i} {k = k} y (more l x xs) f =
+    eases (omega arith) (closed_often {k = k - 1} (exchanged (quiet_stays (AtMost i k) at_most_stays l y) x f.0) xs f.1)
 
 -- places for all that is not booked
 abbrev Places : ℕ → World → Type 0
