@@ -5,7 +5,6 @@ use lib.IntN.{ℤ, pos}
 use lib.ListN.{length}
 use lib.Signed.{lt_z}
 use mir.Facts.{to_z-of_z}
-use borrow.Author.Rules.{rules}
 use Rattle.journal.specs.Streams.{clamp_len}
 use Rattle.journal.specs.declared.streams.Streams.{Streams}
 use Rattle.journal.proofs.Counts.{not_read, some_read}

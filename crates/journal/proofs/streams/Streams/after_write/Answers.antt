@@ -1,8 +1,6 @@
 -- `after_write` meets its contract: a case of `after_write` each.
 -- Assumes nothing.
 use mathlib.Core.Path.{◌∙◌}
-use borrow.Author.Rules.{rules}
-use borrow.Author.Tests.{not-true, not-false}
 use Rattle.journal.proofs.Counts.{all_written, not_written}
 use Rattle.journal.proofs.streams.Streams.after_write.Goals as goal
 

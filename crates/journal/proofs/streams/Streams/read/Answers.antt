@@ -1,9 +1,5 @@
 -- `read` meets its contract: what C answers is one of the two.
 -- Assumes nothing.
-use lib.ListN.{length}
-use mir.Syntax.{w64}
-use mir.Val.{to_z, of_z}
-use borrow.Author.Rules.{rules}
 use Rattle.journal.proofs.Counts.{has_read}
 use Rattle.journal.proofs.streams.Streams.read.Goals as goal
 

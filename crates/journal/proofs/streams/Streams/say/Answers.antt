@@ -1,6 +1,5 @@
 -- `say` meets its contract: what C answers is one of the two.
 -- Assumes nothing.
-use borrow.Author.Rules.{rules}
 use Rattle.journal.proofs.Counts.{wrote}
 use Rattle.journal.proofs.streams.Streams.say.Goals as goal
 
