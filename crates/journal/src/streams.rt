@@ -8,7 +8,7 @@ ghost use Rattle.journal.specs.Rest.{Says};
 ghost use Rattle.journal.specs.Streams.{fresh, failing, said_more, has_room, answered, clamp_len, after_read, after_write, Counted, Open, Reads, OrFails};
 
 use std::io;
-use std::io::{Input, Read};
+use std::io::{ErrorKind, Input, Read};
 
 // Counts up to this leave room for what a turn adds to them, and no run reaches it.
 const COUNT_MAX: usize = usize::MAX / 2;
@@ -31,6 +31,13 @@ pub(crate) struct Reading {
 // The counts are used up. Like a failure, this is said on standard error.
 pub(crate) fn tell_too_long(rt: &impl Eprint) {
     let _ = eprintln!(rt; "journal: the input is too long");
+}
+
+// A text is not written. Where its reader has gone away nothing is said: a program in Rattle ignores the signal of a closed pipe.
+fn tell_unwritten(rt: &impl Eprint, error: io::Error) {
+    if error.kind() != ErrorKind::BrokenPipe {
+        let _ = eprintln!(rt; "journal: cannot write");
+    }
 }
 
 // A read's answer as one number: how many octets it gave, or -1 where it failed.
@@ -152,10 +159,11 @@ impl Streams {
         requires { Says self text.now × Counted (self.said + length text.now) }
         ensures { OrFails self result (said_more self (length text.now)) }
     {
-        let all = rt.write_all(text).is_ok();
+        let written = rt.write_all(text);
+        let all = written.is_ok();
         let streams = self.after_write(all, text.len());
-        if streams.failed {
-            let _ = eprintln!(rt; "journal: cannot write");
+        if let Err(e) = written {
+            tell_unwritten(rt, e);
         }
         streams
     }
