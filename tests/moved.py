@@ -174,10 +174,9 @@ def report(old, new, whole):
 
 def seconds(log):
     """The seconds after which each crate was proved, in a gate's log; and those of the gate, with those of the processors."""
-    command = [pathlib.Path(__file__).parent / 'seconds.sh', log]
-    lines = subprocess.run(command, capture_output=True, text=True, check=True).stdout
-    found = re.findall(r'^seconds (\w+) (\d+)$', lines, re.M)
-    found += [('gate', *pair) for pair in GATE.findall(pathlib.Path(log).read_text(encoding='utf-8', errors='replace'))]
+    text = pathlib.Path(log).read_text(encoding='utf-8', errors='replace')
+    found = re.findall(r'^seconds (\w+) (\d+)$', text, re.M)
+    found += [('gate', *pair) for pair in GATE.findall(text)]
     return {name: pair for name, *pair in found}
 
 

@@ -90,8 +90,8 @@ CHANGES = {
     'a/proofs/Laws.antt': [('high', 'upper')],
 }
 LOGS = [
-    '12 rt: a proved\n15 rt: must-fail a/wrong.edit: refused, as it must be\nin all 20 s, 30 s of processor time\n',
-    '5 rt: a proved\n7 rt: b is kept: an earlier run on this machine proved the same files\nin all 9 s, 12 s of processor time\n',
+    'rt: a proved\nseconds a 12\nin all 20 s, 30 s of processor time\n',
+    'rt: a proved\nrt: b is kept: an earlier run on this machine proved the same files\nseconds b 7\nseconds a 5\nin all 9 s, 12 s of processor time\n',
 ]
 EXPECTED = """\
 a

@@ -1,25 +1,26 @@
 #!/usr/bin/env python3
 """numbers.py [CRATE..]: changes each number and each value of 01's tables of causes, and looks that each change is refused.
 
-A table is a definition of specs/ that gives an answer its row (`raiseCause Raised = row 0 []`), or the number of a name
-(`queueFull = 9`). The record `CausesTell` of a crate, and `NumbersTell` of `types`, say each row again in 01's figures: these are the pins. Every
+A table is a definition of specs/ that gives an answer its row (`raise_cause Raised = row 0 []`), or the number of a name
+(`queue_full = 9`). The record `CausesTell` of a crate, and `NumbersTell` of `types`, say each row again in 01's figures: these are the pins. Every
 row of a crate is changed at once, in a copy: its number, then the number of its values, then its first value, its second and so on. Each
 time the prover must refuse the pin of each row; a pin speaks of one row alone, so that it refuses that change by itself too. With no
 CRATE all that have tables are tried.
 
-It runs beside the gate (`make numbers`), since it proves each of these crates some four times.
+It runs beside the gate (`make numbers`), since it proves each of these crates some four times. It begins with what `rt check` kept of them
+(tests/tries.py).
 """
+import os
 import pathlib
 import re
-import shutil
-import subprocess
 import sys
-import tempfile
+
+import tries
 
 ROOT = pathlib.Path(__file__).resolve().parent.parent
-ROW = re.compile(r"^(\w+Cause|causeOf) (.+?) = (row .+|causeOf .+)$")
+ROW = re.compile(r"^(\w+_cause|cause_of) (.+?) = (row .+|cause_of .+)$")
 NAMED = re.compile(r"^(\w+) = (\d+)$")
-PIN = re.compile(r"^  pub (\w+) : (?:\([^)]*\)\s*→ )?(.+?) ≡ (row .+|causeOf .+|\d+)$")
+PIN = re.compile(r"^  pub (\w+) : (?:\([^)]*\)\s*→ )?(.+?) ≡ (row .+|cause_of .+|\d+)$")
 
 
 def joined(text):
@@ -49,7 +50,7 @@ def other_number(said):
     """A row with another number."""
     if said.isdigit():
         return str(int(said) + 80)
-    if said.startswith("causeOf"):
+    if said.startswith("cause_of"):
         return "row 99 []"
     return re.sub(r"^row [\w.]+", "row 99", said)
 
@@ -78,8 +79,8 @@ CHANGES = [("number", other_number), ("values, one more", more_values)] + [(f"va
 
 
 def change(crate, to_other):
-    """Changes every row of the copied crate, and gives the rows that were changed."""
-    changed = []
+    """The crate's texts with every row changed, by their paths in it, and the rows that were changed."""
+    texts, changed = {}, []
     for path in sorted((crate / "specs").glob("*.antt")):
         lines = []
         for line in path.read_text().splitlines():
@@ -94,10 +95,10 @@ def change(crate, to_other):
             lines.append(line)
         text = "\n".join(lines) + "\n"
         if text != path.read_text():
-            for module, name in (("mathlib.Core.List", "[]"), ("mathlib.Core.List", "_∷_")):
-                text = with_use(text, module, name)
-            path.write_text(text)
-    return changed
+            for name in ("[]", "◌∷◌"):
+                text = with_use(text, "Rattle.std.specs.Prelude", name)
+            texts[path.relative_to(crate).as_posix()] = text
+    return texts, changed
 
 
 def with_use(text, module, name):
@@ -109,53 +110,37 @@ def with_use(text, module, name):
     return text if name in names else text.replace(match[0], f"use {module}.{{{', '.join(names + [name])}}}")
 
 
-def refused_pins(name, room):
-    """The pins that the prover refuses in the copy: the fields of a record at which it reports an error."""
-    log = subprocess.run(["rt", "dev", name], cwd=room, stdout=subprocess.PIPE, stderr=subprocess.STDOUT, text=True).stdout
+def refused_pins(crate, log):
+    """The pins that the prover refuses: the fields of a record at which it reports an error."""
     refused = set()
-    for file, line, column in re.findall(r"^(\S+/proofs/\S+\.antt):(\d+):(\d+): error", log, re.M):
-        text = pathlib.Path(file).read_text().splitlines()[int(line) - 1]
+    for file, line, column in re.findall(r"^(?:\./)?(proofs/\S+\.antt):(\d+):(\d+): error", log, re.M):
+        text = (crate / file).read_text().splitlines()[int(line) - 1]
         refused.update(re.findall(r"(\w+) = ", text[: int(column)])[-1:])
     return refused
 
 
-def try_crate(name, room):
-    """How many rows were changed, and which changes no pin refused."""
-    tried, missed = 0, []
-    for kind, to_other in CHANGES:
-        known = pins(room / "crates" / name)
-        changed = change(room / "crates" / name, to_other)
-        refused = refused_pins(name, room) if changed else set()
-        put_back(name, room)
-        tried += len(changed)
-        for row in changed:
-            if not any(pin in refused for pin in known.get(row, [])):
-                missed.append(f"{name}: {kind} of {' '.join(row).strip()}")
-    return tried, missed
-
-
-def put_back(name, room):
-    """The crate as it is: those above it are tried over what is proved."""
-    shutil.rmtree(room / "crates" / name)
-    shutil.copytree(ROOT / "crates" / name, room / "crates" / name)
-
-
 def main():
+    os.chdir(ROOT)
     names = sys.argv[1:] or sorted(path.parent.parent.name for path in ROOT.glob("crates/*/specs/CausesTell.antt"))
+    unready = [name for name in names if not tries.is_ready(name)]
+    if unready:
+        print(f"not tried, since `rt check` has not passed there: {', '.join(unready)}")
+        return 1
+    asked = []
+    for name in names:
+        for kind, to_other in CHANGES:
+            texts, changed = change(ROOT / "crates" / name, to_other)
+            if changed:
+                asked.append((name, kind, texts, changed))
     tried, missed = 0, []
-    with tempfile.TemporaryDirectory() as folder:
-        room = pathlib.Path(folder)
-        for part in ("crates", "crates.txt"):
-            source = ROOT / part
-            shutil.copytree(source, room / part) if source.is_dir() else shutil.copy(source, room / part)
-        for part in ("rlib", "stamp", "log"):
-            if (ROOT / "target" / part).is_dir():
-                shutil.copytree(ROOT / "target" / part, room / "target" / part)
-        for name in names:
-            count, left = try_crate(name, room)
-            print(f"{name}: {count} changes, {len(left)} not refused", flush=True)
-            tried += count
-            missed += left
+    logs = tries.tried((name, texts, None) for name, _, texts, _ in asked)
+    for (name, kind, _, changed), log in zip(asked, logs):
+        crate = ROOT / "crates" / name
+        known, refused = pins(crate), refused_pins(crate, log)
+        left = [row for row in changed if not any(pin in refused for pin in known.get(row, []))]
+        print(f"{name}: {kind}: {len(changed)} changes, {len(left)} not refused", flush=True)
+        tried += len(changed)
+        missed += [f"{name}: {kind} of {' '.join(row).strip()}" for row in left]
     for line in missed:
         print(f"not refused: {line}")
     print(f"01's numbers: {tried - len(missed)} changes refused, {len(missed)} not")

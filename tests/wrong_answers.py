@@ -1,24 +1,28 @@
 """Every wrong answer of crates/*/must-fail/ is refused because a fact fails, and every public function has two.
 
 `rt` says of an edit only that its crate is no longer proved. That is so too where a proof file merely no longer fits
-the code, and where one wrong function of several hides the others. Run this at the repository's root, after `rt ci`
-or `rt must-fail`: it reads what the prover said of each edit, target/must-fail/CRATE/EDIT/.log, and checks that
+the code, and where one wrong function of several hides the others. Run this at the repository's root, once `rt check` has passed in
+the crates, as `rt all check` has it: it tries each edit (tests/tries.py), keeps what the prover says in
+target/must-fail/CRATE/EDIT.log, and checks that
 - each function named by a line `# wrong: MODULE::fn_name -- what is wrong` of an edit is refused at a fact of its own,
-  and so is a file of laws that is named so;
+  and so is a file of laws that is named so. Where the whole edit does not show it, as the goals of a function are not tried
+  while one that it calls is not proved, the lines of that name are tried alone, in EDIT.NAME.log;
 - any other edit is refused at a fact;
 - each public function of each library crate is named in two groups, files wrong_answers_*.edit, of its crate, and a
   crate of theorems has two edits;
 - docs/WRONG_ANSWERS.md is what `--table` prints;
 - each edit that docs/CLAIMS.md names, CRATE/EDIT, is there, and where it says CRATE/EDIT: WORDS, one of its wrong answers
   begins with these words.
-It prints a line for each that is not shown. With names of crates, or of edits as CRATE/EDIT, it looks only at what was
-said of these. That an edit keeps the shape of the code is its author's care: where a proof answers the needs in their
-order, an answer that has moved to another need fails there like a fact.
+A fact is a goal that an answer or a tactic does not prove, or of which the prover says that the known facts allow values at which it is
+false. That a proof file names what the wrong code has not is none, and hides the other errors of its function, unless such values are
+named. It prints a line for each that is not shown. With names of crates, or of edits as CRATE/EDIT, it tries only these. That an edit
+keeps the names of the goals, which are those of the code's variables and branches, is its author's care.
 """
 import pathlib
 import re
 import sys
 
+import tries
 from sources import functions
 
 GROUPS = 'wrong_answers_*.edit'
@@ -36,39 +40,49 @@ file from `crates/*/must-fail/wrong_answers_*.edit`, and docs/CLAIMS.md says whi
 WRONG = re.compile(r'^# wrong: (\S+) -- (\S.*)', re.M)
 # An edit that a document names, and the words that tell which of its wrong answers is meant.
 CITED = re.compile(r'\b(\w+)/(?!(?:src|specs|proofs)\b)(\w+)(?![\w/.])(?:: ([^,;|()`.]+))?')
-# An error in a proof, with the lines that belong to it; and what is said of a function that has no proof file.
-ERROR = re.compile(r'^.*/proofs/(\S+)\.antt:\d+:\d+: error: (.*(?:\n  .*)*)', re.M)
-UNPROVED = re.compile(r'^fn \w+::(\S+): no proof: .* does not close ', re.M)
+# An error in a proof, with the lines that belong to it; a function's proof has several files.
+ERROR = re.compile(r'^(?:\./)?proofs/(\S+?)(?:/(?:Answers|Invariants|Proof))?\.antt(?::\d+:\d+)?: error: (.*(?:\n  .*)*)', re.M)
+# What is said of a function: what was not proved of it, where it has no proof file; or that it is not proved, behind the goals that
+# are open. What is said while the check goes on is said again at its end.
+FUNCTION = re.compile(r'^fn \w+::(\S+): (.*)')
+UNPROVED = re.compile(r'no proof: .*`search` did not prove ')
+FALSE = re.compile(r'^note: src/\S+: it is not proved that .* the facts known there allow values at which this goal is false')
+GOING_ON = re.compile(r'^(?:so far: |checked ).*\n', re.M)
 # Not looked at, since something that it builds on failed.
 PASSED_OVER = re.compile(r'was not admitted')
-# The proof file is one of other code; so it is where a fact is of another type than the one that is due, unless they differ
-# in a number alone.
-UNFIT = re.compile(r'can be named from here|has no\s+field|needs a function|`omega` does not read')
-OTHER = re.compile(r'the two types are (?!identical)(?:`([^`]*)`\s+\(expected\)\s+and\s+`([^`]*)`)?')
+# The proof file is one of other code.
+UNFIT = re.compile(r'can be named from here|has no (?:field|`)|is not in scope|exports no|needs a function|`omega` does not read')
 
 
-def errors(log):
-    """The errors of a log that were reached: the function, or the file of laws, that each is in, and its text."""
-    for place, text in ERROR.findall(log):
-        if not PASSED_OVER.search(text):
-            yield place.removesuffix('/Proof').replace('/', '::'), text
+class Said:
+    """What a log says of each function and file of laws: the errors that were reached, and whether a goal fails for sure."""
 
+    def __init__(self, log):
+        log = GOING_ON.sub('', log)
+        self.errors = {}
+        for place, text in ERROR.findall(log):
+            if not PASSED_OVER.search(text):
+                self.errors.setdefault(place.replace('/', '::'), []).append(text)
+        self.unproved, self.false, named = set(), set(), False
+        for line in log.splitlines():
+            named = named or bool(FALSE.search(line))
+            if function := FUNCTION.match(line):
+                if UNPROVED.match(function[2]):
+                    self.unproved.add(function[1])
+                if named:
+                    self.false.add(function[1])
+                named = False
 
-def unfit(text):
-    """Whether an error says that the proof is one of other code."""
-    pairs = [(expected.split(), found.split()) for expected, found in OTHER.findall(text)]
-    numbers = [
-        expected and len(expected) == len(found) and all(a == b or a.isdigit() and b.isdigit() for a, b in zip(expected, found))
-        for expected, found in pairs
-    ]
-    return UNFIT.search(text) or not all(numbers)
+    def refuses(self, name):
+        """Whether it refuses the function or the file of laws, and at facts."""
+        errors = self.errors.get(name, [])
+        if name in self.false:
+            return True
+        return bool(errors or name in self.unproved) and not any(UNFIT.search(text.split('\n')[0]) for text in errors)
 
-
-def refused(log, function=None):
-    """Whether the log refuses the function (without a name: the crate), and only at facts."""
-    texts = [text for name, text in errors(log) if function in (None, name)]
-    unproved = [name for name in UNPROVED.findall(log) if function in (None, name)]
-    return bool(texts or unproved) and not any(map(unfit, texts))
+    def refuses_one(self):
+        """Whether it refuses the crate, at facts."""
+        return any(self.refuses(name) for name in [*self.errors, *self.unproved, *self.false])
 
 
 def wrong(edit):
@@ -76,15 +90,62 @@ def wrong(edit):
     return WRONG.findall(edit.read_text(encoding='utf-8'))
 
 
-def answers(edit):
-    """The wrong answers that an edit tries, each with whether it is refused."""
-    crate = edit.parent.parent.name
-    path = pathlib.Path('target/must-fail', crate, edit.stem, '.log')
-    log = path.read_text(encoding='utf-8', errors='replace') if path.is_file() else ''
-    named = [name for name, _ in wrong(edit)]
-    if named:
-        return [(f'{crate}/{edit.stem}: {name}', refused(log, name)) for name in named]
-    return [(f'{crate}/{edit.stem}', not edit.match(GROUPS) and refused(log))]
+def changed(edit, name=None):
+    """The texts of the files that an edit changes, by their paths in the crate; with a name only by the lines of that wrong answer and those
+    in front of the first one. None where they do not stand once in these files."""
+    crate, path, old, texts, told = edit.parent.parent, None, None, {}, None
+    for line in edit.read_text(encoding='utf-8').split('\n'):
+        if found := WRONG.match(line):
+            told = found[1]
+        elif line.startswith('file: '):
+            path = line.removeprefix('file: ').strip()
+        elif line.startswith('old: '):
+            old = line.removeprefix('old: ')
+        elif line.startswith('new:') and (name is None or told in (None, name)):
+            if path not in texts:
+                texts[path] = crate.joinpath(path).read_text(encoding='utf-8')
+            if texts[path].count(old) != 1:
+                return None
+            texts[path] = texts[path].replace(old, line.removeprefix('new:').removeprefix(' '))
+    return texts
+
+
+def label_of(edit):
+    return f'{edit.parent.parent.name}/{edit.stem}'
+
+
+def said_of(asked):
+    """What is said of edits, each with the name of the wrong answer that is tried alone, or None: by both, and kept in target/must-fail."""
+    texts = {one: changed(*one) for one in asked}
+    ready = [one for one in asked if texts[one]]
+    functions_of = {crate: set(all_functions(pathlib.Path('crates', crate, 'src'))) for crate in {edit.parent.parent.name for edit, _ in ready}}
+    given = [(edit.parent.parent.name, texts[edit, name], name if name in functions_of[edit.parent.parent.name] else None) for edit, name in ready]
+    found = {one: Said('') for one in asked}
+    for (edit, name), log in zip(ready, tries.tried(given)):
+        path = pathlib.Path('target/must-fail', edit.parent.parent.name, f'{edit.stem}{"." + name.replace("::", ".") if name else ""}.log')
+        path.parent.mkdir(parents=True, exist_ok=True)
+        path.write_text(log, encoding='utf-8')
+        found[edit, name] = Said(log)
+    return found
+
+
+def answers(edits):
+    """The wrong answers that the edits try, each with whether it is refused."""
+    whole = said_of([(edit, None) for edit in edits])
+    named = [(edit, name) for edit in edits for name, _ in wrong(edit)]
+    alone = said_of(list(dict.fromkeys(one for one in named if not whole[one[0], None].refuses(one[1]))))
+    for edit in edits:
+        said = whole[edit, None]
+        for name, _ in wrong(edit):
+            yield f'{label_of(edit)}: {name}', said.refuses(name) or alone[edit, name].refuses(name)
+        if not wrong(edit):
+            yield label_of(edit), not edit.match(GROUPS) and said.refuses_one()
+
+
+def all_functions(source):
+    """The names of the functions of a crate's folder src/."""
+    for path in sorted(source.rglob('*.rt')):
+        yield from (function.name for function in functions(path.relative_to(source).as_posix(), path.read_text(encoding='utf-8')))
 
 
 def public_functions(source):
@@ -133,9 +194,11 @@ def main():
         return 0
     edits = sorted(pathlib.Path('crates').glob('*/must-fail/*.edit'))
     if only := sys.argv[1:]:
-        edits = [edit for edit in edits if {edit.parent.parent.name, f'{edit.parent.parent.name}/{edit.stem}'} & set(only)]
-    tried = [answer for edit in edits for answer in answers(edit)]
-    lost = [f'{name}: not shown to be refused at a fact' for name, shown in tried if not shown]
+        edits = [edit for edit in edits if {edit.parent.parent.name, label_of(edit)} & set(only)]
+    crates = sorted({edit.parent.parent.name for edit in edits})
+    lost = [f'{crate}: not tried, since `rt check` has not passed in it' for crate in crates if not tries.is_ready(crate)]
+    tried = list(answers([edit for edit in edits if tries.is_ready(edit.parent.parent.name)]))
+    lost += [f'{name}: not shown to be refused at a fact' for name, shown in tried if not shown]
     if not only:
         libraries = sorted(path.parent.parent for path in pathlib.Path('crates').glob('*/src/lib.rt'))
         lost += [gap for crate in libraries for gap in gaps(crate)]
