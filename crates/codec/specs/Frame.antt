@@ -1,6 +1,6 @@
 -- Reading a frame, from its Ethernet header on (EPSG DS 301, 4.6.1; IEEE 802.3, 3.1.1), under a table of services, by which ASnd is read.
 -- Assumes nothing.
-use Rattle.std.specs.Prelude.{ℕ, ◌≡◌, List, [], length, get_or, take, drop, leb, ltb, eqb}
+use Rattle.std.specs.Prelude.{ℕ, ◌≡◌, List, [], length, take, drop, leb, ltb, eqb}
 use Rattle.octets.specs.Numbers.{be_at}
 use Rattle.types.specs.Causes.{Cause, row, cause_of}
 use Rattle.types.specs.Codes.{need}

@@ -12,7 +12,6 @@ use Rattle.types.specs.declared.message_type.MessageTypeAnswer.TheVariants.{Know
 use Rattle.codec.specs.declared.headers.DeserializedEthHeader.{DeserializedEthHeader}
 use Rattle.codec.specs.declared.headers.EthHeaderAnswer.{EthHeaderAnswer}
 use Rattle.codec.specs.declared.headers.EthHeaderAnswer.TheVariants as eth
-use Rattle.codec.specs.declared.headers.PlHeader.{PlHeader}
 use Rattle.codec.specs.declared.headers.PlHeaderAnswer.{PlHeaderAnswer}
 use Rattle.codec.specs.declared.headers.PlHeaderAnswer.TheVariants.{Read, Refused}
 

@@ -1,6 +1,6 @@
 -- Reading the section of a PRes frame (EPSG DS 301, 4.6.1.1.4, Table 20).
 -- Assumes nothing.
-use Rattle.std.specs.Prelude.{ℕ, ◌-◌, ◌/◌, ◌%◌, List, length, get_or, leb, eqb}
+use Rattle.std.specs.Prelude.{ℕ, ◌-◌, List, length, get_or, leb, eqb}
 use Rattle.octets.specs.Numbers.{bit, le_at}
 use Rattle.types.specs.Codes.{need}
 use Rattle.types.specs.Nodes.{broadcast_node}

@@ -1,6 +1,6 @@
 -- Writing a SoC frame (EPSG DS 301, 4.6.1.1.2, Tables 15 and 16).
 -- Assumes nothing.
-use Rattle.std.specs.Prelude.{ℕ, ◌+◌, List, [], ◌∷◌, ◌++◌}
+use Rattle.std.specs.Prelude.{ℕ, ◌+◌, List, ◌∷◌, ◌++◌}
 use Rattle.octets.specs.Numbers.{le_bytes}
 use Rattle.types.specs.Addresses.{multicast_soc}
 use Rattle.types.specs.Header.{powerlink_header}

@@ -1,11 +1,10 @@
 -- The fields of an entry written one after the other are its octets.
 -- Assumes nothing.
 use Prim.Native.Nat.{ℕ}
-use mathlib.Core.Path.{◌≡◌, refl, sym, ap, ◌∙◌}
-use mathlib.Core.List.{List, ◌++◌}
+use mathlib.Core.Path.{◌≡◌, refl}
+use mathlib.Core.List.{List}
 use lib.Seq.{sets}
 use Rattle.octets.specs.Numbers.{le_bytes}
-use Rattle.octets.proofs.Sets.{sets_append}
 use Rattle.error_entry.specs.Entry.{type_number, entry_bytes}
 use Rattle.error_entry.specs.declared.ErrorEntry.{ErrorEntry}
 

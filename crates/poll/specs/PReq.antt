@@ -1,6 +1,6 @@
 -- Writing a PReq frame (EPSG DS 301, 4.6.1.1.3, Table 18).
 -- Assumes nothing.
-use Rattle.std.specs.Prelude.{ℕ, ◌+◌, ◌%◌, List, [], ◌∷◌, ◌++◌}
+use Rattle.std.specs.Prelude.{ℕ, ◌+◌, ◌%◌, List, ◌∷◌, ◌++◌}
 use Rattle.octets.specs.Numbers.{le_bytes}
 use Rattle.types.specs.Header.{powerlink_header}
 use Rattle.types.specs.Messages.{message_code}

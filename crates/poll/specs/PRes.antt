@@ -1,6 +1,6 @@
 -- Writing a PRes frame (EPSG DS 301, 4.6.1.1.4, Table 20).
 -- Assumes nothing.
-use Rattle.std.specs.Prelude.{ℕ, ◌+◌, ◌%◌, List, [], ◌∷◌, ◌++◌}
+use Rattle.std.specs.Prelude.{ℕ, ◌+◌, ◌%◌, List, ◌∷◌, ◌++◌}
 use Rattle.octets.specs.Numbers.{le_bytes}
 use Rattle.types.specs.Addresses.{multicast_pres}
 use Rattle.types.specs.Header.{powerlink_header}

@@ -12,7 +12,6 @@ use lib.Seq.{sets, length-sets, take-add, take_all, get_or-drop, length-take-le}
 use borrow.Author.Tests.{le-leb, eq-eqb, eqb-true, leb-true, leb-false}
 use borrow.Rule.Slice.PartMut.{mid_of, put_mid}
 use Rattle.octets.proofs.Sets.{sets_append}
-use Rattle.section.specs.Write.{Writes}
 use Rattle.section.specs.declared.WriteAnswer.TheVariants.{Written, Refused}
 use Rattle.section.proofs.Sections.{refuses, writes}
 use Rattle.types.specs.Codes.{need}

@@ -1,7 +1,6 @@
 -- `codec::deserialize_frame` meets its contract: each field is what its call gives.
 -- Assumes nothing.
 use mathlib.Core.Path.{◌≡◌}
-use borrow.Author.Rules.{rules}
 use Rattle.types.specs.declared.hal.PowerlinkError.TheVariants.{BufferTooShort}
 use Rattle.codec.specs.Frame.{read_frame, deserialize_frame}
 use Rattle.codec.specs.declared.FrameAnswer.TheVariants.{Refused}

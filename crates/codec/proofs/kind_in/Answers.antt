@@ -1,6 +1,5 @@
 -- `codec::kind_in` meets its contract: each arm names its kind.
 -- Assumes nothing.
-use borrow.Author.Rules.{rules}
 use native.Mathlib.Omega.{arith}
 use Rattle.types.specs.declared.message_type.MessageType.TheVariants.{SoC, PReq, PRes, SoA, ASnd}
 use Rattle.codec.proofs.FrameLaws.{section_known, section_unknown}

@@ -1,6 +1,5 @@
 -- `codec::kind_of` meets its contract: each `return` is a case of `kind_of`.
 -- Assumes nothing.
-use borrow.Author.Rules.{rules}
 use native.Mathlib.Omega.{arith}
 use Rattle.codec.proofs.FrameLaws.{frame_short, frame-laws}
 use Rattle.codec.proofs.kind_of.Goals as goal

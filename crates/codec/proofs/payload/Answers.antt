@@ -1,6 +1,5 @@
 -- `codec::payload` meets its contract: it is the front of a tail.
 -- Assumes nothing.
-use borrow.Author.Rules.{rules}
 use mathlib.Core.Path.{◌∙◌}
 use native.Mathlib.Omega.{arith}
 use Rattle.codec.proofs.payload.Goals as goal

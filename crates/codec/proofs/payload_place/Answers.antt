@@ -1,6 +1,5 @@
 -- `codec::payload_place` meets its contract: each arm is a case of `place_in_frame`.
 -- Assumes nothing.
-use borrow.Author.Rules.{rules}
 use Rattle.codec.proofs.payload_place.Goals as goal
 
 pub returns-in-ASnd : goal.returns-in-ASnd

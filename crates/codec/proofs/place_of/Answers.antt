@@ -1,6 +1,5 @@
 -- `codec::place_of` meets its contract: each arm is a case of `place_of`.
 -- Assumes nothing.
-use borrow.Author.Rules.{rules}
 use Rattle.codec.proofs.place_of.Goals as goal
 
 pub returns-in-Refused : goal.returns-in-Refused

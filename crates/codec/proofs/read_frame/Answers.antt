@@ -1,6 +1,5 @@
 -- `codec::read_frame` meets its contract: the kind is read by its rules.
 -- Assumes nothing.
-use borrow.Author.Rules.{rules}
 use Rattle.codec.specs.Frame.{read_frame}
 use Rattle.codec.proofs.FrameLaws.{frame_told}
 use Rattle.codec.proofs.read_frame.Goals as goal

@@ -1,7 +1,6 @@
 -- `entry_in` meets its contract.
 -- Assumes nothing.
 use Rattle.error_entry.specs.Entry.{entry_of}
-use borrow.Author.Rules.{rules}
 use Rattle.error_entry.proofs.entry_in.Goals as goal
 
 pub returns : goal.returns

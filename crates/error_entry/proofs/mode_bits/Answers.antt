@@ -1,9 +1,7 @@
 -- `mode_bits` meets its contract: a mode has two bits.
 -- Assumes nothing.
-use mathlib.Core.Path.{◌≡◌}
 use native.Mathlib.Omega.{arith}
 use Rattle.types.proofs.Modes.{mode_small}
-use borrow.Author.Rules.{rules}
 use Rattle.error_entry.proofs.mode_bits.Goals as goal
 
 pub returns : goal.returns

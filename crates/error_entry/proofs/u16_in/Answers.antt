@@ -4,7 +4,6 @@ use mathlib.Core.Path.{◌∙◌}
 use Prim.Native.Nat.{◌+◌}
 use Rattle.octets.proofs.Le.{byte}
 use Rattle.error_entry.proofs.Numbers.{halves}
-use borrow.Author.Rules.{rules}
 use Rattle.error_entry.proofs.u16_in.Goals as goal
 
 pub returns : goal.returns

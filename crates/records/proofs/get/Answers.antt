@@ -1,6 +1,5 @@
 -- `get` meets its contract.
 -- Assumes nothing.
-use borrow.Author.Rules.{rules}
 use Rattle.records.proofs.get.Goals as goal
 
 pub returns : goal.returns

@@ -1,6 +1,5 @@
 -- `put` meets its contract: the rest of the octets from the place on is written at its front.
 -- Assumes nothing.
-use borrow.Author.Rules.{rules}
 use Rattle.records.proofs.PutLaws.{put_none, put_rest}
 use Rattle.records.proofs.put.Goals as goal
 

@@ -1,6 +1,5 @@
 -- `codec::asnd::deserialize` meets its contract: each verdict is read as its answer.
 -- Assumes nothing.
-use borrow.Author.Rules.{rules}
 use Rattle.codec.proofs.asnd.deserialize.Goals as goal
 
 pub returns-in-Read : goal.returns-in-Read

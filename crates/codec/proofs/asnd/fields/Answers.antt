@@ -1,6 +1,5 @@
 -- `codec::asnd::fields` meets its contract: each field is what its octets give.
 -- Assumes nothing.
-use borrow.Author.Rules.{rules}
 use Rattle.codec.proofs.asnd.fields.Goals as goal
 
 pub returns : goal.returns

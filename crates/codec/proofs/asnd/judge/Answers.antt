@@ -1,8 +1,6 @@
 -- `codec::asnd::judge` meets its contract: each `return` is a case of `read_asnd`.
 -- Assumes nothing.
 use mathlib.Core.Path.{sym, ◌∙◌}
-use borrow.Author.Rules.{rules}
-use borrow.Author.Tests.{not-true, not-false}
 use Rattle.codec.proofs.ASndLaws.{asnd_short, asnd_no_service, asnd_read}
 use Rattle.codec.proofs.asnd.judge.Goals as goal
 

@@ -1,7 +1,6 @@
 -- `codec::asnd::payload_len` meets its contract: the length decides whether zeros are trimmed.
 -- Assumes nothing.
 use borrow.Author.Tests.{eq-eqb, ne_eqb}
-use borrow.Author.Rules.{rules}
 use Rattle.codec.specs.ASnd.{asnd_payload_length}
 use Rattle.codec.proofs.asnd.payload_len.Goals as goal
 

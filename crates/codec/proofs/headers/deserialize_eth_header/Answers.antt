@@ -1,7 +1,6 @@
 -- `codec::headers::deserialize_eth_header` meets its contract: the length decides the answer.
 -- Assumes nothing.
 use borrow.Author.Tests.{le-leb, lt-leb}
-use borrow.Author.Rules.{rules}
 use Rattle.codec.proofs.headers.deserialize_eth_header.Goals as goal
 
 pub returns-then-buffer-lt-ETH_LEN : goal.returns-then-buffer-lt-ETH_LEN

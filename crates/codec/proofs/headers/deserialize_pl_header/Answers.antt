@@ -1,6 +1,5 @@
 -- `codec::headers::deserialize_pl_header` meets its contract: each `return` is a case of `deserialize_pl_header`.
 -- Assumes nothing.
-use borrow.Author.Rules.{rules}
 use native.Mathlib.Omega.{arith}
 use Rattle.codec.proofs.HeaderLaws.{pl_short, pl-laws, pl_told}
 use Rattle.codec.proofs.headers.deserialize_pl_header.Goals as goal

@@ -1,6 +1,5 @@
 -- `codec::headers::eth_header_at` meets its contract: each field is what its reader gives.
 -- Assumes nothing.
-use borrow.Author.Rules.{rules}
 use Rattle.types.specs.Header.{eth_header_of}
 use Rattle.codec.proofs.headers.eth_header_at.Goals as goal
 

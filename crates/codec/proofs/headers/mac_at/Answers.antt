@@ -1,6 +1,5 @@
 -- `codec::headers::mac_at` meets its contract: each octet is what `byte_at` gives.
 -- Assumes nothing.
-use borrow.Author.Rules.{rules}
 use Rattle.codec.proofs.headers.mac_at.Goals as goal
 
 pub returns : goal.returns

@@ -1,6 +1,5 @@
 -- `codec::headers::whole_header` meets its contract: each octet stands where it does in the header.
 -- Assumes nothing.
-use borrow.Author.Rules.{rules}
 use lib.Seq.{get_or-drop}
 use Rattle.types.specs.Header.{eth_header_of}
 use Rattle.codec.proofs.headers.whole_header.Goals as goal

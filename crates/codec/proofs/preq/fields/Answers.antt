@@ -1,6 +1,5 @@
 -- `codec::preq::fields` meets its contract: each field is what its octets give.
 -- Assumes nothing.
-use borrow.Author.Rules.{rules}
 use Rattle.codec.proofs.preq.fields.Goals as goal
 
 pub returns : goal.returns

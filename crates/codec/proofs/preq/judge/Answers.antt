@@ -1,6 +1,5 @@
 -- `codec::preq::judge` meets its contract: each `return` is a case of `read_preq`.
 -- Assumes nothing.
-use borrow.Author.Rules.{rules}
 use native.Mathlib.Omega.{arith}
 use Rattle.codec.proofs.PReqLaws.{preq_short, preq-laws}
 use Rattle.codec.proofs.PollLaws.{payload_cut, payload_fits}

@@ -1,6 +1,5 @@
 -- `codec::pres::flags_of` meets its contract.
 -- Assumes nothing.
-use borrow.Author.Rules.{rules}
 use Rattle.codec.specs.PRes.{pres_flags_of}
 use Rattle.codec.proofs.pres.flags_of.Goals as goal
 

@@ -1,6 +1,5 @@
 -- `codec::pres::judge` meets its contract: each `return` is a case of `read_pres`.
 -- Assumes nothing.
-use borrow.Author.Rules.{rules}
 use native.Mathlib.Omega.{arith}
 use Rattle.codec.proofs.PResLaws.{pres_short, pres-laws}
 use Rattle.codec.proofs.PollLaws.{payload_cut, payload_fits}

@@ -1,6 +1,5 @@
 -- `codec::soa::fields` meets its contract: each field is what its octets give.
 -- Assumes nothing.
-use borrow.Author.Rules.{rules}
 use Rattle.codec.proofs.soa.fields.Goals as goal
 
 pub returns : goal.returns

@@ -1,6 +1,5 @@
 -- `codec::soa::judge` meets its contract: each `return` is a case of `read_soa`.
 -- Assumes nothing.
-use borrow.Author.Rules.{rules}
 use native.Mathlib.Omega.{arith}
 use Rattle.codec.proofs.SoALaws.{soa_short, soa-laws}
 use Rattle.codec.proofs.soa.judge.Goals as goal

@@ -1,6 +1,5 @@
 -- `codec::soc::fields` meets its contract: each field is what its octets give.
 -- Assumes nothing.
-use borrow.Author.Rules.{rules}
 use Rattle.codec.proofs.soc.fields.Goals as goal
 
 pub returns : goal.returns

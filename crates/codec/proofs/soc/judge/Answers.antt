@@ -1,6 +1,5 @@
 -- `codec::soc::judge` meets its contract: each `return` is a case of `read_soc`.
 -- Assumes nothing.
-use borrow.Author.Rules.{rules}
 use native.Mathlib.Omega.{arith}
 use Rattle.codec.proofs.SoCLaws.{soc_short, soc_read}
 use Rattle.codec.proofs.soc.judge.Goals as goal

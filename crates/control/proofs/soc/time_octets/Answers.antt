@@ -1,6 +1,5 @@
 -- `soc::time_octets` meets its contract: the octets that it lays out are those of the layout.
 -- Assumes nothing.
-use borrow.Author.Rules.{rules}
 use Rattle.control.proofs.soc.time_octets.Goals as goal
 
 pub returns : goal.returns

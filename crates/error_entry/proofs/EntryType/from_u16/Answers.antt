@@ -1,7 +1,6 @@
 -- `EntryType::from_u16` meets its contract.
 -- Assumes nothing.
 use Rattle.error_entry.specs.Entry.{entry_type_of}
-use borrow.Author.Rules.{rules}
 use Rattle.error_entry.proofs.EntryType.from_u16.Goals as goal
 
 pub returns : goal.returns

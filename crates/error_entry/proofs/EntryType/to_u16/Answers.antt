@@ -1,8 +1,6 @@
 -- `EntryType::to_u16` meets its contract.
 -- Assumes nothing.
-use native.Mathlib.Omega.{arith}
 use Rattle.error_entry.specs.Entry.{type_number}
-use borrow.Author.Rules.{rules}
 use Rattle.error_entry.proofs.EntryType.to_u16.Goals as goal
 
 pub returns : goal.returns

@@ -2,7 +2,6 @@
 -- Assumes nothing.
 use borrow.Author.Tests.{le-leb, lt-leb}
 use Rattle.error_entry.specs.Entry.{read_entry}
-use borrow.Author.Rules.{rules}
 use Rattle.error_entry.proofs.ErrorEntry.deserialize.Goals as goal
 
 pub returns-then-buffer-lt-ENTRY_LEN : goal.returns-then-buffer-lt-ENTRY_LEN

@@ -1,7 +1,6 @@
 -- `ErrorEntry::put` meets its contract: the fields written one after the other are the entry's octets.
 -- Assumes nothing.
 use Rattle.error_entry.proofs.Fields.{put_fields}
-use borrow.Author.Rules.{rules}
 use Rattle.error_entry.proofs.ErrorEntry.put.Goals as goal
 
 pub returns : goal.returns

@@ -1,7 +1,6 @@
 -- `ErrorEntry::serialize` meets its contract.
 -- Assumes nothing.
 use mathlib.Core.Path.{refl}
-use borrow.Author.Rules.{rules}
 use Rattle.section.proofs.Sections.{refuses, writes}
 use Rattle.error_entry.specs.Entry.{entry_bytes}
 use Rattle.error_entry.proofs.ErrorEntry.serialize.Goals as goal

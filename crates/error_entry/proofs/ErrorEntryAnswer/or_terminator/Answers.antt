@@ -1,6 +1,5 @@
 -- `ErrorEntryAnswer::or_terminator` meets its contract.
 -- Assumes nothing.
-use borrow.Author.Rules.{rules}
 use Rattle.error_entry.proofs.ErrorEntryAnswer.or_terminator.Goals as goal
 
 pub returns-in-Refused : goal.returns-in-Refused

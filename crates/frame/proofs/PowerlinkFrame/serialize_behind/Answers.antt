@@ -1,6 +1,5 @@
 -- `PowerlinkFrame::serialize_behind` meets its contract: the kind picks the section.
 -- Assumes nothing.
-use borrow.Author.Rules.{rules}
 use Rattle.control.specs.SoA.{soa_section}
 use Rattle.control.specs.SoC.{soc_section}
 use Rattle.poll.specs.PReq.{preq_section}

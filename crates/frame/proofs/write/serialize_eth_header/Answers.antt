@@ -1,6 +1,5 @@
 -- `write::serialize_eth_header` meets its contract.
 -- Assumes nothing.
-use borrow.Author.Rules.{rules}
 use Rattle.frame.proofs.write.serialize_eth_header.Goals as goal
 
 pub returns : goal.returns

@@ -1,6 +1,5 @@
 -- `write::serialize_frame` meets its contract: the section is written behind the header's octets.
 -- Assumes nothing.
-use borrow.Author.Rules.{rules}
 use Rattle.frame.specs.Write.{frame_bytes}
 use Rattle.frame.proofs.write.serialize_frame.Goals as goal
 

@@ -1,6 +1,5 @@
 -- `write::serialize_pl_header` meets its contract.
 -- Assumes nothing.
-use borrow.Author.Rules.{rules}
 use Rattle.frame.proofs.write.serialize_pl_header.Goals as goal
 
 pub returns : goal.returns

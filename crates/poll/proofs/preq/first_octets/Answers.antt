@@ -1,6 +1,5 @@
 -- `preq::first_octets` meets its contract: the octets that it lays out are the first of the layout.
 -- Assumes nothing.
-use borrow.Author.Rules.{rules}
 use Rattle.poll.proofs.preq.first_octets.Goals as goal
 
 pub returns : goal.returns

@@ -3,7 +3,6 @@
 use mathlib.Core.Path.{◌∙◌}
 use native.Mathlib.Omega.{arith}
 use Rattle.status_response.proofs.Padded.{field_padded}
-use borrow.Author.Rules.{rules}
 use Rattle.status_response.proofs.bit_field.field_at.Goals as goal
 
 pub returns : goal.returns

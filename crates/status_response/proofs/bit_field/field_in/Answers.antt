@@ -2,7 +2,6 @@
 -- Assumes nothing.
 use mathlib.Core.Path.{refl}
 use Rattle.status_response.specs.BitField.{field_of}
-use borrow.Author.Rules.{rules}
 use Rattle.status_response.proofs.bit_field.field_in.Goals as goal
 
 pub returns : goal.returns

@@ -2,7 +2,6 @@
 -- Assumes nothing.
 use mathlib.Core.Path.{refl, sym, ap, ◌∙◌}
 use native.Mathlib.Omega.{arith}
-use borrow.Author.Rules.{rules}
 use Rattle.section.specs.declared.WriteAnswer.TheVariants.{Written}
 use Rattle.status_response.proofs.Places.{fit_true}
 use Rattle.status_response.proofs.entries.finish.Goals as goal

@@ -1,6 +1,5 @@
 -- `entries::put_head` meets its contract: each arm is a case of `head_put`.
 -- Assumes nothing.
-use borrow.Author.Rules.{rules}
 use Rattle.status_response.proofs.WriteLaws.{head_put_lem, head_left}
 use Rattle.status_response.proofs.entries.put_head.Goals as goal
 

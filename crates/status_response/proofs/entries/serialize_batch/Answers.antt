@@ -2,7 +2,6 @@
 -- Assumes nothing.
 use mathlib.Core.Path.{refl}
 use borrow.Author.Tests.{le-leb, lt-leb}
-use borrow.Author.Rules.{rules}
 use Rattle.status_response.proofs.entries.serialize_batch.Goals as goal
 
 pub returns-then-n-gt4 : goal.returns-then-n-gt4

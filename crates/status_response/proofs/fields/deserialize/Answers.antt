@@ -1,6 +1,5 @@
 -- `fields::deserialize` meets its contract: the field and the answer are what their readers give.
 -- Assumes nothing.
-use borrow.Author.Rules.{rules}
 use Rattle.status_response.proofs.fields.deserialize.Goals as goal
 
 pub returns : goal.returns

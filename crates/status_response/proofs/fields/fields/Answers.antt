@@ -1,6 +1,5 @@
 -- `fields::fields` meets its contract.
 -- Assumes nothing.
-use borrow.Author.Rules.{rules}
 use Rattle.status_response.proofs.fields.fields.Goals as goal
 
 pub returns : goal.returns

@@ -2,7 +2,6 @@
 -- Assumes nothing.
 use mathlib.Core.Path.{sym, ◌∙◌}
 use borrow.Author.Tests.{le-leb, lt-leb}
-use borrow.Author.Rules.{rules}
 use Rattle.status_response.specs.Fields.{read_fields}
 use Rattle.status_response.proofs.fields.read_fields.Goals as goal
 

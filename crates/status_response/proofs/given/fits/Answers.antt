@@ -1,6 +1,5 @@
 -- `given::fits` meets its contract.
 -- Assumes nothing.
-use borrow.Author.Rules.{rules}
 use borrow.Author.Tests.{eq-eqb, ne_eqb}
 use Rattle.status_response.specs.Parts.{entries_fit}
 use Rattle.status_response.proofs.given.fits.Goals as goal

@@ -1,7 +1,6 @@
 -- `given::four` meets its contract.
 -- Assumes nothing.
 use lib.Seq.{drop-drop}
-use borrow.Author.Rules.{rules}
 use Rattle.status_response.proofs.given.four.Goals as goal
 
 pub returns : goal.returns

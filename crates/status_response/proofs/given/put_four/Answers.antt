@@ -1,7 +1,6 @@
 -- `given::put_four` meets its contract: the entries that were read are written as their octets.
 -- Assumes nothing.
 use native.Mathlib.Omega.{arith}
-use borrow.Author.Rules.{rules}
 use Rattle.status_response.proofs.GivenLaws.{group_put}
 use Rattle.status_response.proofs.given.put_four.Goals as goal
 

@@ -1,13 +1,12 @@
 -- `given::put_groups` meets its contract. The loop's invariant: `at` is a multiple of an entry's octets, and as many are put.
 -- The measure is what is left of the octets.
 -- Assumes nothing.
-use Prim.Native.Nat.{ℕ, ◌+◌, ◌-◌, ◌%◌, ◌≤◌}
-use mathlib.Core.Path.{◌≡◌, refl, ap, ◌∙◌}
+use Prim.Native.Nat.{◌+◌, ◌-◌}
+use mathlib.Core.Path.{refl, ap, ◌∙◌}
 use native.Mathlib.Omega.{arith}
-use lib.ListN.{length, take}
-use lib.Seq.{sets, length-sets}
+use lib.ListN.{length}
+use lib.Seq.{length-sets}
 use Rattle.status_response.proofs.GivenLaws.{group_fits, four_fits, group_behind, all_put}
-use borrow.Author.Rules.{rules}
 use Rattle.status_response.proofs.given.put_groups.Goals as goal
 
 pub put_four-requires : goal.put_four-requires

@@ -3,7 +3,6 @@
 use Prim.Native.Nat.{◌/◌}
 use native.Mathlib.Omega.{arith}
 use lib.ListN.{length}
-use borrow.Author.Rules.{rules}
 use Rattle.status_response.proofs.GivenLaws.{group_put}
 use Rattle.status_response.proofs.given.put_rest.Goals as goal
 

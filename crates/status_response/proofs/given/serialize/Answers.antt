@@ -4,8 +4,6 @@ use mathlib.Core.Path.{sym, ap, ◌∙◌}
 use native.Mathlib.Omega.{arith}
 use lib.ListN.{length}
 use lib.Seq.{length-sets}
-use borrow.Author.Rules.{rules}
-use borrow.Author.Tests.{not-true, not-false}
 use Rattle.status_response.proofs.GivenLaws.{given_fits, status_refused, status_written}
 use Rattle.status_response.proofs.given.serialize.Goals as goal
 

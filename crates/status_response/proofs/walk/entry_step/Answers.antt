@@ -3,7 +3,6 @@
 use Prim.Native.Nat.{◌+◌}
 use mathlib.Core.Path.{refl, sym, ◌∙◌}
 use native.Mathlib.Omega.{arith}
-use borrow.Author.Rules.{rules}
 use Rattle.error_entry.specs.Entry.{entry_length}
 use Rattle.types.proofs.Modes.{is_terminator, is_entry}
 use Rattle.status_response.specs.declared.walk.EntryStep.TheVariants.{Entry, End}

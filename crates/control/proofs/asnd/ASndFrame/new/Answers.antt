@@ -1,6 +1,5 @@
 -- `ASndFrame::new` meets its contract.
 -- Assumes nothing.
-use borrow.Author.Rules.{rules}
 use Rattle.control.proofs.asnd.ASndFrame.new.Goals as goal
 
 pub returns : goal.returns

@@ -3,8 +3,6 @@
 use mathlib.Core.Path.{sym, ◌∙◌}
 use mathlib.Core.List.{◌++◌}
 use lib.ListN.{length}
-use borrow.Author.Rules.{rules}
-use borrow.Author.Tests.{not-true, not-false}
 use Rattle.section.proofs.Sections.{room, no_room_lem}
 use Rattle.control.specs.ASnd.{asnd_bytes, asnd_section}
 use Rattle.control.proofs.Served.{served_held, served_refused, served_short}

@@ -1,6 +1,5 @@
 -- `SoAFrame::new` meets its contract.
 -- Assumes nothing.
-use borrow.Author.Rules.{rules}
 use Rattle.control.proofs.soa.SoAFrame.new.Goals as goal
 
 pub returns : goal.returns

@@ -1,6 +1,5 @@
 -- `SoAFrame::serialize` meets its contract.
 -- Assumes nothing.
-use borrow.Author.Rules.{rules}
 use Rattle.control.specs.SoA.{soa_section}
 use Rattle.control.proofs.soa.SoAFrame.serialize.Goals as goal
 

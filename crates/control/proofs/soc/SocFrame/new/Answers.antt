@@ -1,6 +1,5 @@
 -- `SocFrame::new` meets its contract.
 -- Assumes nothing.
-use borrow.Author.Rules.{rules}
 use Rattle.control.proofs.soc.SocFrame.new.Goals as goal
 
 pub returns : goal.returns

@@ -1,6 +1,5 @@
 -- `SocFrame::serialize` meets its contract.
 -- Assumes nothing.
-use borrow.Author.Rules.{rules}
 use Rattle.control.specs.SoC.{soc_section}
 use Rattle.control.proofs.soc.SocFrame.serialize.Goals as goal
 

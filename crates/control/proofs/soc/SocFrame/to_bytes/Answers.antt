@@ -1,6 +1,5 @@
 -- `SocFrame::to_bytes` meets its contract: the octets that it lays out are those of the layout.
 -- Assumes nothing.
-use borrow.Author.Rules.{rules}
 use Rattle.control.proofs.soc.SocFrame.to_bytes.Goals as goal
 
 pub returns : goal.returns

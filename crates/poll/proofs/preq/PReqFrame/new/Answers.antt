@@ -1,6 +1,5 @@
 -- `PReqFrame::new` meets its contract.
 -- Assumes nothing.
-use borrow.Author.Rules.{rules}
 use Rattle.poll.proofs.preq.PReqFrame.new.Goals as goal
 
 pub returns : goal.returns

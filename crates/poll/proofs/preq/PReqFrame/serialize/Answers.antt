@@ -1,6 +1,5 @@
 -- `PReqFrame::serialize` meets its contract.
 -- Assumes nothing.
-use borrow.Author.Rules.{rules}
 use Rattle.poll.specs.PReq.{preq_section}
 use Rattle.poll.proofs.preq.PReqFrame.serialize.Goals as goal
 

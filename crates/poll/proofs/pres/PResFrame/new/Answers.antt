@@ -1,6 +1,5 @@
 -- `PResFrame::new` meets its contract.
 -- Assumes nothing.
-use borrow.Author.Rules.{rules}
 use Rattle.poll.proofs.pres.PResFrame.new.Goals as goal
 
 pub returns : goal.returns

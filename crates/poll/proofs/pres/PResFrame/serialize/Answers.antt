@@ -1,6 +1,5 @@
 -- `PResFrame::serialize` meets its contract.
 -- Assumes nothing.
-use borrow.Author.Rules.{rules}
 use Rattle.poll.specs.PRes.{pres_section}
 use Rattle.poll.proofs.pres.PResFrame.serialize.Goals as goal
 

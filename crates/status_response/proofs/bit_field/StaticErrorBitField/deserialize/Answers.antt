@@ -1,6 +1,5 @@
 -- `StaticErrorBitField::deserialize` meets its contract.
 -- Assumes nothing.
-use borrow.Author.Rules.{rules}
 use borrow.Author.Tests.{le-leb, lt-leb}
 use Rattle.status_response.proofs.bit_field.StaticErrorBitField.deserialize.Goals as goal
 

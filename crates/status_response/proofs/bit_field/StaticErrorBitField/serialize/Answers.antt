@@ -1,6 +1,5 @@
 -- `StaticErrorBitField::serialize` meets its contract.
 -- Assumes nothing.
-use borrow.Author.Rules.{rules}
 use Rattle.status_response.proofs.bit_field.StaticErrorBitField.serialize.Goals as goal
 
 pub returns : goal.returns

@@ -1,6 +1,5 @@
 -- `StaticErrorBitField::to_bytes` meets its contract.
 -- Assumes nothing.
-use borrow.Author.Rules.{rules}
 use mathlib.Core.Path.{refl}
 use Rattle.status_response.specs.BitField.{field_bytes}
 use Rattle.status_response.proofs.bit_field.StaticErrorBitField.to_bytes.Goals as goal

@@ -1,6 +1,5 @@
 -- `StatusFields::to_bytes` meets its contract.
 -- Assumes nothing.
-use borrow.Author.Rules.{rules}
 use Rattle.status_response.specs.BitField.{field_bytes}
 use Rattle.status_response.specs.Fields.{head_bytes}
 use Rattle.status_response.proofs.fields.StatusFields.to_bytes.Goals as goal
