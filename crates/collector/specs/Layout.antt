@@ -10,7 +10,6 @@ use Rattle.records.specs.Records.{entry_length, record_at, with_record}
 use Rattle.records.specs.Ring.{ring}
 use Rattle.collector.specs.Rules.{heads, book_length, Account, Box, when_registered, Said, en_in, when_booked, when_taken, response_in, status_in}
 use Rattle.collector.specs.declared.ReadAnswer.{ReadAnswer}
-use Rattle.collector.specs.declared.ReadAnswer.TheVariants.{Refused}
 use Rattle.collector.specs.declared.RegisterAnswer.{RegisterAnswer}
 use Rattle.collector.specs.declared.TakeAnswer.{TakeAnswer}
 use Rattle.collector.specs.declared.reading.Heard.{Heard}

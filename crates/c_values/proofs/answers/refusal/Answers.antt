@@ -3,7 +3,6 @@
 use Prim.Native.Nat.{ℕ, ◌≤◌, ◌<◌}
 use mathlib.Core.Path.{◌≡◌, refl, ◌∙◌}
 use native.Mathlib.Omega.{arith}
-use borrow.Author.Rules.{rules}
 use Rattle.types.specs.CauseNumbers.{unknown_message}
 use Rattle.types.specs.Causes.{cause_number, cause_byte}
 use Rattle.types.specs.declared.hal.PowerlinkError.{PowerlinkError}

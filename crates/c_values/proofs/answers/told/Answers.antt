@@ -1,6 +1,5 @@
 -- `answers::told` meets its contract.
 -- Assumes nothing.
-use borrow.Author.Rules.{rules}
 use Rattle.c_values.proofs.answers.told.Goals as goal
 
 pub returns-in-Written : goal.returns-in-Written

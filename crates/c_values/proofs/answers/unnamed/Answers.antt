@@ -1,6 +1,5 @@
 -- `answers::unnamed` meets its contract.
 -- Assumes nothing.
-use borrow.Author.Rules.{rules}
 use mathlib.Core.Path.{refl}
 use borrow.Author.Tests.{le-leb, lt-leb}
 use Rattle.c_values.proofs.answers.unnamed.Goals as goal
