@@ -19,20 +19,15 @@ use Rattle.control.specs.ASnd.{new_asnd, asnd_section, served}
 use Rattle.control.specs.SoA.{new_soa, soa_section}
 use Rattle.control.specs.SoC.{new_soc}
 use Rattle.control.specs.declared.asnd.ASndFrame.{ASndFrame}
-use Rattle.control.specs.declared.asnd.NewASndFrame.{NewASndFrame}
-use Rattle.control.specs.declared.soa.NewSoAFrame.{NewSoAFrame}
 use Rattle.control.specs.declared.soa.SoAFlags.{SoAFlags}
 use Rattle.control.specs.declared.soa.SoAFrame.{SoAFrame}
-use Rattle.control.specs.declared.soc.NewSocFrame.{NewSocFrame}
 use Rattle.control.specs.declared.soc.SocFlags.{SocFlags}
 use Rattle.control.specs.declared.soc.SocFrame.{SocFrame}
 use Rattle.poll.specs.PReq.{new_preq}
 use Rattle.poll.specs.PRes.{new_pres, pres_section}
 use Rattle.poll.specs.Poll.{poll_fields_length}
-use Rattle.poll.specs.declared.preq.NewPReqFrame.{NewPReqFrame}
 use Rattle.poll.specs.declared.preq.PReqFlags.{PReqFlags}
 use Rattle.poll.specs.declared.preq.PReqFrame.{PReqFrame}
-use Rattle.poll.specs.declared.pres.NewPResFrame.{NewPResFrame}
 use Rattle.poll.specs.declared.pres.PResFlags.{PResFlags}
 use Rattle.poll.specs.declared.pres.PResFrame.{PResFrame}
 use Rattle.frame.specs.Write.{pl_header_bytes, frame_bytes}

@@ -1,6 +1,5 @@
 -- `collecting::powerlink_collector_flags` meets its contract.
 -- Assumes nothing.
-use borrow.Author.Rules.{rules}
 use mathlib.Core.Path.{sym}
 use Rattle.error_entry.proofs.Values.{flag_told_lem}
 use Rattle.powerlink.proofs.Collectors.{flags_told_lem}

@@ -1,6 +1,5 @@
 -- `collecting::powerlink_collector_read_v2` meets its contract.
 -- Assumes nothing.
-use borrow.Author.Rules.{rules}
 use mathlib.Core.Path.{refl}
 use Rattle.powerlink.proofs.Collectors.{reads_told}
 use Rattle.powerlink.proofs.Told.{refused_told}

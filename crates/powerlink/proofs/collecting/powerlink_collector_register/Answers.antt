@@ -1,6 +1,5 @@
 -- `collecting::powerlink_collector_register` meets its contract.
 -- Assumes nothing.
-use borrow.Author.Rules.{rules}
 use Rattle.powerlink.proofs.Collectors.{registers_told}
 use Rattle.powerlink.proofs.collecting.powerlink_collector_register.Goals as goal
 

@@ -1,8 +1,6 @@
 -- `collecting::powerlink_collector_request` meets its contract.
 -- Assumes nothing.
-use borrow.Author.Rules.{rules}
 use mathlib.Core.Path.{sym, ◌∙◌}
-use borrow.Author.Tests.{not-true, not-false}
 use Rattle.types.proofs.CausesTell.{not_0}
 use Rattle.powerlink.proofs.Collectors.{asks_nobody, asks_none, asks_told}
 use Rattle.powerlink.proofs.collecting.powerlink_collector_request.Goals as goal

@@ -1,6 +1,5 @@
 -- `collecting::powerlink_collector_take` meets its contract.
 -- Assumes nothing.
-use borrow.Author.Rules.{rules}
 use mathlib.Core.Path.{◌∙◌}
 use Rattle.powerlink.proofs.Collectors.{takes_told}
 use Rattle.powerlink.proofs.collecting.powerlink_collector_take.Goals as goal

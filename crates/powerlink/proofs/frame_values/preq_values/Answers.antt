@@ -1,6 +1,5 @@
 -- `frame_values::preq_values` meets its contract.
 -- Assumes nothing.
-use borrow.Author.Rules.{rules}
 use Rattle.powerlink.proofs.frame_values.preq_values.Goals as goal
 
 pub returns : goal.returns

@@ -1,6 +1,5 @@
 -- `frames::powerlink_new_asnd_v2` meets its contract.
 -- Assumes nothing.
-use borrow.Author.Rules.{rules}
 use Rattle.frame.specs.Write.{frame_bytes}
 use Rattle.powerlink.proofs.Writers.{serializes_coded}
 use Rattle.powerlink.proofs.frames.powerlink_new_asnd_v2.Goals as goal

@@ -1,6 +1,5 @@
 -- `frames::powerlink_new_preq` meets its contract.
 -- Assumes nothing.
-use borrow.Author.Rules.{rules}
 use Rattle.poll.specs.PReq.{preq_section}
 use Rattle.frame.specs.Write.{frame_bytes}
 use Rattle.powerlink.proofs.frames.powerlink_new_preq.Goals as goal

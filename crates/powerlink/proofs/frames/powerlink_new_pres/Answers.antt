@@ -2,7 +2,6 @@
 -- Assumes nothing.
 use mathlib.Core.Path.{ap, sym, ◌∙◌}
 use lib.ListN.{length, length-set}
-use borrow.Author.Rules.{rules}
 use Rattle.types.proofs.CodeCauses.{state_code_lem}
 use Rattle.poll.specs.PRes.{pres_section}
 use Rattle.frame.specs.Write.{frame_bytes}

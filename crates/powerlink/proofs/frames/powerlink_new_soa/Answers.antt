@@ -1,6 +1,5 @@
 -- `frames::powerlink_new_soa` meets its contract.
 -- Assumes nothing.
-use borrow.Author.Rules.{rules}
 use Rattle.control.specs.SoA.{soa_section}
 use Rattle.frame.specs.Write.{frame_bytes}
 use Rattle.powerlink.proofs.Writers.{writes_named, refuses_coded}

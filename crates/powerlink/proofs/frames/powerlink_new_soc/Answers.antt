@@ -1,6 +1,5 @@
 -- `frames::powerlink_new_soc` meets its contract.
 -- Assumes nothing.
-use borrow.Author.Rules.{rules}
 use Rattle.control.specs.SoC.{soc_section}
 use Rattle.frame.specs.Write.{frame_bytes}
 use Rattle.powerlink.proofs.frames.powerlink_new_soc.Goals as goal

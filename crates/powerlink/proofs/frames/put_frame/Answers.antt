@@ -1,6 +1,5 @@
 -- `frames::put_frame` meets its contract.
 -- Assumes nothing.
-use borrow.Author.Rules.{rules}
 use Rattle.powerlink.proofs.Writers.{writes_to}
 use Rattle.powerlink.proofs.frames.put_frame.Goals as goal
 

@@ -1,6 +1,5 @@
 -- `headers::powerlink_deserialize_eth_header` meets its contract.
 -- Assumes nothing.
-use borrow.Author.Rules.{rules}
 use Rattle.powerlink.proofs.Readers.{eth_refused, eth_read}
 use Rattle.powerlink.proofs.headers.powerlink_deserialize_eth_header.Goals as goal
 

@@ -1,6 +1,5 @@
 -- `headers::powerlink_deserialize_pl_header` meets its contract.
 -- Assumes nothing.
-use borrow.Author.Rules.{rules}
 use mathlib.Core.Path.{sym, ◌∙◌}
 use Rattle.powerlink.proofs.Readers.{pl_refused, pl_read}
 use Rattle.powerlink.proofs.headers.powerlink_deserialize_pl_header.Goals as goal

@@ -1,6 +1,5 @@
 -- `headers::powerlink_serialize_eth_header` meets its contract.
 -- Assumes nothing.
-use borrow.Author.Rules.{rules}
 use Rattle.powerlink.proofs.Writers.{writes_to}
 use Rattle.powerlink.proofs.headers.powerlink_serialize_eth_header.Goals as goal
 

@@ -1,6 +1,5 @@
 -- `headers::powerlink_serialize_pl_header` meets its contract.
 -- Assumes nothing.
-use borrow.Author.Rules.{rules}
 use Rattle.powerlink.proofs.Writers.{writes_coded, refuses_coded}
 use Rattle.powerlink.proofs.headers.powerlink_serialize_pl_header.Goals as goal
 

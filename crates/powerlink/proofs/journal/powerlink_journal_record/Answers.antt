@@ -1,6 +1,5 @@
 -- `journal::powerlink_journal_record` meets its contract.
 -- Assumes nothing.
-use borrow.Author.Rules.{rules}
 use mathlib.Core.Path.{sym, ◌∙◌}
 use Rattle.powerlink.proofs.Journals.{records_short, records_none, records_told}
 use Rattle.powerlink.proofs.journal.powerlink_journal_record.Goals as goal

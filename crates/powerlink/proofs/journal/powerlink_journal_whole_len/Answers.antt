@@ -1,6 +1,5 @@
 -- `journal::powerlink_journal_whole_len` meets its contract.
 -- Assumes nothing.
-use borrow.Author.Rules.{rules}
 use Rattle.powerlink.proofs.Journals.{whole_told}
 use Rattle.powerlink.proofs.journal.powerlink_journal_whole_len.Goals as goal
 

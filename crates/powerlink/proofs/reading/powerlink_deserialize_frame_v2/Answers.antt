@@ -1,6 +1,5 @@
 -- `reading::powerlink_deserialize_frame_v2` meets its contract: a frame is told as its section is.
 -- Assumes nothing.
-use borrow.Author.Rules.{rules}
 use Rattle.codec.specs.Frame.{read_frame}
 use Rattle.powerlink.proofs.Readers.{frame_refused, frame_section}
 use Rattle.powerlink.proofs.reading.powerlink_deserialize_frame_v2.Goals as goal

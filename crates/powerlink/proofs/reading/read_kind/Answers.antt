@@ -1,6 +1,5 @@
 -- `reading::read_kind` meets its contract: each arm is the reader of its kind.
 -- Assumes nothing.
-use borrow.Author.Rules.{rules}
 use Rattle.powerlink.proofs.reading.read_kind.Goals as goal
 
 pub returns-in-SoC : goal.returns-in-SoC

@@ -1,6 +1,5 @@
 -- `reading::read_pres` meets its contract: each verdict is told as its answer.
 -- Assumes nothing.
-use borrow.Author.Rules.{rules}
 use Rattle.types.specs.declared.hal.PowerlinkError.TheVariants.{BufferTooShort, InvalidPlFrame, InvalidNmtState}
 use Rattle.frame.specs.declared.PowerlinkFrame.TheVariants.{PRes}
 use Rattle.powerlink.proofs.Readers.{section_refused, section_frame}

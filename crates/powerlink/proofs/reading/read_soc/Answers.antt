@@ -1,6 +1,5 @@
 -- `reading::read_soc` meets its contract: each verdict is told as its answer.
 -- Assumes nothing.
-use borrow.Author.Rules.{rules}
 use Rattle.types.specs.declared.hal.PowerlinkError.TheVariants.{BufferTooShort}
 use Rattle.frame.specs.declared.PowerlinkFrame.TheVariants.{Soc}
 use Rattle.powerlink.proofs.Readers.{section_refused, section_frame}

@@ -1,6 +1,5 @@
 -- `reporting::powerlink_reporter_answer_v2` meets its contract.
 -- Assumes nothing.
-use borrow.Author.Rules.{rules}
 use mathlib.Core.Path.{sym, ◌∙◌}
 use Rattle.powerlink.proofs.Reporters.{answers_none, answers_told}
 use Rattle.powerlink.proofs.reporting.powerlink_reporter_answer_v2.Goals as goal

@@ -1,6 +1,5 @@
 -- `reporting::powerlink_reporter_new_v2` meets its contract.
 -- Assumes nothing.
-use borrow.Author.Rules.{rules}
 use Rattle.powerlink.proofs.Reporters.{makes_told}
 use Rattle.powerlink.proofs.reporting.powerlink_reporter_new_v2.Goals as goal
 

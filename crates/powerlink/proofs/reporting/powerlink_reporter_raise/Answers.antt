@@ -1,6 +1,5 @@
 -- `reporting::powerlink_reporter_raise` meets its contract.
 -- Assumes nothing.
-use borrow.Author.Rules.{rules}
 use mathlib.Core.Path.{sym, ◌∙◌}
 use Rattle.powerlink.proofs.Reporters.{raises_told, raises_none}
 use Rattle.powerlink.proofs.reporting.powerlink_reporter_raise.Goals as goal

@@ -1,6 +1,5 @@
 -- `reporting::powerlink_reporter_read_v2` meets its contract.
 -- Assumes nothing.
-use borrow.Author.Rules.{rules}
 use mathlib.Core.Path.{refl}
 use Rattle.powerlink.proofs.Reporters.{reads_told}
 use Rattle.powerlink.proofs.Told.{refused_told}

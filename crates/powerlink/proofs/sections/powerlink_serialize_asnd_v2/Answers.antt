@@ -1,6 +1,5 @@
 -- `sections::powerlink_serialize_asnd_v2` meets its contract.
 -- Assumes nothing.
-use borrow.Author.Rules.{rules}
 use Rattle.powerlink.proofs.Writers.{serializes_coded}
 use Rattle.powerlink.proofs.sections.powerlink_serialize_asnd_v2.Goals as goal
 

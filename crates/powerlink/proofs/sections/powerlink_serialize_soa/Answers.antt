@@ -1,6 +1,5 @@
 -- `sections::powerlink_serialize_soa` meets its contract.
 -- Assumes nothing.
-use borrow.Author.Rules.{rules}
 use Rattle.powerlink.proofs.Writers.{writes_coded, refuses_coded}
 use Rattle.powerlink.proofs.sections.powerlink_serialize_soa.Goals as goal
 

@@ -1,6 +1,5 @@
 -- `sections::powerlink_serialize_soc` meets its contract.
 -- Assumes nothing.
-use borrow.Author.Rules.{rules}
 use Rattle.powerlink.proofs.Writers.{writes_to}
 use Rattle.powerlink.proofs.sections.powerlink_serialize_soc.Goals as goal
 

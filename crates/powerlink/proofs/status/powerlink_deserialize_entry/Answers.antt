@@ -1,6 +1,5 @@
 -- `status::powerlink_deserialize_entry` meets its contract.
 -- Assumes nothing.
-use borrow.Author.Rules.{rules}
 use mathlib.Core.Path.{sym, ◌∙◌}
 use Rattle.powerlink.proofs.Readers.{entry_refused, entry_read}
 use Rattle.powerlink.proofs.status.powerlink_deserialize_entry.Goals as goal

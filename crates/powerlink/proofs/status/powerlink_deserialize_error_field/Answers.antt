@@ -1,6 +1,5 @@
 -- `status::powerlink_deserialize_error_field` meets its contract.
 -- Assumes nothing.
-use borrow.Author.Rules.{rules}
 use Rattle.powerlink.proofs.Readers.{field_refused, field_read}
 use Rattle.powerlink.proofs.status.powerlink_deserialize_error_field.Goals as goal
 

@@ -1,6 +1,5 @@
 -- `status::powerlink_deserialize_status` meets its contract.
 -- Assumes nothing.
-use borrow.Author.Rules.{rules}
 use mathlib.Core.Path.{sym, ◌∙◌}
 use native.Mathlib.Omega.{arith}
 use Rattle.powerlink.proofs.Readers.{status_refused, status_read_lem}

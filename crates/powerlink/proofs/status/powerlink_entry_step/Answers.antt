@@ -1,6 +1,5 @@
 -- `status::powerlink_entry_step` meets its contract.
 -- Assumes nothing.
-use borrow.Author.Rules.{rules}
 use mathlib.Core.Path.{sym, ◌∙◌}
 use Rattle.powerlink.proofs.Readers.{step_end, step_entry}
 use Rattle.powerlink.proofs.status.powerlink_entry_step.Goals as goal

@@ -1,6 +1,5 @@
 -- `status::powerlink_serialize_entry` meets its contract.
 -- Assumes nothing.
-use borrow.Author.Rules.{rules}
 use mathlib.Core.Path.{sym, ◌∙◌}
 use Rattle.powerlink.proofs.Writers.{writes_to, entry_short, entry_none, entry_told_lem}
 use Rattle.powerlink.proofs.status.powerlink_serialize_entry.Goals as goal

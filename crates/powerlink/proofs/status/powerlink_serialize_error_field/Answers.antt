@@ -1,6 +1,5 @@
 -- `status::powerlink_serialize_error_field` meets its contract.
 -- Assumes nothing.
-use borrow.Author.Rules.{rules}
 use Rattle.powerlink.proofs.Writers.{writes_to}
 use Rattle.powerlink.proofs.status.powerlink_serialize_error_field.Goals as goal
 

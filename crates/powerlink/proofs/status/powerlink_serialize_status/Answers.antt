@@ -1,8 +1,6 @@
 -- `status::powerlink_serialize_status` meets its contract.
 -- Assumes nothing.
 use mathlib.Core.Path.{sym, ◌∙◌}
-use borrow.Author.Rules.{rules}
-use borrow.Author.Tests.{not-true, not-false}
 use Rattle.types.specs.declared.hal.PowerlinkError.TheVariants.{InvalidNmtState}
 use Rattle.powerlink.proofs.Writers.{given_short, given_refused, given_told}
 use Rattle.powerlink.proofs.status.powerlink_serialize_status.Goals as goal

@@ -2,8 +2,7 @@
 -- Assumes nothing.
 use Prim.Native.Nat.{ℕ}
 use mathlib.Core.List.{List}
-use mathlib.Core.Path.{◌≡◌, refl, ap, sym, ◌∙◌}
-use borrow.Author.Rules.{rules}
+use mathlib.Core.Path.{◌≡◌, ap, sym, ◌∙◌}
 use Rattle.services.specs.Load.{load_cause, Loads}
 use Rattle.services.specs.declared.load.LoadAnswer.{LoadAnswer}
 use Rattle.powerlink.specs.Tables.{ServicesLoad}
