@@ -23,6 +23,13 @@ pub struct Out<'a, R> {
     pub file: Option<&'a File>,
 }
 
+impl<'a, R> Out<'a, R> {
+    pub fn new(rt: &'a R, file: &'a File) -> Self {
+        let file = Some(file);
+        Self { rt, file }
+    }
+}
+
 pub fn complain(rt: &impl Eprint, text: &str) {
     let _ = eprint!(rt; "demo: {text}");
 }

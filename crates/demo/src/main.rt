@@ -223,10 +223,7 @@ fn demo(out: &Out<'_, impl Print + Eprint>, journal: Journal) {
 fn demo_to(rt: &(impl Files<File = File> + Print + Eprint + Alloc), path: &str) {
     match File::create(rt, path) {
         Ok(file) => {
-            let out = Out {
-                rt,
-                file: Some(&file),
-            };
+            let out = Out::new(rt, &file);
             if let Journal::Kept = journal::start(&out) {
                 demo(&out, Journal::Kept);
             }
