@@ -1,6 +1,5 @@
 -- `record_at` meets its contract.
 -- Assumes nothing.
-use borrow.Author.Rules.{rules}
 use Rattle.replay.proofs.Laws.{part_length}
 use Rattle.replay.proofs.record_at.Goals as goal
 

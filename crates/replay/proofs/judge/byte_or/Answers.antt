@@ -1,6 +1,5 @@
 -- `byte_or` meets its contract.
 -- Assumes nothing.
-use borrow.Author.Rules.{rules}
 use mathlib.Core.Path.{sym}
 use lib.ListN.{get_or-eq_default}
 use Rattle.replay.proofs.Laws.{any_default}

@@ -1,9 +1,7 @@
 -- `first_octet` meets its contract. The loop's invariant: what lies in front of the place is as expected. The measure is
 -- what is left of the octets.
 -- Assumes nothing.
-use Prim.Native.Nat.{ℕ, ◌-◌, ◌≤◌, ◌<◌}
-use mathlib.Core.Path.{◌≡◌, ◌∙◌}
-use lib.ListN.{length, get_or}
+use mathlib.Core.Path.{◌∙◌}
 use borrow.Author.Count.{below_more}
 use borrow.Author.Rules.{rules}
 use Rattle.replay.proofs.Laws.{other_here, other_none}

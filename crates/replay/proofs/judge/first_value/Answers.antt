@@ -1,12 +1,9 @@
 -- `first_value` meets its contract. The loop's invariant: the values in front are the record's. The measure is
 -- what is left of them.
 -- Assumes nothing.
-use Prim.Native.Nat.{ℕ, ◌-◌, ◌≤◌, ◌<◌}
-use mathlib.Core.Path.{◌≡◌, ◌∙◌}
-use lib.ListN.{length, get_or}
+use mathlib.Core.Path.{◌∙◌}
 use borrow.Author.Count.{below_more}
 use borrow.Author.Rules.{rules}
-use Rattle.replay.specs.Record.{value_of}
 use Rattle.replay.proofs.Laws.{other_here, other_none}
 use Rattle.replay.proofs.judge.first_value.Goals as goal
 

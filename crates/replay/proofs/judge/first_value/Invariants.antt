@@ -2,12 +2,9 @@
 -- what is left of them.
 -- Assumes nothing.
 use Prim.Native.Nat.{ℕ, ◌-◌, ◌≤◌, ◌<◌}
-use mathlib.Core.Path.{◌≡◌, ◌∙◌}
+use mathlib.Core.Path.{◌≡◌}
 use lib.ListN.{length, get_or}
-use borrow.Author.Count.{below_more}
-use borrow.Author.Rules.{rules}
 use Rattle.replay.specs.Record.{value_of}
-use Rattle.replay.proofs.Laws.{other_here, other_none}
 use Rattle.replay.proofs.judge.first_value.Given as goal
 
 abbrev pub invariant-loop-i : goal.invariant-loop-i

@@ -1,7 +1,6 @@
 -- `judge` meets its contract.
 -- Assumes nothing.
 use mathlib.Core.Path.{sym, ◌∙◌}
-use borrow.Author.Rules.{rules}
 use Rattle.replay.proofs.Laws.{decided}
 use Rattle.replay.proofs.judge.judge.Goals as goal
 

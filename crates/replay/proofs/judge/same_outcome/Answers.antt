@@ -1,7 +1,6 @@
 -- `same_outcome` meets its contract.
 -- Assumes nothing.
 use native.Mathlib.Omega.{arith}
-use borrow.Author.Rules.{rules}
 use Rattle.replay.proofs.Laws.{decided}
 use Rattle.replay.proofs.judge.same_outcome.Goals as goal
 

@@ -3,7 +3,6 @@
 use mathlib.Core.Path.{ap}
 use lib.ListN.{length}
 use native.Mathlib.Omega.{arith}
-use borrow.Author.Rules.{rules}
 use Rattle.replay.proofs.Laws.{same_output, other_output}
 use Rattle.replay.proofs.judge.same_output.Goals as goal
 

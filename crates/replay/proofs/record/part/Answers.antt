@@ -1,6 +1,5 @@
 -- `part` meets its contract.
 -- Assumes nothing.
-use borrow.Author.Rules.{rules}
 use Rattle.replay.proofs.Laws.{between}
 use Rattle.replay.proofs.record.part.Goals as goal
 

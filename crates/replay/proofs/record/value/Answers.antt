@@ -1,6 +1,5 @@
 -- `value` meets its contract: a value of the record, or the fill.
 -- Assumes nothing.
-use borrow.Author.Rules.{rules}
 use Rattle.replay.proofs.Laws.{value_there, value_none}
 use Rattle.replay.proofs.record.value.Goals as goal
 

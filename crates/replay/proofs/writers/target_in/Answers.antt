@@ -2,7 +2,6 @@
 -- Assumes nothing.
 use mathlib.Core.Path.{sym}
 use lib.Seq.{length-take-le}
-use borrow.Author.Rules.{rules}
 use Rattle.replay.proofs.writers.target_in.Goals as goal
 
 pub slice_bounds-result-end : goal.slice_bounds-result-end
