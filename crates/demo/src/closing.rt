@@ -1,4 +1,5 @@
 // The end of the simulation: the line is good, and each head's entries come to the box and are closed.
+use crate::journal::Out;
 use crate::sums::plus;
 use crate::target::ROOM;
 use crate::text::tell;
@@ -8,14 +9,14 @@ use crate::{Head, Scene, World, check, turns};
 const IN_ORDER: u64 = 15;
 
 // Takes what is booked of the head; no book holds more than 64.
-fn take_all(world: World) -> World {
+fn take_all(out: &Out<'_, impl Eprint>, world: World) -> World {
     let mut w = world;
     for _ in 0..64u64 {
         let head = w.head;
         if head.in_book() == 0 {
             return w;
         }
-        w = turns::take(w);
+        w = turns::take(out, w);
     }
     w
 }
@@ -29,7 +30,7 @@ fn exchange(world: World) -> World {
 }
 
 // Runs exchanges until the head holds nothing: at most as many as it holds entries.
-fn close(world: World) -> World {
+fn close(rt: &impl Print, world: World) -> World {
     let start = world.head;
     let most = start.held();
     let mut w = world;
@@ -43,6 +44,7 @@ fn close(world: World) -> World {
         turn += 1;
     }
     tell(
+        rt,
         b"head #: entries open or waiting #, exchanges until they are closed #\n",
         [start.id as u64, most, turn],
     );
@@ -50,36 +52,37 @@ fn close(world: World) -> World {
 }
 
 // All that a registered head has accepted is taken in the end.
-fn clear(w: World) -> World {
+fn clear(out: &Out<'_, impl Print + Eprint>, w: World) -> World {
     let head = w.head;
-    let start = take_all(w.with(head.line_cleared(w.sent)));
-    let mut end = take_all(close(start));
+    let start = take_all(out, w.with(head.line_cleared(w.sent)));
+    let mut end = take_all(out, close(out.rt, start));
     let after = end.head;
     end.taken = plus(end.taken, after.taken);
     end.demands(after.held() == 0)
         .demands(after.taken == after.accepted)
 }
 
-fn stays(head: Head) {
+fn stays(rt: &impl Print, head: Head) {
     tell(
+        rt,
         b"head #: not registered, entries that stay with it #\n",
         [head.id as u64, head.held(), 0],
     );
 }
 
-fn finish(w: World) -> World {
+fn finish(out: &Out<'_, impl Print + Eprint>, w: World) -> World {
     let head = w.head;
     if head.registered {
-        return clear(w);
+        return clear(out, w);
     }
-    stays(head);
+    stays(out.rt, head);
     w
 }
 
-pub fn all(scene: Scene) -> Scene {
+pub fn all(out: &Out<'_, impl Print + Eprint>, scene: Scene) -> Scene {
     let mut s = scene;
     for k in 0..5usize {
-        let world = finish(s.turn_of(k));
+        let world = finish(out, s.turn_of(k));
         s = check::all(s.after(world));
     }
     s

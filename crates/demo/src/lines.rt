@@ -3,8 +3,9 @@
 use crate::World;
 use crate::script::play;
 
-fn of_head(w: World) -> World {
+fn of_head(rt: &impl Print, w: World) -> World {
     play(
+        rt,
         w,
         b"F  0  13  a head of ID 0\n\
         F240  13  a head of ID 240\n\
@@ -25,8 +26,9 @@ fn of_head(w: World) -> World {
     )
 }
 
-fn of_box(w: World) -> World {
+fn of_box(rt: &impl Print, w: World) -> World {
     play(
+        rt,
         w,
         b"F  7\n\
         G  0  13  registering 0\n\
@@ -51,8 +53,9 @@ fn of_box(w: World) -> World {
 }
 
 // Frames in the box's order: 10, 11, the rules of StatusResponses, known. Then a book that is full.
-fn of_reading(w: World) -> World {
+fn of_reading(rt: &impl Print, w: World) -> World {
     play(
+        rt,
         w,
         b"F  8\n\
         G  7\n\
@@ -89,8 +92,9 @@ fn of_reading(w: World) -> World {
 
 // A fault is closed; the answer with the next one is lost, and then the host sends a PReq. What EA it carries decides whether
 // that fault is lost too.
-fn of_host(w: World) -> World {
+fn of_host(rt: &impl Print, w: World) -> World {
     play(
+        rt,
         w,
         b"F  7\n\
         G  7\n\
@@ -128,8 +132,9 @@ fn of_host(w: World) -> World {
 }
 
 // Tables of services (02, CR 1): 20 is tested first and 22 last. Until one is loaded, the twelve of DS 301 are in use.
-fn of_tables(w: World) -> World {
+fn of_tables(rt: &impl Print, w: World) -> World {
     play(
+        rt,
         w,
         b"N  1  20  a table of services of 4 octets\n\
         N  2  20  one with the mark PLB\n\
@@ -163,8 +168,9 @@ fn of_tables(w: World) -> World {
 }
 
 // Entries with bit 15 set (02, CR 2): no head of ours raises one, and no box books one.
-fn of_status(w: World) -> World {
+fn of_status(rt: &impl Print, w: World) -> World {
     play(
+        rt,
         w,
         b"F  7\n\
         E  3  23  an entry with bit 15 set\n\
@@ -199,8 +205,9 @@ fn of_status(w: World) -> World {
 }
 
 // A batch of nothing else.
-fn of_status_alone(w: World) -> World {
+fn of_status_alone(rt: &impl Print, w: World) -> World {
     play(
+        rt,
         w,
         b"F  7\n\
         G  7\n\
@@ -215,8 +222,9 @@ fn of_status_alone(w: World) -> World {
 }
 
 // They take no place of a book.
-fn of_full_book(w: World) -> World {
+fn of_full_book(rt: &impl Print, w: World) -> World {
     play(
+        rt,
         w,
         b"F  7\n\
         G  7\n\
@@ -247,7 +255,8 @@ fn of_full_book(w: World) -> World {
     )
 }
 
-pub fn all(w: World) -> World {
-    let of_01 = of_host(of_reading(of_box(of_head(w))));
-    of_full_book(of_status_alone(of_status(of_tables(of_01))))
+pub fn all(rt: &impl Print, w: World) -> World {
+    let of_01 = of_host(rt, of_reading(rt, of_box(rt, of_head(rt, w))));
+    let tables = of_tables(rt, of_01);
+    of_full_book(rt, of_status_alone(rt, of_status(rt, tables)))
 }

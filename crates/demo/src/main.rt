@@ -34,17 +34,21 @@ mod text;
 mod turns;
 
 use collector::{COLLECTOR_LEN, Collector};
-use libc::STDERR_FILENO;
+use journal::{Journal, Out};
 use octets::slices::front;
 use outcome::{CAUSES, DONE};
 use reporter::{REPORTER_LEN, Reporter};
 use services::table::Services;
+use std::env::{Env, FillError};
+use std::fs::File;
+use std::rt::Files;
+use std::str::from_utf8;
 use target::{FILL, ROOM, Space};
 use text::say;
 use types::NodeId;
 
 // A head's account: what 01's rules make of the calls, counted from their answers alone.
-#[derive(Drop)]
+#[derive(Clone, Copy)]
 pub struct Head {
     // The head as a sender on the line, and as the maker of its entries.
     pub number: usize,
@@ -74,7 +78,7 @@ pub struct Head {
 }
 
 // What the line keeps of a frame that was sent.
-#[derive(Drop)]
+#[derive(Clone, Copy)]
 pub struct Frame {
     pub octets: Space,
     pub len: usize,
@@ -82,7 +86,7 @@ pub struct Frame {
 
 // What a call works on. It goes from call to call by value: a function that lends five states one by one costs the prover
 // several times as much, and so does a type with a long name.
-#[derive(Drop)]
+#[derive(Clone, Copy)]
 pub struct World {
     // The head whose turn it is: its account, and its state, for which another supplier's has no use.
     pub head: Head,
@@ -108,17 +112,17 @@ pub struct World {
     // Entries that were handed out, by the heads' accounts, and records made of them, and where these go.
     pub taken: u64,
     pub records: u64,
-    pub journal: i32,
+    pub journal: Journal,
 }
 
-#[derive(Drop)]
+#[derive(Clone, Copy)]
 pub struct Node {
     pub head: Head,
     pub state: Reporter,
 }
 
 // The world with all heads, of which it holds none that is newer.
-#[derive(Drop)]
+#[derive(Clone, Copy)]
 pub struct Scene {
     pub nodes: [Node; 5],
     pub world: World,
@@ -138,7 +142,7 @@ fn fresh_node(number: usize, id: u8) -> Node {
     }
 }
 
-fn fresh(journal: i32) -> World {
+fn fresh(journal: Journal) -> World {
     let first = fresh_node(0, 7);
     let head = first.head;
     let state = first.state;
@@ -191,49 +195,75 @@ fn register(scene: Scene, number: usize, expected: u64) -> Scene {
 
 // The simulation: three of our heads are registered from the start, and the other supplier's takes the fourth place later, so
 // that there is none for 21.
-fn simulated(scene: Scene) -> Scene {
+fn simulated(out: &Out<'_, impl Eprint>, scene: Scene) -> Scene {
     let three = register(register(register(scene, 0, DONE), 2, DONE), 3, DONE);
-    let first = simulate::run(three, FIRST_PART);
+    let first = simulate::run(out, three, FIRST_PART);
     let four = register(register(first, 4, DONE), 1, 15);
-    simulate::run(four, SECOND_PART)
+    simulate::run(out, four, SECOND_PART)
 }
 
-fn demo(journal: i32) {
-    say(b"lines to check: the cause of a refusal, a length, or what a call came to\n");
-    let scene = start(lines::all(fresh(journal)));
+fn demo(out: &Out<'_, impl Print + Eprint>, journal: Journal) {
     say(
+        out.rt,
+        b"lines to check: the cause of a refusal, a length, or what a call came to\n",
+    );
+    let scene = start(lines::all(out.rt, fresh(journal)));
+    say(
+        out.rt,
         b"the simulation: entries, then answers on their way to the box; head 200 is another supplier's, with batches of 6\n\
         and status entries in every answer, which are not booked\n\
         every second head, 21 and 239, is under the house's table of services, the others under the twelve of DS 301\n",
     );
-    let shown = table::simulated(simulated(scene));
-    say(b"the line is good from here on\n");
-    table::verdict(closing::all(shown));
+    let shown = table::simulated(out.rt, simulated(out, scene));
+    say(out.rt, b"the line is good from here on\n");
+    table::verdict(out, closing::all(out, shown));
+}
+
+// The same with the journal of this name.
+fn demo_to(rt: &(impl Files<File = File> + Print + Eprint + Alloc), path: &str) {
+    match File::create(rt, path) {
+        Ok(file) => {
+            let out = Out::new(rt, &file);
+            if let Journal::Kept = journal::start(&out) {
+                demo(&out, Journal::Kept);
+            }
+        }
+        Err(e) => journal::fail(rt, path, e),
+    }
 }
 
 // The same with the journal that the argument names.
-fn demo_to_file() {
-    let mut path = io::buffer();
-    let n = os::arg(1, &mut path);
-    if os::errno() != 0 {
-        os::fail(b"demo");
-        return;
-    }
-    let journal = journal::start(front(&path, n));
-    if 0 <= journal {
-        demo(journal);
+fn demo_to_file(rt: &(impl Files<File = File> + Env + Print + Eprint + Alloc)) {
+    let mut path = [0u8; 4096];
+    match rt.arg(1, &mut path) {
+        Ok(n) => match from_utf8(front(&path, n)) {
+            Ok(path) => demo_to(rt, path),
+            Err(_) => journal::complain(rt, "the journal's name is not UTF-8\n"),
+        },
+        Err(_) => journal::complain(rt, "File name too long\n"),
     }
 }
 
-fn main() {
-    match os::arg_count() {
-        0..=1 => demo(journal::NONE),
-        2 => demo_to_file(),
-        _ => {
-            io::write_all(
-                STDERR_FILENO,
-                b"usage: demo [FILE]\nWith FILE, what the box hands out is written there as a journal.\n",
-            );
-        }
+fn is_given(rt: &impl Env, argument: usize) -> bool {
+    let mut text = [0u8; 1];
+    match rt.arg(argument, &mut text) {
+        Err(FillError::NotPresent) => false,
+        _ => true,
+    }
+}
+
+fn main(rt: HostRuntime) {
+    if is_given(&rt, 2) {
+        let _ = rt.eprint(
+            "usage: demo [FILE]\nWith FILE, what the box hands out is written there as a journal.\n",
+        );
+    } else if is_given(&rt, 1) {
+        demo_to_file(&rt);
+    } else {
+        let out = Out {
+            rt: &rt,
+            file: None,
+        };
+        demo(&out, Journal::Nowhere);
     }
 }

@@ -86,30 +86,30 @@ fn at_box(w: World, letter: u8, n: u8) -> World {
 }
 
 // Plays a line, and shows it where it says what the call has to come to.
-fn line(w: World, text: &[u8]) -> World {
+fn line(rt: &impl Print, w: World, text: &[u8]) -> World {
     let after = plays(w, byte_at(text, 0), value(text, 1));
     if byte_at(text, 4) == b'\n' {
         return after;
     }
-    say_outcome(after.got);
-    say_line(tail(text, 8));
+    say_outcome(rt, after.got);
+    say_line(rt, tail(text, 8));
     let right = after.got == value(text, 5);
     if right {
-        say(b"\n");
+        say(rt, b"\n");
     } else {
-        say(b", WRONG\n");
+        say(rt, b", WRONG\n");
     }
     after.demands(right)
 }
 
-pub fn play(world: World, text: &[u8]) -> World {
+pub fn play(rt: &impl Print, world: World, text: &[u8]) -> World {
     let mut w = world;
     let mut at = 0;
     for _ in 0..text.len() {
         if text.len() <= at {
             return w;
         }
-        w = line(w, tail(text, at));
+        w = line(rt, w, tail(text, at));
         at = next_line(text, at);
     }
     w

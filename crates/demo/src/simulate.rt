@@ -1,4 +1,5 @@
 // The simulation: one call after another, by a fixed rule in place of chance.
+use crate::journal::Out;
 use crate::target::ROOM;
 use crate::{Scene, World, check, odd, turns};
 
@@ -18,15 +19,15 @@ fn room(chance: u64) -> usize {
 }
 
 // For 8,000 calls in turn a head's entries are not taken, so that its book fills.
-fn take(w: World) -> World {
+fn take(out: &Out<'_, impl Eprint>, w: World) -> World {
     let head = w.head;
     if w.calls / 8000 % 5 == head.number as u64 {
         return w;
     }
-    turns::take(w)
+    turns::take(out, w)
 }
 
-fn act(w: World, chance: u64) -> World {
+fn act(out: &Out<'_, impl Eprint>, w: World, chance: u64) -> World {
     let rest = chance / 32;
     match chance % 32 {
         0 | 1 => turns::raise(w, rest),
@@ -34,7 +35,7 @@ fn act(w: World, chance: u64) -> World {
         6 | 7 | 8 | 9 => turns::box_reads(w, rest),
         10 | 11 => turns::request(w, room(rest)),
         12 | 13 => turns::host_sends(w, rest),
-        24 | 25 | 26 | 27 | 28 => take(w),
+        24 | 25 | 26 | 27 | 28 => take(out, w),
         29 => odd::to_box(w, rest),
         30 => odd::to_head(w, rest),
         31 => odd::for_box(w, rest),
@@ -43,12 +44,12 @@ fn act(w: World, chance: u64) -> World {
 }
 
 // Makes a number of calls, and after each looks at every head. That number also starts the row of chances.
-pub fn run(scene: Scene, turns: u64) -> Scene {
+pub fn run(out: &Out<'_, impl Eprint>, scene: Scene, turns: u64) -> Scene {
     let mut s = scene;
     let mut chance = turns;
     for _ in 0..turns {
         chance = next(chance);
-        let world = act(s.turn_of((chance % 5) as usize), chance / 5);
+        let world = act(out, s.turn_of((chance % 5) as usize), chance / 5);
         s = check::all(s.after(world));
     }
     s

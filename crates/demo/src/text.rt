@@ -1,40 +1,37 @@
 // Text and numbers on standard output.
 use crate::outcome::DONE;
 use crate::sums::{less, plus};
-use libc::STDOUT_FILENO;
 use octets::slices::{front, tail};
 
-pub fn say(text: &[u8]) {
-    io::write_all(STDOUT_FILENO, text);
+// What cannot be written is lost.
+pub fn say(rt: &impl Print, text: &[u8]) {
+    let _ = rt.write_all(text);
 }
 
 // Writes a text, with the next of the numbers in place of each `#`.
-pub fn tell(text: &[u8], numbers: [u64; 3]) {
+pub fn tell(rt: &impl Print, text: &[u8], numbers: [u64; 3]) {
     let mut k = 0;
     for i in 0..text.len() {
         if text[i] == b'#' {
-            io::print_decimal(STDOUT_FILENO, numbers[(k % 3) as usize]);
+            let _ = rt.print(numbers[(k % 3) as usize]);
             k = plus(k, 1);
         } else {
-            say(front(tail(text, i), 1));
+            say(rt, front(tail(text, i), 1));
         }
     }
 }
 
 // A number at the right edge of a column of nine.
-pub fn column(n: u64) {
-    let mut digits = [0u8; 20];
-    let len = io::decimal(n, &mut digits);
-    say(front(b"         ", less(9, len as u64) as usize));
-    io::print_decimal(STDOUT_FILENO, n);
+pub fn column(rt: &impl Print, n: u64) {
+    let _ = print!(rt; "{n:>9}");
 }
 
 // A line of a table.
-pub fn row(numbers: [u64; 10]) {
+pub fn row(rt: &impl Print, numbers: [u64; 10]) {
     for k in 0..10usize {
-        column(numbers[k]);
+        column(rt, numbers[k]);
     }
-    say(b"\n");
+    say(rt, b"\n");
 }
 
 // Where the line behind the one that begins at `from` begins.
@@ -50,17 +47,20 @@ pub fn next_line(text: &[u8], from: usize) -> usize {
 }
 
 // The first line of a text, without its end.
-pub fn say_line(text: &[u8]) {
+pub fn say_line(rt: &impl Print, text: &[u8]) {
     let end = next_line(text, 0) as u64;
-    say(front(text, less(end, 1) as usize));
+    say(rt, front(text, less(end, 1) as usize));
 }
 
 // What a call came to, at the right edge of a column: a word, or the cause or length itself.
-pub fn say_outcome(n: u64) {
+pub fn say_outcome(rt: &impl Print, n: u64) {
     if n < DONE {
-        column(n);
+        column(rt, n);
     } else {
         let word = (n - DONE) as usize % 4;
-        say(front(tail(b"     done    known     kept  ignored", 9 * word), 9));
+        say(
+            rt,
+            front(tail(b"     done    known     kept  ignored", 9 * word), 9),
+        );
     }
 }

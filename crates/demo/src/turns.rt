@@ -2,6 +2,7 @@
 // head's account.
 use crate::entries::{entry, of_kind, same};
 use crate::expected::FRAME_LEN;
+use crate::journal::Out;
 use crate::line::{MANAGING_NODE, pick};
 use crate::outcome::{DONE, of_take};
 use crate::sums::plus;
@@ -125,7 +126,7 @@ pub fn head_reads(w: World, chance: u64) -> World {
 }
 
 // Takes the oldest entry of the head, which has to be the next one that it raised.
-pub fn take(mut w: World) -> World {
+pub fn take(out: &Out<'_, impl Eprint>, mut w: World) -> World {
     let head = w.head;
     let answer = collector::take(&mut w.at_box, NodeId(head.id));
     w.got = of_take(answer);
@@ -133,14 +134,17 @@ pub fn take(mut w: World) -> World {
     let TakeAnswer::Taken(e) = answer else {
         return after;
     };
-    recorded(after.demands(same(e, entry(head.number, head.taken))), e)
+    recorded(
+        out,
+        after.demands(same(e, entry(head.number, head.taken))),
+        e,
+    )
 }
 
 // An entry that was taken is counted, and its record made.
-fn recorded(mut w: World, e: ErrorEntry) -> World {
+fn recorded(out: &Out<'_, impl Eprint>, mut w: World, e: ErrorEntry) -> World {
     let head = w.head;
-    let journal = journal::record(w.journal, head.id, e);
-    if journal != journal::REFUSED {
+    if let Some(journal) = journal::record(out, w.journal, head.id, e) {
         w.records = plus(w.records, 1);
         w.journal = journal;
     }

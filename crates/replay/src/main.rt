@@ -16,11 +16,11 @@ mod writers;
 ghost use Rattle.std.specs.Prelude.{◌-◌, ◌≤◌, length};
 
 use judge::Verdict;
-use libc::STDIN_FILENO;
 use octets::little_endian::get_u32_le;
 use octets::slices::{byte_at, front, tail};
 use print::{difference, number, say};
 use record::{CALL, END, mark, target_len};
+use std::io::Read;
 use writers::SPACE;
 
 // The longest file.
@@ -44,14 +44,14 @@ fn replay(s: &[u8]) -> Verdict {
 }
 
 // How many cases differ of this one, 0 or 1: it is said where it is to be shown.
-fn differing(case: u64, s: &[u8], shown: bool) -> u64
+fn differing(rt: &impl Print, case: u64, s: &[u8], shown: bool) -> u64
     ensures { result ≤ 1 }
 {
     let Verdict::Differs(part, at) = replay(s) else {
         return 0;
     };
     if shown {
-        difference(case, byte_at(s, CALL), part, at);
+        difference(rt, case, byte_at(s, CALL), part, at);
     }
     1
 }
@@ -70,19 +70,19 @@ fn whole(s: &[u8]) -> bool {
     mark(s, END) == s.len() && 0 < n && n < 23 && target_len(s) <= SPACE
 }
 
-fn refused(case: u64) {
-    number(b"refused at case ", case);
-    say(b"\n");
+fn refused(rt: &impl Print, case: u64) {
+    number(rt, b"refused at case ", case);
+    say(rt, b"\n");
 }
 
-fn end(cases: u64, differ: u64) {
-    number(b"", cases);
-    number(b" cases, ", differ);
-    say(b" differ\n");
+fn end(rt: &impl Print, cases: u64, differ: u64) {
+    number(rt, b"", cases);
+    number(rt, b" cases, ", differ);
+    say(rt, b" differ\n");
 }
 
 // Each case, and that nothing is behind the last.
-fn all(text: &[u8], cases: u64) {
+fn all(rt: &impl Print, text: &[u8], cases: u64) {
     let mut at = 0;
     let mut case = 0;
     let mut differ = 0;
@@ -90,35 +90,45 @@ fn all(text: &[u8], cases: u64) {
         case += 1;
         let s = record_at(text, at);
         if !whole(s) {
-            refused(case);
+            refused(rt, case);
             return;
         }
-        differ += differing(case, s, differ < SHOWN);
+        differ += differing(rt, case, s, differ < SHOWN);
         at += s.len();
     }
     if at < text.len() {
-        refused(cases);
+        refused(rt, cases);
         return;
     }
-    end(cases, differ);
+    end(rt, cases, differ);
 }
 
-// The array comes whole: its type says its length.
-fn load(file: &mut [u8; FILE]) -> usize {
-    io::read_full(STDIN_FILENO, file)
+// Reads until the array is full, the input ends or a read fails, and answers how many octets were read. The array comes whole:
+// its type says its length.
+fn load(rt: &impl Input, file: &mut [u8; FILE]) -> usize {
+    let mut input = rt.reader();
+    let mut done = 0;
+    while done < FILE {
+        let n = input.read(&mut file[done..]).unwrap_or(0);
+        if n == 0 {
+            break;
+        }
+        done += n;
+    }
+    done
 }
 
-fn run(file: &[u8; FILE], n: usize) {
+fn run(rt: &impl Print, file: &[u8; FILE], n: usize) {
     let text = front(file, n);
     if get_u32_le(text, 0) != PLC2 || n == FILE {
-        say(b"refused: no PLC2, or too long\n");
+        say(rt, b"refused: no PLC2, or too long\n");
         return;
     }
-    all(tail(text, HEAD), get_u32_le(text, 4) as u64);
+    all(rt, tail(text, HEAD), get_u32_le(text, 4) as u64);
 }
 
-fn main() {
+fn main(rt: HostRuntime) {
     let mut file = [0u8; FILE];
-    let n = load(&mut file);
-    run(&file, n);
+    let n = load(&rt, &mut file);
+    run(&rt, &file, n);
 }

@@ -1,0 +1,8 @@
+-- `part` meets its contract.
+-- Assumes nothing.
+use Rattle.replay.proofs.Laws.{between}
+use Rattle.replay.proofs.record.part.Goals as goal
+
+pub returns : goal.returns
+returns c =
+    between c.args.s.now c.front.ensures.octets c.get_u32_le-end.ensures c.mark.ensures c.tail.ensures.octets
