@@ -9,9 +9,6 @@ use Rattle.journal.proofs.keep.Goals as goal
 pub bounds-text-at : goal.bounds-text-at
 bounds-text-at c = let l = c.loop-at in omega (arith, move_length _ _ l.invariant.1.1 l.invariant.0 (omega arith))
 
-pub bounds-text-at-in-loop-at : goal.bounds-text-at-in-loop-at
-bounds-text-at-in-loop-at c = let l = c.loop-at in omega (arith, move_length _ _ l.invariant.1.1 l.invariant.0 (omega arith))
-
 pub loop-at-preserved : goal.loop-at-preserved
 loop-at-preserved c = let l = c.loop-at in (omega arith, (omega arith, move_one _ _ l.invariant.1.1 l.invariant.0 (omega arith)))
 

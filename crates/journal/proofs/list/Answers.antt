@@ -18,19 +18,6 @@ say-streams-requires g c =
       countable l.invariant.0 c.tail-left.ensures.octets c.has_ended.ensures c.list_part-part.ensures c.front.ensures.octets b.0 b.1.0 (b.1.1 ∙ sym l.invariant.1),
     )
 
-pub shape_of-out-then-has_failed : goal.shape_of-out-then-has_failed
-shape_of-out-then-has_failed g c =
-    let l = c.loop-answer in
-    same_size l.invariant.0 c.tail-left.ensures.octets c.has_ended.ensures c.list_part-part.ensures ∙ l.invariant.1
-
-pub returns-then-has_failed : goal.returns-then-has_failed
-returns-then-has_failed g c = sym c.has_failed.ensures ∙ c.if-has_failed.true
-
-pub shape_of-out-then-not-is_crowded : goal.shape_of-out-then-not-is_crowded
-shape_of-out-then-not-is_crowded g c =
-    let l = c.loop-answer in
-    same_size l.invariant.0 c.tail-left.ensures.octets c.has_ended.ensures c.list_part-part.ensures ∙ l.invariant.1
-
 pub returns-then-not-is_crowded : goal.returns-then-not-is_crowded
 returns-then-not-is_crowded g c =
     let l = c.loop-answer in

@@ -32,9 +32,6 @@ read-reading-requires g c =
       (omega arith, omega (arith, room_got c.args.streams c.requires.streams_value.0, c.requires.streams_value.1.1.0)),
     )
 
-pub returns-then-has_failed : goal.returns-then-has_failed
-returns-then-has_failed g c = sym c.has_failed.ensures ∙ c.if-has_failed.true
-
 pub overflow_add-held : goal.overflow_add-held
 overflow_add-held g c =
     let few : c.args.held ≤ length c.args.text.now = let f = few c.args.text.now c.requires.streams_value.1.0 c.requires.streams_value.1.1.0 in omega arith in
