@@ -144,13 +144,14 @@ if [ -w /dev/full ]; then
     "$journal" <"$dir/in" >/dev/full 2>"$dir/errors"
     echo 'journal: cannot write' | cmp - "$dir/errors"
 fi
+# A reader that goes away is no failure to tell: a program in Rattle starts with the signal ignored, whatever the caller's choice.
 "$journal" <"$dir/in" 2>"$dir/errors" | head -n 1 >/dev/null
 cmp /dev/null "$dir/errors"
 (
     trap '' PIPE
     "$journal" <"$dir/in" 2>"$dir/errors" | head -n 1 >/dev/null
 )
-echo 'journal: cannot write' | cmp - "$dir/errors"
+cmp /dev/null "$dir/errors"
 
 echo "journal: $count listings are as written by hand"
 "$(dirname "$0")/demo.sh"
