@@ -150,7 +150,8 @@ cmp /dev/null "$dir/errors"
     trap '' PIPE
     "$journal" <"$dir/in" 2>"$dir/errors" | head -n 1 >/dev/null
 )
-echo 'journal: cannot write' | cmp - "$dir/errors"
+# A program in Rattle ignores the signal of a closed pipe however it was started, so that this is as above.
+cmp /dev/null "$dir/errors"
 
 echo "journal: $count listings are as written by hand"
 "$(dirname "$0")/demo.sh"
