@@ -103,9 +103,9 @@ def changed(edit, name=None):
         elif line.startswith('old: '):
             old = line.removeprefix('old: ')
         elif line.startswith('new:') and (name is None or told in (None, name)):
-            if path not in texts:
+            if path not in texts and crate.joinpath(path).is_file():
                 texts[path] = crate.joinpath(path).read_text(encoding='utf-8')
-            if texts[path].count(old) != 1:
+            if texts.get(path, '').count(old) != 1:
                 return None
             texts[path] = texts[path].replace(old, line.removeprefix('new:').removeprefix(' '))
     return texts
@@ -199,6 +199,7 @@ def main():
         edits = [edit for edit in edits if {edit.parent.parent.name, label_of(edit)} & set(only)]
     crates = sorted({edit.parent.parent.name for edit in edits})
     lost = [f'{crate}: not tried, since `rt check` has not passed in it' for crate in crates if not tries.is_ready(crate)]
+    lost += [f'{label_of(edit)}: its texts do not stand once each in its files' for edit in edits if not changed(edit)]
     tried = list(answers([edit for edit in edits if tries.is_ready(edit.parent.parent.name)]))
     lost += [f'{name}: not shown to be refused at a fact' for name, shown in tried if not shown]
     if not only:

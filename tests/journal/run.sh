@@ -144,13 +144,13 @@ if [ -w /dev/full ]; then
     "$journal" <"$dir/in" >/dev/full 2>"$dir/errors"
     echo 'journal: cannot write' | cmp - "$dir/errors"
 fi
-# A reader that goes away is no failure to tell: a program in Rattle starts with the signal ignored, whatever the caller's choice.
 "$journal" <"$dir/in" 2>"$dir/errors" | head -n 1 >/dev/null
 cmp /dev/null "$dir/errors"
 (
     trap '' PIPE
     "$journal" <"$dir/in" 2>"$dir/errors" | head -n 1 >/dev/null
 )
+# A program in Rattle ignores the signal of a closed pipe however it was started, so that this is as above.
 cmp /dev/null "$dir/errors"
 
 echo "journal: $count listings are as written by hand"
