@@ -7,6 +7,7 @@ pub mod FlagLines
 pub mod Flags
 pub mod FrameAgain
 pub mod HeaderBack
+pub mod HeldUnder
 pub mod Lines
 pub mod Named
 pub mod Passed

@@ -22,5 +22,6 @@ pub mod Places
 pub mod Progress
 pub mod Quiet
 pub mod Steps
+pub mod Told
 pub mod Transit
 pub mod TwoExchanges

@@ -31,6 +31,7 @@ use Rattle.collector.specs.declared.reading.Heard.{Heard as BoxHeard}
 use Rattle.collector.specs.declared.reading.Heard.TheVariants as boxHears
 use Rattle.signaling.specs.Calls.{tally, adds, Tally, nothing_yet, sent, foreign, Event, raised, answered, head_read, registered, box_read, requested, taken, hosted, if_taken, accepted, handed_out, answers_sent, requests_sent, ea_of, Tells, World, Step, raise, answer, head_reads, register, box_reads, request, takes, hosts}
 use Rattle.signaling.specs.Exchanges.{Quiet, NoRepeat, RequestAgain, Quietly, still, next, again, Exchange}
+use Rattle.signaling.proofs.Told.{told_now}
 use Rattle.signaling.proofs.Calls.{read_elsewhere, register_same}
 use Rattle.signaling.proofs.Facts.{clash, either, at_snoc}
 use Rattle.signaling.proofs.Frames.{Says}
@@ -236,7 +237,7 @@ calm {i} {w} t (hosts bs told) k =
       bit = refl;
       answers = λ p a y. inl y;
       requests = λ q g y.
-          elim (at_snoc (requests_sent i w.log) bs g q y) [ inl z ↦ inl z.1 | inr z ↦ inr (rw (← z.1) told) ];
+          elim (at_snoc (requests_sent i w.log) bs g q y) [ inl z ↦ inl z.1 | inr z ↦ inr (rw (← z.1) (told_now i w.box bs told)) ];
     }
 calm {i} {w} t (takes j r after c) k =
     record {

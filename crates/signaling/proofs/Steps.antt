@@ -35,6 +35,7 @@ use Rattle.signaling.proofs.Frames.{Says, answer_reads}
 use Rattle.signaling.proofs.Invariant.{en_said, batch_said, book_of, Inv, head_in, place_for, Held}
 use Rattle.signaling.proofs.Head.{raise_keeps, opened_keeps, answer_written, head_reads_lem}
 use Rattle.signaling.proofs.Box.{box_passes, box_books, request_sends, take_moves}
+use Rattle.signaling.proofs.Told.{told_now}
 use Rattle.signaling.proofs.Calls.{written_frame, unheard, requested_frame, request_here, request_else, why_booked, read_elsewhere, read_here, register_same, take_elsewhere, why_taken}
 
 module _ {i : ℕ} {w : World} (t : Held i w) where
@@ -173,7 +174,7 @@ keeps {i} {w} t (register j r after c) =
 keeps {i} {w} t (box_reads services from bs r after d c) = record { head = t.head; inv = box_read_keeps t services from bs r after d c }
 keeps {i} {w} t (request j f r target written c) = record { head = t.head; inv = request_keeps t j f r target written c }
 keeps {i} {w} t (takes j r after c) = record { head = t.head; inv = take_keeps t j r after c }
-keeps t (hosts bs told) = record { head = t.head; inv = request_sends t.inv bs told }
+keeps {i} {w} t (hosts bs told) = record { head = t.head; inv = request_sends t.inv bs (told_now i w.box bs told) }
 
 -- ---- the start
 
