@@ -18,10 +18,14 @@ PARTS = ('src', 'specs', 'proofs')
 
 
 def listed():
-    """The crates of crates.txt, in their order, each with those of them that it is built on."""
+    """The crates of crates.txt, each with all of them that it is built on, in their order there, lowest first."""
     lines = [line.partition(':') for line in pathlib.Path('crates.txt').read_text(encoding='utf-8').splitlines()]
-    found = {head.split()[0]: said.split() for head, colon, said in lines if colon and not head.startswith('#')}
-    return {name: [below for below in said if below in found] for name, said in found.items()}
+    named = {head.split()[0]: said.split() for head, colon, said in lines if colon and not head.startswith('#')}
+
+    def below(name):
+        return {low for direct in named[name] if direct in named for low in (direct, *below(direct))}
+
+    return {name: [low for low in named if low in below(name)] for name in named}
 
 
 def is_ready(crate):
@@ -58,7 +62,7 @@ class Room:
         return to
 
     def said(self, crate, below, texts, only):
-        """What `rt check` says of the crate with these texts in the place of its own."""
+        """What `rt check` says of the crate with these texts in the place of its own, and without the files that have None."""
         for library in below:
             if library not in self.libraries:
                 self.put(library, 'rlib')
@@ -67,7 +71,10 @@ class Room:
         self.top.joinpath('crates.txt').write_text(''.join(line_of(name) for name in [*below, crate]), encoding='utf-8')
         folder = self.put(crate, 'incremental')
         for path, text in texts.items():
-            folder.joinpath(path).write_text(text, encoding='utf-8')
+            if text is None:
+                folder.joinpath(path).unlink(missing_ok=True)
+            else:
+                folder.joinpath(path).write_text(text, encoding='utf-8')
         command = [os.environ.get('RT', 'rt'), 'check', '--jobs', '1', *(['--only', f'{crate}::{only}'] if only else [])]
         ran = subprocess.run(command, cwd=folder, stdin=subprocess.DEVNULL, stdout=subprocess.PIPE, stderr=subprocess.STDOUT)
         return ran.stdout.decode(errors='replace')

@@ -6,7 +6,8 @@ the crates, as `rt all check` has it: it tries each edit (tests/tries.py), keeps
 target/must-fail/CRATE/EDIT.log, and checks that
 - each function named by a line `# wrong: MODULE::fn_name -- what is wrong` of an edit is refused at a fact of its own,
   and so is a file of laws that is named so. Where the whole edit does not show it, as the goals of a function are not tried
-  while one that it calls is not proved, the lines of that name are tried alone, in EDIT.NAME.log;
+  while one that it calls is not proved, the lines of that name are tried alone, in EDIT.NAME.log; and of a function once more
+  without its answers, in EDIT.NAME.false.log, where the prover has to find that a goal is false;
 - any other edit is refused at a fact;
 - each public function of each library crate is named in two groups, files wrong_answers_*.edit, of its crate, and a
   crate of theorems has two edits; of a static library one group names some, since each of its functions is the call of a library's
@@ -15,8 +16,7 @@ target/must-fail/CRATE/EDIT.log, and checks that
 - each edit that docs/CLAIMS.md names, CRATE/EDIT, is there, and where it says CRATE/EDIT: WORDS, one of its wrong answers
   begins with these words.
 A fact is a goal that an answer or a tactic does not prove, or of which the prover says that the known facts allow values at which it is
-false. That a proof file names what the wrong code has not is none, and hides the other errors of its function, unless such values are
-named. It prints a line for each that is not shown. With names of crates, or of edits as CRATE/EDIT, it tries only these. That an edit
+false. That an answer names what the wrong code has not is none, and no other error of that answer counts. It prints a line for each that is not shown. With names of crates, or of edits as CRATE/EDIT, it tries only these. That an edit
 keeps the names of the goals, which are those of the code's variables and branches, is its author's care.
 """
 import pathlib
@@ -51,7 +51,8 @@ FALSE = re.compile(r'^note: src/\S+: it is not proved that .* the facts known th
 GOING_ON = re.compile(r'^(?:so far: |checked ).*\n', re.M)
 # Not looked at, since something that it builds on failed.
 PASSED_OVER = re.compile(r'was not admitted')
-# The proof file is one of other code.
+# The goal or the lemma that an error is in, and that its proof names what the wrong code has not.
+ANSWER = re.compile(r'(?:`([^`]*)`: )?')
 UNFIT = re.compile(r'can be named from here|has no (?:field|`)|is not in scope|exports no|needs a function|`omega` does not read')
 
 
@@ -75,11 +76,12 @@ class Said:
                 named = False
 
     def refuses(self, name):
-        """Whether it refuses the function or the file of laws, and at facts."""
-        errors = self.errors.get(name, [])
-        if name in self.false:
-            return True
-        return bool(errors or name in self.unproved) and not any(UNFIT.search(text.split('\n')[0]) for text in errors)
+        """Whether it refuses the function or the file of laws, and at a fact."""
+        answers = {}
+        for text in self.errors.get(name, []):
+            answers.setdefault(ANSWER.match(text)[1], []).append(text.split('\n')[0])
+        facts = [texts for texts in answers.values() if not any(map(UNFIT.search, texts))]
+        return bool(facts) or name in self.unproved or name in self.false
 
     def refuses_one(self):
         """Whether it refuses the crate, at facts."""
@@ -115,15 +117,19 @@ def label_of(edit):
     return f'{edit.parent.parent.name}/{edit.stem}'
 
 
-def said_of(asked):
-    """What is said of edits, each with the name of the wrong answer that is tried alone, or None: by both, and kept in target/must-fail."""
+def said_of(asked, without=''):
+    """What is said of edits, each with the name of the wrong answer that is tried alone, or None: by both, and kept in target/must-fail.
+    `without` names a file of the function's proof that is left out."""
     texts = {one: changed(*one) for one in asked}
+    if without:
+        for (_, name), found in texts.items():
+            found[f'proofs/{name.replace("::", "/")}/{without}'] = None
     ready = [one for one in asked if texts[one]]
     functions_of = {crate: set(all_functions(pathlib.Path('crates', crate, 'src'))) for crate in {edit.parent.parent.name for edit, _ in ready}}
     given = [(edit.parent.parent.name, texts[edit, name], name if name in functions_of[edit.parent.parent.name] else None) for edit, name in ready]
     found = {one: Said('') for one in asked}
     for (edit, name), log in zip(ready, tries.tried(given)):
-        path = pathlib.Path('target/must-fail', edit.parent.parent.name, f'{edit.stem}{"." + name.replace("::", ".") if name else ""}.log')
+        path = pathlib.Path('target/must-fail', edit.parent.parent.name, f'{edit.stem}{"." + name.replace("::", ".") if name else ""}{".false" if without else ""}.log')
         path.parent.mkdir(parents=True, exist_ok=True)
         path.write_text(log, encoding='utf-8')
         found[edit, name] = Said(log)
@@ -134,11 +140,16 @@ def answers(edits):
     """The wrong answers that the edits try, each with whether it is refused."""
     whole = said_of([(edit, None) for edit in edits])
     named = [(edit, name) for edit in edits for name, _ in wrong(edit)]
-    alone = said_of(list(dict.fromkeys(one for one in named if not whole[one[0], None].refuses(one[1]))))
+    left = list(dict.fromkeys(one for one in named if not whole[one[0], None].refuses(one[1])))
+    alone = said_of(left)
+    left = [one for one in left if not alone[one].refuses(one[1])]
+    functions_of = {crate: set(all_functions(crate / 'src')) for crate in {edit.parent.parent for edit, _ in left}}
+    bare = said_of([one for one in left if changed(*one) and one[1] in functions_of[one[0].parent.parent]], 'Answers.antt')
+    shown = set(named) - set(left) | {one for one, said in bare.items() if one[1] in said.false}
     for edit in edits:
         said = whole[edit, None]
         for name, _ in wrong(edit):
-            yield f'{label_of(edit)}: {name}', said.refuses(name) or alone[edit, name].refuses(name)
+            yield f'{label_of(edit)}: {name}', (edit, name) in shown
         if not wrong(edit):
             yield label_of(edit), not edit.match(GROUPS) and said.refuses_one()
 
