@@ -11,14 +11,14 @@ use borrow.Author.Tests.{leb-true}
 use Rattle.octets.specs.Numbers.{be, be_at, be_bytes}
 use Rattle.types.specs.Header.{eth_header_of, eth_bytes, ethertype_epl}
 use Rattle.types.specs.declared.hal.PowerlinkError.TheVariants.{BufferTooShort, InvalidEthernetFrame, InvalidPlFrame}
-use Rattle.section.specs.Write.{octets}
-use Rattle.frame.specs.Write.{frame_bytes, under_table}
+use Rattle.frame.specs.Write.{frame_bytes}
 use Rattle.frame.specs.declared.PowerlinkFrame.{PowerlinkFrame}
 use Rattle.frame.specs.declared.PowerlinkFrame.TheVariants.{Soc, PReq, PRes, SoA, ASnd}
 use Rattle.codec.specs.Frame.{kind_of, read_section, read_frame, place_in_frame, deserialize_frame, payload_of}
 use Rattle.codec.specs.declared.FrameAnswer.TheVariants.{Frame}
 use Rattle.frame_laws.specs.WriteBack.{Octets, Plain, payload_in}
 use Rattle.frame_laws.proofs.Elements.{elements, elements_are, joined}
+use Rattle.frame_laws.proofs.Held.{Held}
 use Rattle.frame_laws.proofs.Passed.{kind_passed, by_tests}
 use Rattle.frame_laws.proofs.SectionAgain.{section_again}
 
@@ -49,10 +49,6 @@ module _ (bytes : List ℕ) where
   same_payload (PRes f) = rw (drop-drop 10 14 bytes)
   same_payload (SoA f) = refl
   same_payload (ASnd f) = rw (drop-drop 4 14 bytes)
-
--- no writer refuses the frame under the table
-abbrev Held : List ℕ → PowerlinkFrame → Type 0
-Held services f = (bs : List ℕ) → under_table services f bs ≡ octets bs
 
 module _ (services bytes : List ℕ) (f : PowerlinkFrame) where
   -- a frame that is read has a header, and the rest is read as its section

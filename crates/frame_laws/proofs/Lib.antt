@@ -6,6 +6,7 @@ pub mod FieldsAgain
 pub mod FlagLines
 pub mod Flags
 pub mod FrameAgain
+pub mod Held
 pub mod HeaderBack
 pub mod Lines
 pub mod Named
