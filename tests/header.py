@@ -128,21 +128,17 @@ FIELD_NAMES = {
 }
 
 
-def one_word(name):
-    return name.replace('_', '').upper()
-
-
 def cause_numbers():
     """The numbers of the causes, by their names in specs/."""
     return {name: int(number) for name, number in re.findall(r'^(\w+) = (\d+)$', text_of('types/specs/CauseNumbers.antt'), re.M)}
 
 
 def causes():
-    """The causes of the sources, whose names in specs/ are the same but for letters' size and for where words are parted."""
+    """The causes of the sources, whose names in specs/ are the same but for letters' size."""
     yield 'DONE', 0
-    in_specs = {one_word(name): number for name, number in cause_numbers().items()}
+    in_specs = {name.upper(): number for name, number in cause_numbers().items()}
     for name, number in re.findall(r'^pub const (\w+): u8 = (\d+);$', text_of('types/src/causes.rt'), re.M):
-        if in_specs.pop(one_word(name), None) == int(number):
+        if in_specs.pop(name.upper(), None) == int(number):
             yield name, int(number)
         else:
             yield f'{name} of types/src/causes.rt, which is not that of types/specs/CauseNumbers.antt', int(number)

@@ -71,7 +71,7 @@ fn list(
     out: &mut [u8],
 ) -> Outcome
     requires stands { Stands streams phase bytes.now }
-    requires said_le_count_most { (streams.said ≤ count_most) × ((length bytes.now ≤ buffer_len) × Buffer out.old) }
+    requires counted { (streams.said ≤ count_most) × ((length bytes.now ≤ buffer_len) × Buffer out.old) }
     ensures { Listed bytes.now streams result.streams result.rest }
 {
     let mut streams = streams;
@@ -123,7 +123,7 @@ fn list_held(
     out: &mut [u8],
 ) -> Outcome
     requires stands { Stands streams phase (take n text.old) }
-    requires said_le_count_most { (streams.said ≤ count_most) × ((n ≤ length text.old) × (Buffer text.old × Buffer out.old)) }
+    requires counted { (streams.said ≤ count_most) × ((n ≤ length text.old) × (Buffer text.old × Buffer out.old)) }
     ensures { Left streams result.streams result.rest text.new }
 {
     let outcome = list(rt, streams, phase, front(text, n), out);
@@ -158,7 +158,7 @@ fn turn(
     out: &mut [u8],
 ) -> Outcome
     requires stands { Stands streams phase (take held text.old) × (streams.ended ≡ false) }
-    requires streams_value { (has_room streams ≡ true) × ((held < record_len) × (Buffer text.old × Buffer out.old)) }
+    requires room { (has_room streams ≡ true) × ((held < record_len) × (Buffer text.old × Buffer out.old)) }
     ensures { Waits streams result.streams result.rest text.new }
 {
     let reading = streams.read(rt, &mut text[held..]);

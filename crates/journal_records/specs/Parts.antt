@@ -20,7 +20,7 @@ list_cause More = row 0 (0 ∷ [])
 list_cause Full = row 0 (1 ∷ [])
 list_cause End = row 0 (2 ∷ [])
 list_cause BufferTooShort = row cause.too_short []
-list_cause NotAJournal = row cause.not_ajournal []
+list_cause NotAJournal = row cause.not_a_journal []
 list_cause UnknownVersion = row cause.unknown_version []
 list_cause RecordInvalid = row cause.record_invalid []
 

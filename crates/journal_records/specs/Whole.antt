@@ -21,7 +21,7 @@ whole_len version len = need (leb 5 len) TooShort (whole_as (layout_of version) 
 -- 01's number and values for each case: 0 with the length, or the cause
 abbrev pub whole_len_cause : WholeLenAnswer → Cause
 whole_len_cause (Whole n) = row 0 (n ∷ [])
-whole_len_cause TooShort = row cause.not_ajournal []
+whole_len_cause TooShort = row cause.not_a_journal []
 whole_len_cause UnknownVersion = row cause.unknown_version []
 
 -- r is what is told of a journal of this version and length, with 01's number

@@ -24,7 +24,7 @@ pub causes_tell : CausesTell
 causes_tell =
     record {
       loaded = refl;
-      not_atable = refl;
+      not_a_table = refl;
       not_ascending = refl;
       without_status_response = refl;
       apart = apart load_cause load_back load_back_lem;

@@ -10,7 +10,7 @@ use lib.ListN.{length, replicate}
 use borrow.Author.Tests.{not-true, not-false, lt-leb, le-leb}
 use Rattle.octets.specs.Mark.{is_marked}
 use Rattle.octets.specs.Numbers.{le_at}
-use Rattle.types.specs.CauseNumbers.{not_atable, not_ascending, without_status_response}
+use Rattle.types.specs.CauseNumbers.{not_a_table, not_ascending, without_status_response}
 use Rattle.types.specs.Causes.{row}
 use Rattle.types.specs.Codes.{need}
 use Rattle.services.specs.Ids.{status_response, is_in}
@@ -76,7 +76,7 @@ loaded_two ids e = split (is_ascending ids) (is_in status_response ids) e
 -- the number of the answer, from the tests
 row_of : (f : List ℕ)
     → load_cause (load_answer f)
-    ≡ need (is_table f) (row not_atable [])
+    ≡ need (is_table f) (row not_a_table [])
     (need (is_ascending (ids_in f)) (row not_ascending [])
     (need (is_in status_response (ids_in f)) (row without_status_response []) (row 0 [])))
 unfolding load_answer ids_answer
@@ -84,7 +84,7 @@ row_of f = split (is_table f) (is_ascending (ids_in f)) (is_in status_response (
   where
     split : (a b c : Bool)
         → load_cause (need a NotATable (need b NotAscending (need c WithoutStatusResponse Loaded)))
-        ≡ need a (row not_atable []) (need b (row not_ascending []) (need c (row without_status_response []) (row 0 [])))
+        ≡ need a (row not_a_table []) (need b (row not_ascending []) (need c (row without_status_response []) (row 0 [])))
     split false b c = refl
     split true false c = refl
     split true true false = refl

@@ -8,7 +8,7 @@ use Rattle.services.specs.declared.load.LoadAnswer.TheVariants.{Loaded, NotATabl
 
 pub record CausesTell : Type 0 where
   pub loaded : load_cause Loaded ≡ row 0 []
-  pub not_atable : load_cause NotATable ≡ row 20 []
+  pub not_a_table : load_cause NotATable ≡ row 20 []
   pub not_ascending : load_cause NotAscending ≡ row 21 []
   pub without_status_response : load_cause WithoutStatusResponse ≡ row 22 []
   pub apart : (a b : LoadAnswer) → load_cause a ≡ load_cause b → a ≡ b

@@ -3,7 +3,7 @@
 use Rattle.std.specs.Prelude.{ℕ, ◌<◌, Bool, true, ◌&&◌, ◌≡◌, List, [], ◌∷◌, ◌++◌, leb, ltb, eqb, length, drop}
 use Rattle.octets.specs.Mark.{is_marked}
 use Rattle.octets.specs.Numbers.{le_at}
-use Rattle.types.specs.CauseNumbers.{not_atable, not_ascending, without_status_response}
+use Rattle.types.specs.CauseNumbers.{not_a_table, not_ascending, without_status_response}
 use Rattle.types.specs.Causes.{Cause, row}
 use Rattle.types.specs.Codes.{need}
 use Rattle.services.specs.Ids.{status_response, ds301_ids, is_in}
@@ -40,7 +40,7 @@ load_answer f = need (is_table f) NotATable (ids_answer (ids_in f))
 -- 02's number for each case: 0 where nothing is refused
 abbrev pub load_cause : LoadAnswer → Cause
 load_cause Loaded = row 0 []
-load_cause NotATable = row not_atable []
+load_cause NotATable = row not_a_table []
 load_cause NotAscending = row not_ascending []
 load_cause WithoutStatusResponse = row without_status_response []
 
@@ -55,7 +55,7 @@ pub record Loads (f : List ℕ) (r : LoadAnswer) (services after : List ℕ) : T
   pub answer : r ≡ load_answer f
   pub cause :
       load_cause r
-      ≡ need (is_table f) (row not_atable [])
+      ≡ need (is_table f) (row not_a_table [])
       (need (is_ascending (ids_in f)) (row not_ascending [])
       (need (is_in status_response (ids_in f)) (row without_status_response []) (row 0 [])))
   -- "A service is from then on a number that the table holds": those of the file, and no other

@@ -67,8 +67,8 @@ abbrev pub nothing_booked : ℕ
 nothing_booked = 16
 
 -- journal under 5 bytes or mark wrong
-abbrev pub not_ajournal : ℕ
-not_ajournal = 17
+abbrev pub not_a_journal : ℕ
+not_a_journal = 17
 
 -- journal version not 1
 abbrev pub unknown_version : ℕ
@@ -81,8 +81,8 @@ record_invalid = 19
 -- ---- 02, CR 1
 
 -- table of services under 5 bytes, or its mark or version wrong
-abbrev pub not_atable : ℕ
-not_atable = 20
+abbrev pub not_a_table : ℕ
+not_a_table = 20
 
 -- its IDs not strictly ascending
 abbrev pub not_ascending : ℕ

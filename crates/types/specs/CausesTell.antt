@@ -1,7 +1,7 @@
 -- 01's table of causes, with its own numbers: what the definitions by name come to. And no two answers have the same number and values.
 -- Assumes nothing.
 use Rattle.std.specs.Prelude.{ℕ, ◌≡◌, [], ◌∷◌, get_or}
-use Rattle.types.specs.CauseNumbers.{too_short, not_powerlink, invalid_frame, unknown_message, unknown_state, unknown_service, unknown_request, entry_invalid, queue_full, not_status_response, not_registered, book_full, id_out_of_range, id_registered, four_registered, nothing_booked, not_ajournal, unknown_version, record_invalid, not_atable, not_ascending, without_status_response, is_status_entry}
+use Rattle.types.specs.CauseNumbers.{too_short, not_powerlink, invalid_frame, unknown_message, unknown_state, unknown_service, unknown_request, entry_invalid, queue_full, not_status_response, not_registered, book_full, id_out_of_range, id_registered, four_registered, nothing_booked, not_a_journal, unknown_version, record_invalid, not_a_table, not_ascending, without_status_response, is_status_entry}
 use Rattle.types.specs.Causes.{row, cause_of, error_told}
 use Rattle.types.specs.CodeCauses.{message_cause, state_cause, requested_cause, mode_cause}
 use Rattle.types.specs.Messages.{message_code}
@@ -41,11 +41,11 @@ pub record NumbersTell : Type 0 where
   pub line14 : id_registered ≡ 14
   pub line15 : four_registered ≡ 15
   pub line16 : nothing_booked ≡ 16
-  pub line17 : not_ajournal ≡ 17
+  pub line17 : not_a_journal ≡ 17
   pub line18 : unknown_version ≡ 18
   pub line19 : record_invalid ≡ 19
   -- 02, CR 1
-  pub line20 : not_atable ≡ 20
+  pub line20 : not_a_table ≡ 20
   pub line21 : not_ascending ≡ 21
   pub line22 : without_status_response ≡ 22
   pub line23 : is_status_entry ≡ 23

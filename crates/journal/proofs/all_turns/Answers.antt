@@ -17,7 +17,7 @@ loop-to_come-init g c =
 pub turn-outcome-requires : goal.turn-outcome-requires
 turn-outcome-requires g c =
     let l = c.loop-to_come in
-    record { stands = l.invariant.0; streams_value = (sym c.has_room.ensures ∙ c.loop-to_come-test.true, l.invariant.1) }
+    record { stands = l.invariant.0; room = (sym c.has_room.ensures ∙ c.loop-to_come-test.true, l.invariant.1) }
 
 pub returns-in-Over : goal.returns-in-Over
 returns-in-Over g c =

@@ -8,12 +8,12 @@ use Rattle.journal.proofs.list.Goals as goal
 pub overflow_add-at : goal.overflow_add-at
 overflow_add-at g c =
     let l = c.loop-answer in
-    record { fits = omega (arith, c.requires.said_le_count_most.1.0, further l.invariant.0 c.tail-left.ensures.octets c.has_ended.ensures c.list_part-part.ensures) }
+    record { fits = omega (arith, c.requires.counted.1.0, further l.invariant.0 c.tail-left.ensures.octets c.has_ended.ensures c.list_part-part.ensures) }
 
 pub say-streams-requires : goal.say-streams-requires
 say-streams-requires g c =
     let l = c.loop-answer in
-    let b = c.requires.said_le_count_most in (
+    let b = c.requires.counted in (
       says l.invariant.0 c.tail-left.ensures.octets c.has_ended.ensures c.list_part-part.ensures c.front.ensures.octets,
       countable l.invariant.0 c.tail-left.ensures.octets c.has_ended.ensures c.list_part-part.ensures c.front.ensures.octets b.0 b.1.0 (b.1.1 ∙ sym l.invariant.1),
     )
@@ -29,13 +29,13 @@ pub loop-answer-smaller : goal.loop-answer-smaller
 loop-answer-smaller g c =
     let l = c.loop-answer in
     less l.invariant.0 c.tail-left.ensures.octets c.has_ended.ensures c.list_part-part.ensures (sym c.is_crowded.ensures ∙ c.if-not-is_crowded.false)
-    (c.requires.said_le_count_most.1.1 ∙ sym l.invariant.1)
+    (c.requires.counted.1.1 ∙ sym l.invariant.1)
 
 pub loop-answer-preserved : goal.loop-answer-preserved
 loop-answer-preserved g c =
     let l = c.loop-answer in (
       on l.invariant.0 c.tail-left.ensures.octets c.has_ended.ensures c.list_part-part.ensures (sym c.is_crowded.ensures ∙ c.if-not-is_crowded.false)
-          (c.requires.said_le_count_most.1.1 ∙ sym l.invariant.1) c.say-streams.ensures c.front.ensures.octets (sym c.has_failed.ensures ∙ c.if-has_failed.false),
+          (c.requires.counted.1.1 ∙ sym l.invariant.1) c.say-streams.ensures c.front.ensures.octets (sym c.has_failed.ensures ∙ c.if-has_failed.false),
       same_size l.invariant.0 c.tail-left.ensures.octets c.has_ended.ensures c.list_part-part.ensures ∙ l.invariant.1,
     )
 

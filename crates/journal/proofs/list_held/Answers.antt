@@ -13,16 +13,16 @@ use Rattle.journal.proofs.list_held.Goals as goal
 
 pub list-outcome-requires : goal.list-outcome-requires
 list-outcome-requires g c =
-    let n = c.requires.said_le_count_most.1 in
+    let n = c.requires.counted.1 in
     record {
       stands = subst (λ (l : List ℕ). Stands c.args.streams c.args.phase l) (sym c.front.ensures.octets) c.requires.stands;
-      said_le_count_most =
-          (c.requires.said_le_count_most.0, (omega (arith, ap length c.front.ensures.octets, length-take-le c.args.n c.args.text.now n.0, n.1.0), n.1.1));
+      counted =
+          (c.requires.counted.0, (omega (arith, ap length c.front.ensures.octets, length-take-le c.args.n c.args.text.now n.0, n.1.0), n.1.1));
     }
 
 pub keep-kept-requires : goal.keep-kept-requires
 keep-kept-requires g c =
-    let n = c.requires.said_le_count_most.1.0 in
+    let n = c.requires.counted.1.0 in
     (in_range c.args.text.now c.args.n (listed_as _ _ _ _ _ _ c.front.ensures.octets c.in-More.is c.list-outcome.ensures) n, n)
 
 pub returns-in-Over : goal.returns-in-Over
@@ -35,4 +35,4 @@ returns-in-Failed g c =
 
 pub returns-in-More : goal.returns-in-More
 returns-in-More g c =
-    keeps c.args.text.now c.args.n (listed_as _ _ _ _ _ _ c.front.ensures.octets c.in-More.is c.list-outcome.ensures) c.requires.said_le_count_most.1.0 c.keep-kept.ensures.0 c.keep-kept.ensures.1
+    keeps c.args.text.now c.args.n (listed_as _ _ _ _ _ _ c.front.ensures.octets c.in-More.is c.list-outcome.ensures) c.requires.counted.1.0 c.keep-kept.ensures.0 c.keep-kept.ensures.1

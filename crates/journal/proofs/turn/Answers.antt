@@ -18,34 +18,34 @@ few : {held : ℕ} (text : List ℕ) → held < record_len → Buffer text → h
 few text h b = omega (arith, record_fits, h, b)
 
 pub slice_bounds-read-count : goal.slice_bounds-read-count
-slice_bounds-read-count g c = let f = few c.args.text.now c.requires.streams_value.1.0 c.requires.streams_value.1.1.0 in omega arith
+slice_bounds-read-count g c = let f = few c.args.text.now c.requires.room.1.0 c.requires.room.1.1.0 in omega arith
 
 pub slice_bounds-read-start : goal.slice_bounds-read-start
-slice_bounds-read-start g c = let f = few c.args.text.now c.requires.streams_value.1.0 c.requires.streams_value.1.1.0 in omega arith
+slice_bounds-read-start g c = let f = few c.args.text.now c.requires.room.1.0 c.requires.room.1.1.0 in omega arith
 
 pub read-reading-requires : goal.read-reading-requires
 read-reading-requires g c =
     let n = length c.args.text.now in
-    let f = few c.args.text.now c.requires.streams_value.1.0 c.requires.streams_value.1.1.0 in
+    let f = few c.args.text.now c.requires.room.1.0 c.requires.room.1.1.0 in
     let m = mid_len c.args.held n c.args.text.now (omega arith) in (
       record { goes = c.requires.stands.1; good = c.requires.stands.0.good },
-      (omega arith, omega (arith, room_got c.args.streams c.requires.streams_value.0, c.requires.streams_value.1.1.0)),
+      (omega arith, omega (arith, room_got c.args.streams c.requires.room.0, c.requires.room.1.1.0)),
     )
 
 pub overflow_add-held : goal.overflow_add-held
 overflow_add-held g c =
-    let few : c.args.held ≤ length c.args.text.now = let f = few c.args.text.now c.requires.streams_value.1.0 c.requires.streams_value.1.1.0 in omega arith in
-    record { fits = omega (arith, c.requires.streams_value.1.1.0, read_within c.args.text.now c.read-reading.new.buffer c.args.held c.read-reading.result.len c.read-reading.auto.buffer few c.read-reading.ensures.within) }
+    let few : c.args.held ≤ length c.args.text.now = let f = few c.args.text.now c.requires.room.1.0 c.requires.room.1.1.0 in omega arith in
+    record { fits = omega (arith, c.requires.room.1.1.0, read_within c.args.text.now c.read-reading.new.buffer c.args.held c.read-reading.result.len c.read-reading.auto.buffer few c.read-reading.ensures.within) }
 
 pub list_held-requires : goal.list_held-requires
 list_held-requires g c =
-    let few : c.args.held ≤ length c.args.text.now = let f = few c.args.text.now c.requires.streams_value.1.0 c.requires.streams_value.1.1.0 in omega arith in
+    let few : c.args.held ≤ length c.args.text.now = let f = few c.args.text.now c.requires.room.1.0 c.requires.room.1.1.0 in omega arith in
     let good = unless_failed c.args.streams c.read-reading.ensures.counted (sym c.has_failed.ensures ∙ c.if-has_failed.false) in
     record {
       stands =
           stands_read c.args.text.now c.read-reading.new.buffer c.args.held c.read-reading.result.len c.read-reading.auto.buffer few c.read-reading.ensures.within c.requires.stands.0 c.requires.stands.1 good;
-      said_le_count_most = (
-        omega (arith, room_said c.args.streams c.requires.streams_value.0, ap (λ (x : Streams). x.said) good),
+      counted = (
+        omega (arith, room_said c.args.streams c.requires.room.0, ap (λ (x : Streams). x.said) good),
         (read_within c.args.text.now c.read-reading.new.buffer c.args.held c.read-reading.result.len c.read-reading.auto.buffer few c.read-reading.ensures.within, (search rules, search rules)),
       );
     }
