@@ -23,6 +23,7 @@ numbers:
 
 # Speed, beside powerlink-rs and beside printf: ratios of one run, on this machine.
 bench:
+	@rm -f target/staticlib/libpowerlink.a
 	tests/archive.sh
 	tests/program.sh journal
 	bench/run.sh

@@ -1,5 +1,5 @@
 // Replays a file of records on standard input: cases with the answers of powerlink-rs, or with those that 01 gives, as
-// tests/compare/calls/sample.rs lays them out. Each case's call is made, of the function that `powerlink_c` exports to C, and all
+// tests/compare/calls/sample.rs lays them out. Each case's call is made, of the function of `powerlink` that `powerlink_c` exports to C, and all
 // that comes of it is compared. The last line says how many cases there are and how many differ, or where the file is
 // refused. That the records have the shape of their calls is looked at by tests/replay/run.sh.
 #![tactic(auto)]
