@@ -10,8 +10,7 @@ target/must-fail/CRATE/EDIT.log, and checks that
   without its answers, in EDIT.NAME.false.log, where the prover has to find that a goal is false;
 - any other edit is refused at a fact;
 - each public function of each library crate is named in two groups, files wrong_answers_*.edit, of its crate, and a
-  crate of theorems has two edits; of a static library one group names some, since each of its functions is the call of a library's
-  under that one's contract, as tests/header.py has it;
+  crate of theorems has two edits;
 - docs/WRONG_ANSWERS.md is what `--table` prints;
 - each edit that docs/CLAIMS.md names, CRATE/EDIT, is there, and where it says CRATE/EDIT: WORDS, one of its wrong answers
   begins with these words.
@@ -169,14 +168,13 @@ def public_functions(source):
 
 def gaps(crate):
     """The public functions of a library crate that fewer than two of its groups name."""
-    is_static = re.search(rf'^{crate.name} staticlib:', pathlib.Path('crates.txt').read_text(encoding='utf-8'), re.M)
     groups = [{name for name, _ in wrong(path)} for path in crate.glob(f'must-fail/{GROUPS}')]
     public = list(public_functions(crate / 'src'))
     if not public and len(list(crate.glob('must-fail/*.edit'))) < 2:
         return [f'{crate.name}: theorems alone, and fewer than two edits']
     if public and not groups:
         return [f'{crate.name}: no group of wrong answers, and {len(public)} public functions']
-    few = [] if is_static else [name for name in public if sum(name in group for group in groups) < 2]
+    few = [name for name in public if sum(name in group for group in groups) < 2]
     return [f'{crate.name}: {name} is not named in two groups' for name in few]
 
 
