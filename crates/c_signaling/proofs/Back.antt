@@ -7,20 +7,17 @@ use mathlib.Core.List.{List, [], ◌∷◌, ◌++◌}
 use native.Mathlib.Omega.{arith}
 use lib.ListN.{length, get_or}
 use lib.Dec.{eqb, leb}
+use Rattle.std.specs.Prelude.{Result, Ok, Err}
 use Rattle.types.specs.Causes.{Cause}
 use Rattle.types.specs.Codes.{pick}
 use Rattle.types.specs.Modes.{mode_code, mode_of}
 use Rattle.types.specs.PollFlags.{priority_code}
 use Rattle.types.specs.States.{state_code, state_of}
-use Rattle.types.specs.declared.error_mode.ErrorEntryModeAnswer.TheVariants as mode
 use Rattle.types.specs.declared.hal.PowerlinkError.TheVariants.{BufferTooShort}
 use Rattle.types.proofs.ReadBack.{priority_known}
 use Rattle.types.specs.declared.states.NmtState.{NmtState}
-use Rattle.types.specs.declared.states.NmtStateAnswer.TheVariants as state
 use Rattle.types.proofs.ReadBack.{codes_read_back}
 use Rattle.section.specs.Write.{write_answer, write_cause, octets}
-use Rattle.section.specs.declared.WriteAnswer.{WriteAnswer}
-use Rattle.section.specs.declared.WriteAnswer.TheVariants as write
 use Rattle.error_entry.specs.declared.ErrorEntry.{ErrorEntry}
 use Rattle.status_response.specs.BitField.{field_of, field_bytes}
 use Rattle.status_response.specs.declared.bit_field.StaticErrorBitField.{StaticErrorBitField}
@@ -28,18 +25,11 @@ use Rattle.reporter.specs.Calls as reporter
 use Rattle.reporter.specs.Layout.{head_of}
 use Rattle.reporter.specs.Rules.{new_cause, raise_cause, opened, answer_frame, read_cause}
 use Rattle.reporter.specs.declared.AnswerFields.{AnswerFields}
-use Rattle.reporter.specs.declared.NewAnswer.{NewAnswer}
-use Rattle.reporter.specs.declared.RaiseAnswer.{RaiseAnswer}
-use Rattle.reporter.specs.declared.ReadAnswer.{ReadAnswer}
 use Rattle.reporter.proofs.AnyTable.{any_table, answer_writes}
 use Rattle.collector.specs.Calls as collector
 use Rattle.collector.specs.Layout.{account_of}
 use Rattle.collector.specs.Rules as rules
-use Rattle.collector.specs.declared.ReadAnswer.{ReadAnswer as BoxReadAnswer}
-use Rattle.collector.specs.declared.RegisterAnswer.{RegisterAnswer}
-use Rattle.collector.specs.declared.RequestAnswer.{RequestAnswer}
 use Rattle.collector.specs.declared.RequestFields.{RequestFields}
-use Rattle.collector.specs.declared.TakeAnswer.{TakeAnswer}
 use Rattle.c_values.specs.Answers.{length_after, octet_after, octet_told, values_told, RowTold}
 use Rattle.powerlink.specs.Reporting.{answer_fields, answer_given}
 use Rattle.signaling.specs.Calls as signaling
@@ -47,6 +37,14 @@ use Rattle.signaling.specs.Calls.{Origin, Event, raised, answered, head_read, re
 use Rattle.c_signaling.specs.Calls.{Site, world_of, CStep, raises, answers, head_reads, registers, box_reads, requests, takes, hosts, CRun, fresh, call, StepsAreCalls}
 use Rattle.c_signaling.specs.Log.{Raising, Call, reporter_raise, reporter_answer, reporter_read, collector_register, collector_read, collector_request, collector_take, host_sends, events}
 use Rattle.c_signaling.proofs.Told.{raise_number, register_number, write_number, read_row, box_row, request_row, take_row}
+use Rattle.types.specs.declared.hal.PowerlinkError.{PowerlinkError}
+use Rattle.reporter.specs.declared.RaiseError.{RaiseError}
+use Rattle.reporter.specs.declared.NewError.{NewError}
+use Rattle.collector.specs.declared.RegisterError.{RegisterError}
+use Rattle.collector.specs.declared.RequestError.{RequestError}
+use Rattle.collector.specs.declared.TakeError.{TakeError}
+use Rattle.reporter.specs.declared.ReadOutcome.{ReadOutcome}
+use Rattle.collector.specs.declared.ReadError.{ReadError}
 
 -- ---- fields as C gives them
 
@@ -90,7 +88,7 @@ row_told : (c d : Cause) → c ≡ d → RowTold d c.number 0 (value c) 0 (octet
 row_told c d e =
     record { cause = ap (λ (x : Cause). x.number) e; value = ap value e; octet = ap (λ (x : Cause). octet_told x 0) e }
 
-kept_by : (fits : Bool) (n : ℕ) → 0 ≡ octet_after (pick fits (write.Written n) (write.Refused BufferTooShort)) 0
+kept_by : (fits : Bool) (n : ℕ) → 0 ≡ octet_after (pick fits (Ok n) (Err BufferTooShort)) 0
 kept_by true n = refl
 kept_by false n = refl
 
@@ -106,7 +104,7 @@ module _ (i : ℕ) (s : Site) where
   abbrev by_box : List ℕ → signaling.Log → World
   by_box after l = record { head = s.head; box = after; log = l ++ events s.log }
 
-  raise_back : (e : ErrorEntry) (r : RaiseAnswer) (after : List ℕ) → reporter.Raises e r s.head after → Comes i s (by_head after (raised e r ∷ []))
+  raise_back : (e : ErrorEntry) (r : Result Unit RaiseError) (after : List ℕ) → reporter.Raises e r s.head after → Comes i s (by_head after (raised e r ∷ []))
   raise_back e r after c =
       let t = e.entry_type in
       let g : Raising =
@@ -120,22 +118,22 @@ module _ (i : ℕ) (s : Site) where
         information = e.additional_information;
       } in
       let n = (raise_cause r).number in
-      let q : mode_of (mode_code t.mode) ≡ mode.Known t.mode = codes_read_back.modes t.mode in
+      let q : mode_of (mode_code t.mode) ≡ Ok t.mode = codes_read_back.modes t.mode in
       record {
         made = reporter_raise g n;
         site = record { head = after; box = s.box; log = reporter_raise g n ∷ s.log };
         step = raises g n after
-            (rw q (record { cause = ap (λ (x : RaiseAnswer). (raise_cause x).number) c.answer; raises = rw c.answer at c }));
+            (rw q (record { cause = ap (λ (x : Result Unit RaiseError). (raise_cause x).number) c.answer; raises = rw c.answer at c }));
         same = rw (q, raise_number r);
       }
 
-  answer_back : (services : List ℕ) (f : AnswerFields) (r : WriteAnswer) (after t t' : List ℕ) → reporter.Answers services f r s.head after t t'
+  answer_back : (services : List ℕ) (f : AnswerFields) (r : Result ℕ PowerlinkError) (after t t' : List ℕ) → reporter.Answers services f r s.head after t t'
       → Comes i s (by_head after (answered r t' ∷ []))
   answer_back services f r after t t' c =
       let k = f.nmt_state in
       let n = (write_cause r).number in
       let m = length_after r 0 in
-      let q : state_of (state_code k) ≡ state.Known k = codes_read_back.states k in
+      let q : state_of (state_code k) ≡ Ok k = codes_read_back.states k in
       let b = fields_back f c.sizes in
       let bs = answer_frame f (opened (head_of s.head)) in
       let w : answer_given services (fields_of f) (state_code k) (head_of s.head) ≡ octets bs =
@@ -149,9 +147,9 @@ module _ (i : ℕ) (s : Site) where
             (field_bytes f.static_error_bit_field) (state_code k) n after t t' 0 m 0 0
             (record {
               writes = record {
-                cause = ap (λ (x : WriteAnswer). (write_cause x).number) a ∙ rw w;
+                cause = ap (λ (x : Result ℕ PowerlinkError). (write_cause x).number) a ∙ rw w;
                 target = y.holds ∙ rw w;
-                written = ap (λ (x : WriteAnswer). length_after x 0) a ∙ rw w;
+                written = ap (λ (x : Result ℕ PowerlinkError). length_after x 0) a ∙ rw w;
                 octet = kept_octet bs t ∙ rw w;
               };
               answers = rw (q, b) (rw c.writes.answer at c);
@@ -159,7 +157,7 @@ module _ (i : ℕ) (s : Site) where
         same = rw (q, a, write_number bs t 0);
       }
 
-  read_back : (services : List ℕ) (from : Origin) (bs : List ℕ) (r : ReadAnswer) (after : List ℕ)
+  read_back : (services : List ℕ) (from : Origin) (bs : List ℕ) (r : Result ReadOutcome PowerlinkError) (after : List ℕ)
       → signaling.Delivered services 240 from bs (signaling.tally i (events s.log)).requests
       → reporter.Reads services bs r s.head after
       → Comes i s (by_head after (head_read services from bs r ∷ []))
@@ -174,7 +172,7 @@ module _ (i : ℕ) (s : Site) where
         same = rw (read_row r y.number 0 (value y) 0 (octet_told y 0) (row_told y y refl));
       }
 
-  register_back : (j : ℕ) (r : RegisterAnswer) (after : List ℕ) → collector.Registers (signaling.node j) r s.box after
+  register_back : (j : ℕ) (r : Result Unit RegisterError) (after : List ℕ) → collector.Registers (signaling.node j) r s.box after
       → Comes i s (by_box after (registered j r ∷ []))
   register_back j r after c =
       let n = (rules.register_cause r).number in
@@ -182,11 +180,11 @@ module _ (i : ℕ) (s : Site) where
         made = collector_register j n;
         site = record { head = s.head; box = after; log = collector_register j n ∷ s.log };
         step = registers j n after
-            (record { cause = ap (λ (x : RegisterAnswer). (rules.register_cause x).number) c.answer; registers = rw c.answer at c });
+            (record { cause = ap (λ (x : Result Unit RegisterError). (rules.register_cause x).number) c.answer; registers = rw c.answer at c });
         same = rw (register_number r);
       }
 
-  box_back : (services : List ℕ) (from : Origin) (bs : List ℕ) (r : BoxReadAnswer) (after : List ℕ)
+  box_back : (services : List ℕ) (from : Origin) (bs : List ℕ) (r : Result ReadOutcome ReadError) (after : List ℕ)
       → signaling.Reaches services i from bs (signaling.tally i (events s.log)).answers
       → collector.Reads services bs r s.box after
       → Comes i s (by_box after (box_read services from bs r ∷ []))
@@ -201,12 +199,12 @@ module _ (i : ℕ) (s : Site) where
         same = rw (box_row r y.number 0 (value y) 0 (octet_told y 0) (row_told y y refl));
       }
 
-  request_back : (j : ℕ) (f : RequestFields) (r : RequestAnswer) (t t' : List ℕ) → collector.Requests (signaling.node j) f r s.box t t'
+  request_back : (j : ℕ) (f : RequestFields) (r : Result ℕ RequestError) (t t' : List ℕ) → collector.Requests (signaling.node j) f r s.box t t'
       → Comes i s (by_box s.box (requested j r t' ∷ []))
   request_back j f r t t' c =
       let k = f.nmt_state in
       let y = rules.request_cause r in
-      let q : state_of (state_code k) ≡ state.Known k = codes_read_back.states k in
+      let q : state_of (state_code k) ≡ Ok k = codes_read_back.states k in
       let a = c.answer in
       let p = collector_request j (state_code k) y.number t' (value y) in
       let told : RowTold (rules.request_cause (rules.request_answer j f t (account_of s.box j))) y.number 0 (value y) 0 (octet_told y 0) =
@@ -219,7 +217,7 @@ module _ (i : ℕ) (s : Site) where
         same = rw (q, request_row j f t (account_of s.box j) y.number 0 (value y) 0 (octet_told y 0) told, ← a);
       }
 
-  take_back : (j : ℕ) (r : TakeAnswer) (after : List ℕ) → collector.Takes (signaling.node j) r s.box after
+  take_back : (j : ℕ) (r : Result ErrorEntry TakeError) (after : List ℕ) → collector.Takes (signaling.node j) r s.box after
       → Comes i s (by_box after (taken j r ∷ []))
   take_back j r after c =
       let y = rules.take_cause r in
@@ -229,8 +227,8 @@ module _ (i : ℕ) (s : Site) where
         site = record { head = s.head; box = after; log = collector_take j y.number vs ∷ s.log };
         step = takes j y.number after [] vs
             (record {
-              cause = ap (λ (x : TakeAnswer). (rules.take_cause x).number) c.answer;
-              values = ap (λ (x : TakeAnswer). values_told (rules.take_cause x) []) c.answer;
+              cause = ap (λ (x : Result ErrorEntry TakeError). (rules.take_cause x).number) c.answer;
+              values = ap (λ (x : Result ErrorEntry TakeError). values_told (rules.take_cause x) []) c.answer;
               takes = rw c.answer at c;
             });
         same = rw (take_row r y.number [] vs refl refl);
@@ -256,7 +254,7 @@ comes {i} {s} (signaling.hosts bs told) =
 
 back : {i : ℕ} {w : World} → Run i w → (s : Site) × CRun i s × (world_of s ≡ w)
 back {i} (signaling.fresh before head box m f) =
-    let r = fresh before head box 0 (record { cause = ap (λ (x : NewAnswer). (new_cause x).number) m.answer; makes = rw m.answer at m }) (record { cause = refl; fresh = f }) in
+    let r = fresh before head box 0 (record { cause = ap (λ (x : Result Unit NewError). (new_cause x).number) m.answer; makes = rw m.answer at m }) (record { cause = refl; fresh = f }) in
     (record { head = head; box = box; log = [] }, r, refl)
 back (signaling.call run st) =
     let p = back run in

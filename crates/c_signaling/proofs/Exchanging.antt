@@ -8,24 +8,18 @@ use mathlib.Core.Option.{Option}
 use lib.ListN.{length}
 use lib.Dec.{eqb, leb}
 use borrow.Author.Tests.{eqb-true, eqb-false}
+use Rattle.std.specs.Prelude.{Result, Ok, Err}
 use Rattle.types.specs.Codes.{pick}
 use Rattle.types.specs.Modes.{mode_of}
 use Rattle.types.specs.States.{state_of}
-use Rattle.types.specs.declared.error_mode.ErrorEntryModeAnswer.{ErrorEntryModeAnswer}
-use Rattle.types.specs.declared.error_mode.ErrorEntryModeAnswer.TheVariants as mode
 use Rattle.types.specs.declared.states.NmtState.{NmtState}
-use Rattle.types.specs.declared.states.NmtStateAnswer.{NmtStateAnswer}
-use Rattle.types.specs.declared.states.NmtStateAnswer.TheVariants as state
 use Rattle.section.specs.Write.{Coded}
-use Rattle.section.specs.declared.WriteAnswer.TheVariants as write
 use Rattle.error_entry.specs.declared.ErrorEntry.{ErrorEntry}
-use Rattle.reporter.specs.declared.RaiseAnswer.TheVariants.{EntryInvalid, StatusEntry, QueueFull}
+use Rattle.reporter.specs.declared.RaiseError.TheVariants.{EntryInvalid, StatusEntry, QueueFull}
 use Rattle.collector.specs.CausesTell as box
 use Rattle.collector.specs.Layout.{account_of, box_of}
 use Rattle.collector.specs.Rules.{Account, request_cause, read_answer, read_cause}
-use Rattle.collector.specs.declared.ReadAnswer.{ReadAnswer}
-use Rattle.collector.specs.declared.ReadAnswer.TheVariants.{BookFull}
-use Rattle.collector.specs.declared.RequestAnswer.TheVariants as requesting
+use Rattle.collector.specs.declared.ReadError.TheVariants.{BookFull}
 use Rattle.collector.specs.declared.RequestFields.{RequestFields}
 use Rattle.c_values.specs.Answers.{RowTold}
 use Rattle.powerlink.specs.Collecting.{request_by, request_fields}
@@ -40,6 +34,12 @@ use Rattle.c_signaling.specs.Exchanges.{CQuiet, CAnswerAgain, CRequestAgain, CNo
 use Rattle.c_signaling.specs.Log.{Raising, Call, reporter_raise, reporter_answer, reporter_read, collector_register, collector_read, collector_request, collector_take, host_sends, raised_entry, raise_events, answer_events, request_events, reading, events_of}
 use Rattle.c_signaling.proofs.Steps.{called, the_step}
 use Rattle.c_signaling.proofs.Told.{unnamed_number, unasked_number, box_row}
+use Rattle.types.specs.declared.hal.PowerlinkError.{PowerlinkError}
+use Rattle.types.specs.declared.hal.PowerlinkError.TheVariants.{InvalidNmtState}
+use Rattle.types.specs.declared.error_mode.UnknownMode.{UnknownMode}
+use Rattle.types.specs.declared.error_mode.ErrorEntryMode.{ErrorEntryMode}
+use Rattle.collector.specs.declared.ReadOutcome.{ReadOutcome}
+use Rattle.collector.specs.declared.ReadError.{ReadError}
 
 -- ---- what answers 0 is written
 
@@ -48,23 +48,23 @@ not_0 : {X : Type 0} (n : ℕ) → 0 ≡ n → eqb n 0 ≡ false → X
 not_0 n e h = absurd (eqb-false n 0 h (sym e))
 
 module _ {i : ℕ} {w v : World} where
-  answer_written : (m : NmtStateAnswer) (k : ℕ) (f : NmtState → Coded) (t t' : List ℕ) (n n' o o' : ℕ) → WritesCoded (stated k m f) 0 t t' n n' o o'
-      → Translated i w (answer_events m 0 t' n') v → Step i w (answered (write.Written n') t') v
-  answer_written (state.Unknown b) k f t t' n n' o o' c s = not_0 _ c.cause (unnamed_number (leb k (length t)) b)
-  answer_written (state.Known m) k f t t' n n' o o' c s = the_step s
+  answer_written : (m : Result NmtState PowerlinkError) (k : ℕ) (f : NmtState → Coded) (t t' : List ℕ) (n n' o o' : ℕ) → WritesCoded (stated k m f) 0 t t' n n' o o'
+      → Translated i w (answer_events m 0 t' n') v → Step i w (answered (Ok n') t') v
+  answer_written (Err (InvalidNmtState b)) k f t t' n n' o o' c s = not_0 _ c.cause (unnamed_number (leb k (length t)) b)
+  answer_written (Ok m) k f t t' n n' o o' c s = the_step s
 
-  request_written : (j : ℕ) (f : NmtState → RequestFields) (m : NmtStateAnswer) (p : Option Account) (t t' : List ℕ) (n n' o o' : ℕ)
+  request_written : (j : ℕ) (f : NmtState → RequestFields) (m : Result NmtState PowerlinkError) (p : Option Account) (t t' : List ℕ) (n n' o o' : ℕ)
       → RowTold (request_cause (request_by j f m t p)) 0 n n' o o'
-      → Translated i w (request_events j m 0 t' n') v → Step i w (requested j (requesting.Written n') t') v
-  request_written j f (state.Unknown b) p t t' n n' o o' c s = not_0 _ c.cause (unasked_number b t p)
-  request_written j f (state.Known m) p t t' n n' o o' c s = the_step s
+      → Translated i w (request_events j m 0 t' n') v → Step i w (requested j (Ok n') t') v
+  request_written j f (Err (InvalidNmtState b)) p t t' n n' o o' c s = not_0 _ c.cause (unasked_number b t p)
+  request_written j f (Ok m) p t t' n n' o o' c s = the_step s
 
-answer_0 : {i s n : ℕ} {t : List ℕ} {w v : Site} → CStep i w (reporter_answer s 0 t n) v → Step i (world_of w) (answered (write.Written n) t) (world_of v)
+answer_0 : {i s n : ℕ} {t : List ℕ} {w v : Site} → CStep i w (reporter_answer s 0 t n) v → Step i (world_of w) (answered (Ok n) t) (world_of v)
 answer_0 {w} (calls.answers services from to ec pr rs field s r after t t' n n' o o' k) =
     answer_written (state_of s) _ _ t t' n n' o o' k.writes (called {w = w} (calls.answers services from to ec pr rs field s 0 after t t' n n' o o' k))
 
 request_0 : {i j s n : ℕ} {t : List ℕ} {w v : Site} → CStep i w (collector_request j s 0 t n) v
-    → Step i (world_of w) (requested j (requesting.Written n) t) (world_of v)
+    → Step i (world_of w) (requested j (Ok n) t) (world_of v)
 request_0 {w} (calls.requests j from version s r t t' n n' o o' k) =
     request_written j (request_fields from version) (state_of s) (account_of w.box j) t t' n n' o o' k.told
     (called {w = w} (calls.requests j from version s 0 t t' n n' o o' k))
@@ -77,23 +77,23 @@ Each P (x ∷ l) = P x × Each P l
 
 -- a Raise that does not answer 0
 module _ (i : ℕ) where
-  refused_quiet : (e : ErrorEntry) (invalid status : Bool) → Quiet i (raised e (pick invalid EntryInvalid (pick status StatusEntry QueueFull)))
+  refused_quiet : (e : ErrorEntry) (invalid status : Bool) → Quiet i (raised e (pick invalid (Err EntryInvalid) (pick status (Err StatusEntry) (Err QueueFull))))
   refused_quiet e true status = tt
   refused_quiet e false true = tt
   refused_quiet e false false = tt
 
-  raise_quiet : (g : Raising) (m : ErrorEntryModeAnswer) (r : ℕ) → (r ≡ 0 → ⊥) → Each (Quiet i) (raise_events g m r)
-  raise_quiet g (mode.Unknown b) r h = tt
-  raise_quiet g (mode.Known m) r h =
+  raise_quiet : (g : Raising) (m : Result ErrorEntryMode UnknownMode) (r : ℕ) → (r ≡ 0 → ⊥) → Each (Quiet i) (raise_events g m r)
+  raise_quiet g (Err (record { 0 = b })) r h = tt
+  raise_quiet g (Ok m) r h =
       either (eqb r 0) (λ t. absurd (h (eqb-true r 0 t))) (λ t. (rw t (refused_quiet (raised_entry g m) (eqb r 8) (eqb r 23)), tt))
 
-  answer_quiet : (m : NmtStateAnswer) (r : ℕ) (t : List ℕ) (n : ℕ) → Each (Quiet i) (answer_events m r t n)
-  answer_quiet (state.Unknown b) r t n = tt
-  answer_quiet (state.Known k) r t n = (tt, tt)
+  answer_quiet : (m : Result NmtState PowerlinkError) (r : ℕ) (t : List ℕ) (n : ℕ) → Each (Quiet i) (answer_events m r t n)
+  answer_quiet (Err (InvalidNmtState b)) r t n = tt
+  answer_quiet (Ok k) r t n = (tt, tt)
 
-  request_quiet : (j : ℕ) (m : NmtStateAnswer) (r : ℕ) (t : List ℕ) (n : ℕ) → Each (Quiet i) (request_events j m r t n)
-  request_quiet j (state.Unknown b) r t n = tt
-  request_quiet j (state.Known k) r t n = (tt, tt)
+  request_quiet : (j : ℕ) (m : Result NmtState PowerlinkError) (r : ℕ) (t : List ℕ) (n : ℕ) → Each (Quiet i) (request_events j m r t n)
+  request_quiet j (Err (InvalidNmtState b)) r t n = tt
+  request_quiet j (Ok k) r t n = (tt, tt)
 
   quiet_events : (x : Call) → CQuiet x → Each (Quiet i) (events_of x)
   quiet_events (reporter_raise g r) h = raise_quiet g (mode_of g.mode) r h
@@ -177,16 +177,16 @@ exchanges (ex.more l x xs) = more (quietly none_again l) (exchange x) (exchanges
 -- ---- 12 is a full book, and no other number is
 
 full_12 : {i r k o : ℕ} {services : List ℕ} {from : Origin} {bs : List ℕ} {w v : Site} → CStep i w (collector_read services from bs r k o) v
-    → box.read_told (reading r k o) ≡ BookFull → r ≡ 12
+    → box.read_told (reading r k o) ≡ Err BookFull → r ≡ 12
 full_12 {w} (calls.box_reads services from bs r k k' o o' after d y) e =
-    y.told.cause ∙ ap (λ (a : ReadAnswer). (read_cause a).number) (sym (box_row (read_answer services bs (box_of w.box)) r k k' o o' y.told) ∙ e)
+    y.told.cause ∙ ap (λ (a : Result ReadOutcome ReadError). (read_cause a).number) (sym (box_row (read_answer services bs (box_of w.box)) r k k' o o' y.told) ∙ e)
 
 pub found : {i n : ℕ} {w v : Site} (xs : CExchanges i n w v) → CFound xs → Found (exchanges xs)
 unfolding exchanges exchange
 found (ex.done l) h = tt
 found (ex.more l x xs) h = (λ e. h.0 (full_12 x.box_reads e), found xs h.1)
 
-is_full : (r k o : ℕ) → r ≡ 12 → box.read_told (reading r k o) ≡ BookFull
+is_full : (r k o : ℕ) → r ≡ 12 → box.read_told (reading r k o) ≡ Err BookFull
 is_full r k o e = rw e
 
 pub is_found : {i n : ℕ} {w v : Site} (xs : CExchanges i n w v) → Found (exchanges xs) → CFound xs

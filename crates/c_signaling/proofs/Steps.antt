@@ -6,22 +6,19 @@ use mathlib.Core.Path.{◌≡◌, refl}
 use mathlib.Core.List.{List, [], ◌∷◌, ◌++◌}
 use native.Mathlib.Omega.{arith}
 use lib.ListN.{length}
+use Rattle.std.specs.Prelude.{Result, Ok, Err}
 use Rattle.types.specs.Causes.{row}
 use Rattle.types.specs.Codes.{need}
 use Rattle.types.specs.Modes.{mode_of}
 use Rattle.types.specs.Nodes.{is_cn_node_id}
 use Rattle.types.specs.States.{state_of}
-use Rattle.types.specs.declared.error_mode.ErrorEntryModeAnswer.{ErrorEntryModeAnswer}
-use Rattle.types.specs.declared.error_mode.ErrorEntryModeAnswer.TheVariants as mode
 use Rattle.types.specs.declared.states.NmtState.{NmtState}
-use Rattle.types.specs.declared.states.NmtStateAnswer.{NmtStateAnswer}
-use Rattle.types.specs.declared.states.NmtStateAnswer.TheVariants as state
 use Rattle.section.specs.Write.{coded_answer}
 use Rattle.reporter.specs.CausesTell.{raise_told, write_told}
 use Rattle.reporter.specs.Layout.{head_of}
 use Rattle.reporter.specs.Rules.{new_cause, raise_answer, opened, answer_frame, answer_writing, answer_length}
 use Rattle.reporter.specs.declared.AnswerFields.{AnswerFields}
-use Rattle.reporter.specs.declared.NewAnswer.TheVariants.{Made, IdOutOfRange}
+use Rattle.reporter.specs.declared.NewError.TheVariants.{IdOutOfRange}
 use Rattle.reporter.proofs.AnyTable.{any_table}
 use Rattle.collector.specs.CausesTell as box
 use Rattle.collector.specs.Layout.{account_of, box_of}
@@ -36,33 +33,37 @@ use Rattle.c_signaling.specs.Calls as c
 use Rattle.c_signaling.specs.Calls.{Site, world_of, CStep, CRun, Translated, nothing, one}
 use Rattle.c_signaling.specs.Log.{Raising, Call, raised_entry, raise_events, answer_events, request_events, events_of, events}
 use Rattle.c_signaling.proofs.Told.{raise_number, register_number, write_number, read_row, box_row, request_row, take_row}
+use Rattle.types.specs.declared.hal.PowerlinkError.{PowerlinkError}
+use Rattle.types.specs.declared.hal.PowerlinkError.TheVariants.{InvalidNmtState}
+use Rattle.types.specs.declared.error_mode.UnknownMode.{UnknownMode}
+use Rattle.types.specs.declared.error_mode.ErrorEntryMode.{ErrorEntryMode}
 
 module _ (i : ℕ) (w : Site) where
-  raise_call : (g : Raising) (m : ErrorEntryModeAnswer) (r : ℕ) (after : List ℕ) → RaisesBy (raised_entry g) m r w.head after
+  raise_call : (g : Raising) (m : Result ErrorEntryMode UnknownMode) (r : ℕ) (after : List ℕ) → RaisesBy (raised_entry g) m r w.head after
       → Translated i (world_of w) (raise_events g m r) (record { head = after; box = w.box; log = raise_events g m r ++ events w.log })
-  raise_call g (mode.Unknown b) r after c = rw c.stays nothing
-  raise_call g (mode.Known m) r after c =
+  raise_call g (Err (record { 0 = b })) r after c = rw c.stays nothing
+  raise_call g (Ok m) r after c =
       let a = raise_answer (raised_entry g m) (head_of w.head) in
       let e : raise_told (row r []) ≡ a = rw c.cause (raise_number a) in
       rw e (one (raise (raised_entry g m) a after c.raises))
 
-  answer_call : (services : List ℕ) (f : NmtState → AnswerFields) (m : NmtStateAnswer) (r : ℕ) (after t t' : List ℕ) (n n' o o' : ℕ)
+  answer_call : (services : List ℕ) (f : NmtState → AnswerFields) (m : Result NmtState PowerlinkError) (r : ℕ) (after t t' : List ℕ) (n n' o o' : ℕ)
       → WritesCoded (stated (answer_length (length (opened (head_of w.head)).batch)) m (λ s. answer_writing services (f s) (opened (head_of w.head)))) r t t' n n' o o'
       → AnswersBy services f m w.head after t t'
       → Translated i (world_of w) (answer_events m r t' n') (record { head = after; box = w.box; log = answer_events m r t' n' ++ events w.log })
-  answer_call services f (state.Unknown b) r after t t' n n' o o' c d = rw d nothing
-  answer_call services f (state.Known k) r after t t' n n' o o' c d =
+  answer_call services f (Err (InvalidNmtState b)) r after t t' n n' o o' c d = rw d nothing
+  answer_call services f (Ok k) r after t t' n n' o o' c d =
       let h = opened (head_of w.head) in
       let a = coded_answer (answer_writing services (f k) h) t in
       let e : write_told (row r (n' ∷ [])) ≡ a = rw (c.cause, c.written, any_table.answer services (f k) h) (write_number (answer_frame (f k) h) t n) in
       rw e (one (answer services (f k) a after t t' d))
 
-  request_call : (j : ℕ) (f : NmtState → RequestFields) (m : NmtStateAnswer) (r : ℕ) (t t' : List ℕ) (n n' o o' : ℕ)
+  request_call : (j : ℕ) (f : NmtState → RequestFields) (m : Result NmtState PowerlinkError) (r : ℕ) (t t' : List ℕ) (n n' o o' : ℕ)
       → RowTold (request_cause (request_by j f m t (account_of w.box j))) r n n' o o'
       → RequestsBy j f m w.box t t'
       → Translated i (world_of w) (request_events j m r t' n') (record { head = w.head; box = w.box; log = request_events j m r t' n' ++ events w.log })
-  request_call j f (state.Unknown b) r t t' n n' o o' c d = nothing
-  request_call j f (state.Known k) r t t' n n' o o' c d =
+  request_call j f (Err (InvalidNmtState b)) r t t' n n' o o' c d = nothing
+  request_call j f (Ok k) r t t' n n' o o' c d =
       let a = request_answer j (f k) t (account_of w.box j) in
       let e : box.request_told (row r (n' ∷ [])) ≡ a = request_row j (f k) t (account_of w.box j) r n n' o o' c in
       rw e (one (request j (f k) a t t' d))
@@ -95,7 +96,7 @@ the_step (one s) = s
 -- ---- lists
 
 -- a head was made where 0 is answered
-is_made : (b : Bool) → 0 ≡ (new_cause (need b IdOutOfRange Made)).number → need b IdOutOfRange Made ≡ Made
+is_made : (b : Bool) → 0 ≡ (new_cause (need b (Err IdOutOfRange) (Ok tt))).number → need b (Err IdOutOfRange) (Ok tt) ≡ Ok tt
 is_made true e = refl
 is_made false e = absurd (omega arith)
 

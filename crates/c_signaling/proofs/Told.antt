@@ -7,51 +7,53 @@ use mathlib.Core.List.{List, [], ◌∷◌}
 use mathlib.Core.Option.{Option, none, some}
 use lib.ListN.{length}
 use lib.Dec.{eqb, leb}
+use Rattle.std.specs.Prelude.{Result, Ok, Err}
 use Rattle.types.specs.Causes.{row, cause_of, error_told}
 use Rattle.types.specs.Codes.{need, pick}
 use Rattle.types.specs.declared.hal.PowerlinkError.{PowerlinkError}
 use Rattle.types.specs.declared.hal.PowerlinkError.TheVariants.{BufferTooShort, InvalidNmtState}
 use Rattle.section.specs.Write.{min_frame, write_answer, write_cause}
-use Rattle.section.specs.declared.WriteAnswer.TheVariants as write
 use Rattle.types.proofs.CausesTell.{not_0, below_8, error_told_lem}
 use Rattle.error_entry.proofs.Values.{values_tell}
 use Rattle.reporter.specs.CausesTell.{raise_told, write_told, read_told}
 use Rattle.reporter.specs.Rules.{raise_cause, read_cause}
-use Rattle.reporter.specs.declared.RaiseAnswer.{RaiseAnswer}
-use Rattle.reporter.specs.declared.RaiseAnswer.TheVariants.{Raised, EntryInvalid, StatusEntry, QueueFull}
-use Rattle.reporter.specs.declared.ReadAnswer.{ReadAnswer}
-use Rattle.reporter.specs.declared.ReadAnswer.TheVariants.{Closed, Kept, Ignored, Refused}
+use Rattle.reporter.specs.declared.RaiseError.TheVariants.{EntryInvalid, StatusEntry, QueueFull}
+use Rattle.reporter.specs.declared.ReadOutcome.TheVariants.{Closed, Kept, Ignored}
 use Rattle.collector.specs.CausesTell as box
 use Rattle.collector.specs.Rules as rules
-use Rattle.collector.specs.declared.ReadAnswer.{ReadAnswer as BoxReadAnswer}
-use Rattle.collector.specs.declared.ReadAnswer.TheVariants as reads
-use Rattle.collector.specs.declared.RegisterAnswer.{RegisterAnswer}
-use Rattle.collector.specs.declared.RegisterAnswer.TheVariants.{Registered, IdOutOfRange, IdRegistered, Full}
+use Rattle.collector.specs.declared.ReadError.TheVariants as readsError
+use Rattle.collector.specs.declared.ReadOutcome.TheVariants as reads
+use Rattle.collector.specs.declared.RegisterError.TheVariants.{IdOutOfRange, IdRegistered, Full}
 use Rattle.collector.specs.declared.RequestFields.{RequestFields}
-use Rattle.collector.specs.declared.TakeAnswer.{TakeAnswer}
-use Rattle.collector.specs.declared.TakeAnswer.TheVariants as taking
+use Rattle.collector.specs.declared.TakeError.TheVariants as taking
 use Rattle.c_values.specs.Answers.{length_after, octet_told, values_told, RowTold}
 use Rattle.powerlink.specs.Collecting.{unasked}
 use Rattle.c_signaling.specs.Log.{reading}
+use Rattle.reporter.specs.declared.RaiseError.{RaiseError}
+use Rattle.collector.specs.declared.RegisterError.{RegisterError}
+use Rattle.error_entry.specs.declared.ErrorEntry.{ErrorEntry}
+use Rattle.collector.specs.declared.TakeError.{TakeError}
+use Rattle.reporter.specs.declared.ReadOutcome.{ReadOutcome}
+use Rattle.collector.specs.declared.ReadError.{ReadError}
 
 -- ---- numbers alone
 
-pub raise_number : (a : RaiseAnswer) → raise_told (row (raise_cause a).number []) ≡ a
-raise_number Raised = refl
-raise_number EntryInvalid = refl
-raise_number StatusEntry = refl
-raise_number QueueFull = refl
+pub raise_number : (a : Result Unit RaiseError) → raise_told (row (raise_cause a).number []) ≡ a
+raise_number (Ok tt) = refl
+raise_number (Err EntryInvalid) = refl
+raise_number (Err StatusEntry) = refl
+raise_number (Err QueueFull) = refl
 
-pub register_number : (a : RegisterAnswer) → box.register_told (row (rules.register_cause a).number []) ≡ a
-register_number Registered = refl
-register_number IdOutOfRange = refl
-register_number IdRegistered = refl
-register_number Full = refl
+pub register_number : (a : Result Unit RegisterError) → box.register_told (row (rules.register_cause a).number []) ≡ a
+register_number (Ok tt) = refl
+register_number (Err IdOutOfRange) = refl
+register_number (Err IdRegistered) = refl
+register_number (Err Full) = refl
 
 -- ---- writers: a refusal is of a target that is too short
 
 written_by : (fits : Bool) (m n : ℕ)
-    → let a = pick fits (write.Written m) (write.Refused BufferTooShort) in
+    → let a = pick fits (Ok m) (Err BufferTooShort) in
     write_told (row (write_cause a).number (length_after a n ∷ [])) ≡ a
 written_by true m n = refl
 written_by false m n = refl
@@ -62,7 +64,7 @@ write_number bs t n = written_by (leb (length bs) (length t)) (length bs) n
 
 -- a request's too
 request_by : (fits : Bool) (m r n n' o o' : ℕ)
-    → let a = rules.as_request (pick fits (write.Written m) (write.Refused BufferTooShort)) in
+    → let a = rules.as_request (pick fits (Ok m) (Err BufferTooShort)) in
     RowTold (rules.request_cause a) r n n' o o' → box.request_told (row r (n' ∷ [])) ≡ a
 request_by true m r n n' o o' t = rw (t.cause, t.value)
 request_by false m r n n' o o' t = rw t.cause
@@ -77,11 +79,11 @@ request_row j f t (some p) r n n' o o' y =
 
 -- ---- a code that names no state does not answer 0
 
-pub unnamed_number : (fits : Bool) (b : ℕ) → eqb (write_cause (need fits (write.Refused BufferTooShort) (write.Refused (InvalidNmtState b)))).number 0 ≡ false
+pub unnamed_number : (fits : Bool) (b : ℕ) → eqb (write_cause (need fits (Err BufferTooShort) (Err (InvalidNmtState b)))).number 0 ≡ false
 unnamed_number true b = refl
 unnamed_number false b = refl
 
-unasked_by : (fits : Bool) (b : ℕ) → eqb (rules.request_cause (rules.as_request (need fits (write.Refused BufferTooShort) (write.Refused (InvalidNmtState b))))).number 0 ≡ false
+unasked_by : (fits : Bool) (b : ℕ) → eqb (rules.request_cause (rules.as_request (need fits (Err BufferTooShort) (Err (InvalidNmtState b))))).number 0 ≡ false
 unasked_by true b = refl
 unasked_by false b = refl
 
@@ -94,23 +96,23 @@ unasked_number b t (some p) = unasked_by (leb min_frame (length t)) b
 octet_back : (e : PowerlinkError) (k o : ℕ) → error_told (cause_of e).number (pick (eqb (cause_of e).number 0) k (octet_told (cause_of e) o)) ≡ e
 octet_back e k o = ap (error_told (cause_of e).number) (not_0 e _ _ ∙ not_0 e _ _) ∙ error_told_lem e o
 
-pub read_row : (a : ReadAnswer) (r k k' o o' : ℕ) → RowTold (read_cause a) r k k' o o' → read_told (reading r k' o') ≡ a
-read_row Closed r k k' o o' t = rw (t.cause, t.value)
-read_row Kept r k k' o o' t = rw (t.cause, t.value)
-read_row Ignored r k k' o o' t = rw (t.cause, t.value)
-read_row (Refused e) r k k' o o' t = rw (t.cause, t.octet) (not_0 e _ _ ∙ ap Refused (octet_back e k' o))
+pub read_row : (a : Result ReadOutcome PowerlinkError) (r k k' o o' : ℕ) → RowTold (read_cause a) r k k' o o' → read_told (reading r k' o') ≡ a
+read_row (Ok Closed) r k k' o o' t = rw (t.cause, t.value)
+read_row (Ok Kept) r k k' o o' t = rw (t.cause, t.value)
+read_row (Ok Ignored) r k k' o o' t = rw (t.cause, t.value)
+read_row (Err e) r k k' o o' t = rw (t.cause, t.octet) (not_0 e _ _ ∙ ap Err (octet_back e k' o))
 
-pub box_row : (a : BoxReadAnswer) (r k k' o o' : ℕ) → RowTold (rules.read_cause a) r k k' o o' → box.read_told (reading r k' o') ≡ a
-box_row reads.Booked r k k' o o' t = rw (t.cause, t.value)
-box_row reads.Known r k k' o o' t = rw (t.cause, t.value)
-box_row reads.NotStatusResponse r k k' o o' t = rw t.cause
-box_row reads.NotRegistered r k k' o o' t = rw t.cause
-box_row reads.BookFull r k k' o o' t = rw t.cause
-box_row (reads.Refused e) r k k' o o' t = rw (t.cause, t.octet) (not_0 e _ _ ∙ below_8 e _ _ ∙ ap reads.Refused (octet_back e k' o))
+pub box_row : (a : Result ReadOutcome ReadError) (r k k' o o' : ℕ) → RowTold (rules.read_cause a) r k k' o o' → box.read_told (reading r k' o') ≡ a
+box_row (Ok reads.Booked) r k k' o o' t = rw (t.cause, t.value)
+box_row (Ok reads.Known) r k k' o o' t = rw (t.cause, t.value)
+box_row (Err readsError.NotStatusResponse) r k k' o o' t = rw t.cause
+box_row (Err readsError.NotRegistered) r k k' o o' t = rw t.cause
+box_row (Err readsError.BookFull) r k k' o o' t = rw t.cause
+box_row (Err (readsError.Frame e)) r k k' o o' t = rw (t.cause, t.octet) (not_0 e _ _ ∙ below_8 e _ _ ∙ ap Err (readsError.Frame (octet_back e k' o)))
 
 -- ---- values
 
-pub take_row : (a : TakeAnswer) (r : ℕ) (v v' : List ℕ) → r ≡ (rules.take_cause a).number → v' ≡ values_told (rules.take_cause a) v → box.take_told (row r v') ≡ a
-take_row (taking.Taken e) r v v' er ev = rw (er, ev) (ap taking.Taken (values_tell.entries e))
-take_row taking.NotRegistered r v v' er ev = rw er
-take_row taking.NothingBooked r v v' er ev = rw er
+pub take_row : (a : Result ErrorEntry TakeError) (r : ℕ) (v v' : List ℕ) → r ≡ (rules.take_cause a).number → v' ≡ values_told (rules.take_cause a) v → box.take_told (row r v') ≡ a
+take_row (Ok e) r v v' er ev = rw (er, ev) (ap Ok (values_tell.entries e))
+take_row (Err taking.NotRegistered) r v v' er ev = rw er
+take_row (Err taking.NothingBooked) r v v' er ev = rw er

@@ -1,13 +1,12 @@
 -- Demand 3 for a host in C: what 01 says of a list of calls, said of the calls that a host can make. Each call is any that the contract of the
 -- C function allows (`powerlink/specs`), and the log has what its host sees of it.
 -- Assumes nothing.
-use Rattle.std.specs.Prelude.{ℕ, suc, ◌≤◌, Bool, false, ◌≡◌, List, [], ◌∷◌, ◌++◌}
+use Rattle.std.specs.Prelude.{ℕ, suc, ◌≤◌, Bool, false, ◌≡◌, List, [], ◌∷◌, ◌++◌, Ok, Some}
 use Rattle.types.specs.Nodes.{managing_node}
 use Rattle.error_entry.specs.Values.{entry_told}
 use Rattle.error_entry.specs.declared.ErrorEntry.{ErrorEntry}
 use Rattle.reporter.specs.Layout.{head_of}
 use Rattle.reporter.specs.Rules.{ea_told}
-use Rattle.reporter.specs.declared.acknowledge.Heard.TheVariants as heard
 use Rattle.powerlink.specs.Collecting.{CollectorMakes, CollectorRegisters, CollectorReads, CollectorFlags, CollectorRequests, CollectorTakes, request_fields}
 use Rattle.powerlink.specs.Reporting.{ReporterMakes, ReporterRaises, ReporterAnswers, ReporterReads, answer_fields}
 use Rattle.signaling.specs.Arrival.{IsASnd, Arrives}
@@ -109,10 +108,10 @@ pub record CDemand3 : Type 0 where
 pub record CFlagsTell : Type 0 where
   -- a frame with the EA that `powerlink_collector_flags` told is one that the host may send
   pub tells : (services : List ℕ) (i : ℕ) (s bs : List ℕ) (a a' e e' : Bool) → CollectorFlags i 0 s a a' e e'
-      → ea_told services i bs ≡ heard.Ea a' → Tells i s bs
+      → ea_told services i bs ≡ Ok (Some a') → Tells i s bs
   -- and where it answered 11, one with EA 0
   pub unregistered : (services : List ℕ) (i : ℕ) (s bs : List ℕ) (a a' e e' : Bool) → CollectorFlags i 11 s a a' e e'
-      → ea_told services i bs ≡ heard.Ea false
+      → ea_told services i bs ≡ Ok (Some false)
       → Tells i s bs
 
 -- ---- status entries

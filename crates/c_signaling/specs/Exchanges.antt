@@ -1,8 +1,7 @@
 -- The w exchanges for a host in C: 01's bound on how long a backlog lasts, said of the calls that a host can make.
 -- Assumes nothing.
-use Rattle.std.specs.Prelude.{ℕ, suc, ◌-◌, ◌≤◌, Bool, ◌≡◌, List, [], length}
+use Rattle.std.specs.Prelude.{ℕ, suc, ◌-◌, ◌≤◌, Bool, ◌≡◌, List, [], length, Ok, Some}
 use Rattle.reporter.specs.Rules.{ea_told}
-use Rattle.reporter.specs.declared.acknowledge.Heard.TheVariants as heard
 use Rattle.signaling.specs.Calls.{sent, foreign, answers_sent, requests_sent}
 use Rattle.signaling.specs.Exchanges.{pending, Room, IsRegistered}
 use Rattle.c_signaling.specs.Calls.{Site, world_of, CStep, CRun}
@@ -76,7 +75,7 @@ pub record CExchange (i : ℕ) (w v : Site) : Type 0 where
   pub head_reads : CStep i w₆ (reporter_read head_services (sent q) request_read head_number head_outcome head_octet) w₇
   pub new_request : length (requests_sent i (events w₄.log)) ≤ q
   pub ea : Bool
-  pub mine : ea_told head_services i request_read ≡ heard.Ea ea
+  pub mine : ea_told head_services i request_read ≡ Ok (Some ea)
   pub quiet₄ : CQuietly i (CRequestAgain q request_read) w₇ v
 
 -- n exchanges, with quiet calls before, between and behind them

@@ -1,23 +1,23 @@
 -- What a host in C sees of a list of calls: what it gave, the numbers that they answered, and what they left. 01's words of the list, and which
 -- call of `signaling` each was, are read off the numbers.
 -- Assumes nothing.
-use Rattle.std.specs.Prelude.{ℕ, Bool, List, [], ◌∷◌, ◌++◌, take, eqb}
+use Rattle.std.specs.Prelude.{ℕ, Bool, List, [], ◌∷◌, ◌++◌, take, eqb, Result, Ok, Err}
 use Rattle.types.specs.Causes.{Cause, row}
 use Rattle.types.specs.Codes.{pick}
 use Rattle.types.specs.Modes.{mode_of}
 use Rattle.types.specs.States.{state_of}
 use Rattle.types.specs.declared.common.NetTime.{NetTime}
 use Rattle.types.specs.declared.error_mode.ErrorEntryMode.{ErrorEntryMode}
-use Rattle.types.specs.declared.error_mode.ErrorEntryModeAnswer.{ErrorEntryModeAnswer}
-use Rattle.types.specs.declared.error_mode.ErrorEntryModeAnswer.TheVariants as mode
-use Rattle.types.specs.declared.states.NmtStateAnswer.{NmtStateAnswer}
-use Rattle.types.specs.declared.states.NmtStateAnswer.TheVariants as state
 use Rattle.error_entry.specs.Values.{entry_told}
 use Rattle.error_entry.specs.declared.ErrorEntry.{ErrorEntry}
 use Rattle.reporter.specs.CausesTell.{raise_told, write_told, read_told}
 use Rattle.collector.specs.CausesTell as box
 use Rattle.c_values.specs.Values.{entry_with}
 use Rattle.signaling.specs.Calls.{Origin, raised, answered, head_read, registered, box_read, requested, taken, hosted, Log}
+use Rattle.types.specs.declared.states.NmtState.{NmtState}
+use Rattle.types.specs.declared.hal.PowerlinkError.{PowerlinkError}
+use Rattle.types.specs.declared.hal.PowerlinkError.TheVariants.{InvalidNmtState}
+use Rattle.types.specs.declared.error_mode.UnknownMode.{UnknownMode}
 
 -- the parameters of a Raise
 pub record Raising : Type 0 where
@@ -64,9 +64,9 @@ abbrev pub if_zero : {A : Type 0} → ℕ → List A → List A → List A
 if_zero r new old = pick (eqb r 0) new old
 
 -- the entry of a Raise whose mode is one
-abbrev pub raised_entries : Raising → ErrorEntryModeAnswer → List ErrorEntry
-raised_entries g (mode.Unknown b) = []
-raised_entries g (mode.Known m) = raised_entry g m ∷ []
+abbrev pub raised_entries : Raising → Result ErrorEntryMode UnknownMode → List ErrorEntry
+raised_entries g (Err (record { 0 = b })) = []
+raised_entries g (Ok m) = raised_entry g m ∷ []
 
 -- what a call adds, for the head with ID i
 abbrev pub seen_with : ℕ → Call → Seen → Seen
@@ -117,18 +117,18 @@ seen i (x ∷ l) = seen_with i x (seen i l)
 -- ---- which call of `signaling` it was, by the numbers: none where a code names nothing
 
 -- 0 is raised, 8 an invalid entry, 23 a status entry, 9 a full queue
-abbrev pub raise_events : Raising → ErrorEntryModeAnswer → ℕ → Log
-raise_events g (mode.Unknown b) r = []
-raise_events g (mode.Known m) r = raised (raised_entry g m) (raise_told (row r [])) ∷ []
+abbrev pub raise_events : Raising → Result ErrorEntryMode UnknownMode → ℕ → Log
+raise_events g (Err (record { 0 = b })) r = []
+raise_events g (Ok m) r = raised (raised_entry g m) (raise_told (row r [])) ∷ []
 
 -- 0 is written, with the length
-abbrev pub answer_events : NmtStateAnswer → ℕ → List ℕ → ℕ → Log
-answer_events (state.Unknown b) r t n = []
-answer_events (state.Known k) r t n = answered (write_told (row r (n ∷ []))) t ∷ []
+abbrev pub answer_events : Result NmtState PowerlinkError → ℕ → List ℕ → ℕ → Log
+answer_events (Err (InvalidNmtState b)) r t n = []
+answer_events (Ok k) r t n = answered (write_told (row r (n ∷ []))) t ∷ []
 
-abbrev pub request_events : ℕ → NmtStateAnswer → ℕ → List ℕ → ℕ → Log
-request_events j (state.Unknown b) r t n = []
-request_events j (state.Known k) r t n = requested j (box.request_told (row r (n ∷ []))) t ∷ []
+abbrev pub request_events : ℕ → Result NmtState PowerlinkError → ℕ → List ℕ → ℕ → Log
+request_events j (Err (InvalidNmtState b)) r t n = []
+request_events j (Ok k) r t n = requested j (box.request_told (row r (n ∷ []))) t ∷ []
 
 -- a reading's row: 0 with the outcome, or the cause with the octet
 abbrev pub reading : ℕ → ℕ → ℕ → Cause

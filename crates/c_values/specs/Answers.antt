@@ -1,25 +1,23 @@
 -- What an answer leaves to a caller in C beside its number: a length, or the octet that 01's table returns.
 -- Assumes nothing.
-use Rattle.std.specs.Prelude.{ℕ, Bool, ◌≡◌, List, get_or, eqb}
+use Rattle.std.specs.Prelude.{ℕ, Bool, ◌≡◌, List, get_or, eqb, Result, Ok, Err}
 use Rattle.types.specs.Causes.{Cause, cause_of}
 use Rattle.types.specs.Codes.{pick}
 use Rattle.types.specs.declared.hal.PowerlinkError.{PowerlinkError}
-use Rattle.section.specs.declared.WriteAnswer.{WriteAnswer}
-use Rattle.section.specs.declared.WriteAnswer.TheVariants.{Written, Refused}
 use Rattle.error_entry.specs.Values.{flag_in}
 
 -- the length that is told: how many octets were written, or what stood there before
-abbrev pub length_after : WriteAnswer → ℕ → ℕ
-length_after (Written n) before = n
-length_after (Refused e) before = before
+abbrev pub length_after : Result ℕ PowerlinkError → ℕ → ℕ
+length_after (Ok n) before = n
+length_after (Err e) before = before
 
 -- the octet that 01's table returns with an error, or what stood there before
 abbrev pub error_octet : PowerlinkError → ℕ → ℕ
 error_octet e before = get_or (cause_of e).returned 0 before
 
-abbrev pub octet_after : WriteAnswer → ℕ → ℕ
-octet_after (Written n) before = before
-octet_after (Refused e) before = error_octet e before
+abbrev pub octet_after : Result ℕ PowerlinkError → ℕ → ℕ
+octet_after (Ok n) before = before
+octet_after (Err e) before = error_octet e before
 
 -- ---- what a row of 01's table leaves: its values where the number is 0, its octet where it is another; else what stood there before
 

@@ -4,36 +4,35 @@ ghost use Rattle.types.specs.Causes.{cause_number};
 ghost use Rattle.section.specs.Write.{write_cause, unnamed_answer};
 ghost use Rattle.c_values.specs.Answers.{length_after, error_octet, octet_after};
 
-use section::WriteAnswer;
 use types::causes::{TOO_SHORT, UNKNOWN_MESSAGE};
 use types::hal::PowerlinkError;
 
 // A writer's answer: the number, and the length where octets were written.
-pub fn written_or(answer: WriteAnswer, written: &mut usize) -> u8
+pub fn written_or(answer: Result<usize, PowerlinkError>, written: &mut usize) -> u8
     ensures value { result ≡ (write_cause answer).number }
     ensures written_after { written.new ≡ length_after answer written.old }
 {
     match answer {
-        WriteAnswer::Written(n) => {
+        Ok(n) => {
             *written = n;
             0
         }
-        WriteAnswer::Refused(e) => e.number(),
+        Err(e) => e.number(),
     }
 }
 
 // The same of a writer that also refuses codes: the octet where 01's table returns one.
-pub fn told(answer: WriteAnswer, written: &mut usize, octet: &mut u8) -> u8
+pub fn told(answer: Result<usize, PowerlinkError>, written: &mut usize, octet: &mut u8) -> u8
     ensures value { result ≡ (write_cause answer).number }
     ensures written_after { written.new ≡ length_after answer written.old }
     ensures octet_after { octet.new ≡ octet_after answer octet.old }
 {
     match answer {
-        WriteAnswer::Written(len) => {
+        Ok(len) => {
             *written = len;
             0
         }
-        WriteAnswer::Refused(e) => refusal(e, octet),
+        Err(e) => refusal(e, octet),
     }
 }
 

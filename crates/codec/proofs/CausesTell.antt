@@ -2,11 +2,10 @@
 -- Assumes nothing.
 use mathlib.Core.Path.{◌≡◌, refl, ap}
 use lib.ListN.{get_or}
+use Rattle.std.specs.Prelude.{Result, Ok, Err}
 use Rattle.types.specs.Causes.{Cause, cause_of}
 use Rattle.types.specs.Messages.{message_of}
 use Rattle.types.specs.declared.hal.PowerlinkError.TheVariants.{InvalidMessageType}
-use Rattle.types.specs.declared.message_type.MessageTypeAnswer.{MessageTypeAnswer}
-use Rattle.types.specs.declared.message_type.MessageTypeAnswer.TheVariants.{Known, Unknown}
 use Rattle.types.proofs.Apart.{apart}
 use Rattle.types.proofs.CausesTell.{error_told_lem, error_of, refused_not_0, refused_or, refused_back}
 use Rattle.types.proofs.ReadBack.{message_known}
@@ -14,27 +13,28 @@ use Rattle.codec.specs.CausesTell.{CausesTell}
 use Rattle.codec.specs.Headers.{eth_header_cause, pl_header_cause}
 use Rattle.codec.specs.declared.headers.EthHeaderAnswer.{EthHeaderAnswer}
 use Rattle.codec.specs.declared.headers.EthHeaderAnswer.TheVariants as eth
-use Rattle.codec.specs.declared.headers.PlHeaderAnswer.{PlHeaderAnswer}
-use Rattle.codec.specs.declared.headers.PlHeaderAnswer.TheVariants as pl
+use Rattle.types.specs.declared.message_type.MessageType.{MessageType}
+use Rattle.types.specs.declared.hal.PowerlinkError.{PowerlinkError}
+use Rattle.codec.specs.declared.headers.PlHeader.{PlHeader}
 
 eth_back : (a : EthHeaderAnswer) → refused_or eth.Refused eth.Read (eth_header_cause a) ≡ a
 eth_back eth.Read = refl
 eth_back (eth.Refused e) = refused_back eth.Refused _ e
 
 -- the header that three values are
-abbrev pub pl_of : Cause → MessageTypeAnswer → PlHeaderAnswer
-pl_of c (Known m) =
-    pl.Read (record { message_type = m; destination = record { 0 = get_or c.returned 1 0 }; source = record { 0 = get_or c.returned 2 0 } })
-pl_of c (Unknown b) = pl.Refused (InvalidMessageType b)
+abbrev pub pl_of : Cause → Result MessageType PowerlinkError → Result PlHeader PowerlinkError
+pl_of c (Ok m) =
+    Ok (record { message_type = m; destination = record { 0 = get_or c.returned 1 0 }; source = record { 0 = get_or c.returned 2 0 } })
+pl_of c (Err (InvalidMessageType b)) = Err (InvalidMessageType b)
 
-pl_back : Cause → PlHeaderAnswer
+pl_back : Cause → Result PlHeader PowerlinkError
 unfolding message_of
-pl_back c = refused_or pl.Refused (pl_of c (message_of (get_or c.returned 0 0))) c
+pl_back c = refused_or Err (pl_of c (message_of (get_or c.returned 0 0))) c
 
-pl_back_lem : (a : PlHeaderAnswer) → pl_back (pl_header_cause a) ≡ a
+pl_back_lem : (a : Result PlHeader PowerlinkError) → pl_back (pl_header_cause a) ≡ a
 unfolding pl_back
-pl_back_lem (pl.Read h) = ap (pl_of (pl_header_cause (pl.Read h))) (message_known h.message_type)
-pl_back_lem (pl.Refused e) = refused_back pl.Refused _ e
+pl_back_lem (Ok h) = ap (pl_of (pl_header_cause (Ok h))) (message_known h.message_type)
+pl_back_lem (Err e) = refused_back Err _ e
 
 pub causes_tell : CausesTell
 causes_tell =

@@ -1,6 +1,6 @@
 -- Reading a frame, from its Ethernet header on (EPSG DS 301, 4.6.1; IEEE 802.3, 3.1.1), under a table of services, by which ASnd is read.
 -- Assumes nothing.
-use Rattle.std.specs.Prelude.{ℕ, ◌≡◌, List, [], length, take, drop, leb, ltb, eqb}
+use Rattle.std.specs.Prelude.{ℕ, ◌≡◌, List, [], length, take, drop, leb, ltb, eqb, Result, Ok, Err}
 use Rattle.octets.specs.Numbers.{be_at}
 use Rattle.types.specs.Causes.{Cause, row, cause_of}
 use Rattle.types.specs.Codes.{need}
@@ -10,8 +10,6 @@ use Rattle.types.specs.declared.hal.PowerlinkError.{PowerlinkError}
 use Rattle.types.specs.declared.hal.PowerlinkError.TheVariants.{BufferTooShort, InvalidEthernetFrame, InvalidPlFrame, InvalidMessageType}
 use Rattle.types.specs.declared.message_type.MessageType.{MessageType}
 use Rattle.types.specs.declared.message_type.MessageType.TheVariants as message
-use Rattle.types.specs.declared.message_type.MessageTypeAnswer.{MessageTypeAnswer}
-use Rattle.types.specs.declared.message_type.MessageTypeAnswer.TheVariants.{Known, Unknown}
 use Rattle.control.specs.ASnd.{asnd_payload_at}
 use Rattle.poll.specs.Poll.{poll_payload_at}
 use Rattle.codec.specs.ASnd.{read_asnd, asnd_payload_length}
@@ -22,34 +20,30 @@ use Rattle.codec.specs.SoA.{read_soa}
 use Rattle.codec.specs.SoC.{read_soc}
 use Rattle.codec.specs.declared.DeserializedFrame.{DeserializedFrame}
 use Rattle.codec.specs.declared.PayloadPlace.{PayloadPlace}
-use Rattle.codec.specs.declared.FrameAnswer.{FrameAnswer}
-use Rattle.codec.specs.declared.FrameAnswer.TheVariants.{Frame, Refused}
-use Rattle.codec.specs.declared.KindAnswer.{KindAnswer}
-use Rattle.codec.specs.declared.KindAnswer.TheVariants as kind
 use Rattle.frame.specs.declared.PowerlinkFrame.{PowerlinkFrame}
 use Rattle.frame.specs.declared.PowerlinkFrame.TheVariants.{Soc, PReq, PRes, SoA, ASnd}
 
 -- ---- the tests of a frame before those of its kind
 
-abbrev pub kind_by : MessageTypeAnswer → KindAnswer
-kind_by (Unknown b) = kind.Refused (InvalidMessageType b)
-kind_by (Known k) = kind.Kind k
+abbrev pub kind_by : Result MessageType PowerlinkError → Result MessageType PowerlinkError
+kind_by (Err (InvalidMessageType b)) = Err (InvalidMessageType b)
+kind_by (Ok k) = Ok k
 
 -- the message type is tested before any length that a kind needs
-unfoldable pub kind_in : List ℕ → KindAnswer
+unfoldable pub kind_in : List ℕ → Result MessageType PowerlinkError
 kind_in s = kind_by (message_of (message_number s))
 
 -- the Ethernet header, then the EtherType, then a section that is not empty, then its message type
-unfoldable pub kind_of : List ℕ → KindAnswer
+unfoldable pub kind_of : List ℕ → Result MessageType PowerlinkError
 kind_of f =
-    need (leb eth_length (length f)) (kind.Refused BufferTooShort)
-    (need (eqb (be_at 2 12 f) ethertype_epl) (kind.Refused InvalidEthernetFrame)
-    (need (ltb eth_length (length f)) (kind.Refused InvalidPlFrame)
+    need (leb eth_length (length f)) (Err BufferTooShort)
+    (need (eqb (be_at 2 12 f) ethertype_epl) (Err InvalidEthernetFrame)
+    (need (ltb eth_length (length f)) (Err InvalidPlFrame)
     (kind_in (drop eth_length f))))
 
 -- ---- then the rules of the kind
 
-abbrev pub by_kind : List ℕ → MessageType → List ℕ → FrameAnswer
+abbrev pub by_kind : List ℕ → MessageType → List ℕ → Result PowerlinkFrame PowerlinkError
 by_kind services message.SoC s = read_soc s
 by_kind services message.PReq s = read_preq s
 by_kind services message.PRes s = read_pres s
@@ -57,16 +51,16 @@ by_kind services message.SoA s = read_soa s
 by_kind services message.ASnd s = read_asnd services s
 
 -- what the section s is, after the tests before
-abbrev pub kind_answer : List ℕ → KindAnswer → List ℕ → FrameAnswer
-kind_answer services (kind.Refused e) s = Refused e
-kind_answer services (kind.Kind k) s = by_kind services k s
+abbrev pub kind_answer : List ℕ → Result MessageType PowerlinkError → List ℕ → Result PowerlinkFrame PowerlinkError
+kind_answer services (Err e) s = Err e
+kind_answer services (Ok k) s = by_kind services k s
 
 -- a section by itself: its message type, then the rules of its kind
-unfoldable pub read_section : List ℕ → List ℕ → FrameAnswer
+unfoldable pub read_section : List ℕ → List ℕ → Result PowerlinkFrame PowerlinkError
 read_section services s = kind_answer services (kind_in s) s
 
 -- a frame: the tests before those of its kind, then the kind's rules of what stands behind the Ethernet header
-unfoldable pub read_frame : List ℕ → List ℕ → FrameAnswer
+unfoldable pub read_frame : List ℕ → List ℕ → Result PowerlinkFrame PowerlinkError
 read_frame services f = kind_answer services (kind_of f) (drop eth_length f)
 
 -- ---- the payload's place, and what a reading promises
@@ -82,9 +76,9 @@ place_in_frame (PRes f) s = place poll_payload_at f.payload_size
 place_in_frame (SoA f) s = place 0 0
 place_in_frame (ASnd f) s = place asnd_payload_at (asnd_payload_length s)
 
-abbrev pub place_of : FrameAnswer → List ℕ → PayloadPlace
-place_of (Refused e) s = place 0 0
-place_of (Frame f) s = place_in_frame f s
+abbrev pub place_of : Result PowerlinkFrame PowerlinkError → List ℕ → PayloadPlace
+place_of (Err e) s = place 0 0
+place_of (Ok f) s = place_in_frame f s
 
 -- beside a refusal stands the header that the octets give, those past the end counting as 0, and no payload
 unfoldable pub deserialize_frame : List ℕ → List ℕ → DeserializedFrame
@@ -100,15 +94,15 @@ abbrev pub payload_of : PayloadPlace → List ℕ → List ℕ
 payload_of p f = take p.len (drop p.start f)
 
 -- 01's number and values for each case: 0 for a frame that is read
-abbrev pub frame_cause : FrameAnswer → Cause
-frame_cause (Frame f) = row 0 []
-frame_cause (Refused e) = cause_of e
+abbrev pub frame_cause : Result PowerlinkFrame PowerlinkError → Cause
+frame_cause (Ok f) = row 0 []
+frame_cause (Err e) = cause_of e
 
 -- r is what reading the octets f answers, with 01's number: 0 for a frame, and else that of the error, with what is returned
-pub record ReadsFrame (services f : List ℕ) (r : FrameAnswer) : Type 0 where
+pub record ReadsFrame (services f : List ℕ) (r : Result PowerlinkFrame PowerlinkError) : Type 0 where
   pub answer : r ≡ read_frame services f
-  pub good : (x : PowerlinkFrame) → read_frame services f ≡ Frame x → frame_cause r ≡ row 0 []
-  pub refused : (e : PowerlinkError) → read_frame services f ≡ Refused e → frame_cause r ≡ cause_of e
+  pub good : (x : PowerlinkFrame) → read_frame services f ≡ Ok x → frame_cause r ≡ row 0 []
+  pub refused : (e : PowerlinkError) → read_frame services f ≡ Err e → frame_cause r ≡ cause_of e
 
 -- the same, with the Ethernet header and the payload's place
 pub record Reads (services f : List ℕ) (r : DeserializedFrame) : Type 0 where

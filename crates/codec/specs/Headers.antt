@@ -1,19 +1,18 @@
 -- Reading the two headers that every frame begins with.
 -- Assumes nothing.
-use Rattle.std.specs.Prelude.{ℕ, ◌%◌, ◌≡◌, List, [], ◌∷◌, length, get_or, leb}
+use Rattle.std.specs.Prelude.{ℕ, ◌%◌, ◌≡◌, List, [], ◌∷◌, length, get_or, leb, Result, Ok, Err}
 use Rattle.types.specs.CauseNumbers.{too_short, unknown_message}
 use Rattle.types.specs.Causes.{Cause, row, cause_of}
 use Rattle.types.specs.Codes.{need, decoded}
 use Rattle.types.specs.Header.{eth_length, eth_header_of}
 use Rattle.types.specs.Messages.{message_code, messages, message_of}
 use Rattle.types.specs.declared.hal.PowerlinkError.TheVariants.{BufferTooShort, InvalidMessageType}
-use Rattle.types.specs.declared.message_type.MessageTypeAnswer.{MessageTypeAnswer}
-use Rattle.types.specs.declared.message_type.MessageTypeAnswer.TheVariants.{Known, Unknown}
 use Rattle.codec.specs.declared.headers.DeserializedEthHeader.{DeserializedEthHeader}
 use Rattle.codec.specs.declared.headers.EthHeaderAnswer.{EthHeaderAnswer}
 use Rattle.codec.specs.declared.headers.EthHeaderAnswer.TheVariants as eth
-use Rattle.codec.specs.declared.headers.PlHeaderAnswer.{PlHeaderAnswer}
-use Rattle.codec.specs.declared.headers.PlHeaderAnswer.TheVariants.{Read, Refused}
+use Rattle.types.specs.declared.message_type.MessageType.{MessageType}
+use Rattle.types.specs.declared.hal.PowerlinkError.{PowerlinkError}
+use Rattle.codec.specs.declared.headers.PlHeader.{PlHeader}
 
 -- all octets are needed; beside a refusal stands the header that the octets give, those past the end counting as 0
 abbrev pub deserialize_eth_header : List ℕ → DeserializedEthHeader
@@ -28,22 +27,22 @@ abbrev pub eth_header_cause : EthHeaderAnswer → Cause
 eth_header_cause eth.Read = row 0 []
 eth_header_cause (eth.Refused e) = cause_of e
 
-abbrev pub pl_header_cause : PlHeaderAnswer → Cause
-pl_header_cause (Read h) = row 0 (message_code h.message_type ∷ h.destination.0 ∷ h.source.0 ∷ [])
-pl_header_cause (Refused e) = cause_of e
+abbrev pub pl_header_cause : Result PlHeader PowerlinkError → Cause
+pl_header_cause (Ok h) = row 0 (message_code h.message_type ∷ h.destination.0 ∷ h.source.0 ∷ [])
+pl_header_cause (Err e) = cause_of e
 
-abbrev pub pl_by_message : List ℕ → MessageTypeAnswer → PlHeaderAnswer
-pl_by_message s (Unknown b) = Refused (InvalidMessageType b)
-pl_by_message s (Known message) =
-    Read (record { message_type = message; destination = record { 0 = get_or s 1 0 }; source = record { 0 = get_or s 2 0 } })
+abbrev pub pl_by_message : List ℕ → Result MessageType PowerlinkError → Result PlHeader PowerlinkError
+pl_by_message s (Err (InvalidMessageType b)) = Err (InvalidMessageType b)
+pl_by_message s (Ok message) =
+    Ok (record { message_type = message; destination = record { 0 = get_or s 1 0 }; source = record { 0 = get_or s 2 0 } })
 
 -- the message type is the low seven bits of octet 0
 abbrev pub message_number : List ℕ → ℕ
 message_number s = get_or s 0 0 % 0x80
 
 -- 3 octets are needed, then a message type; of a whole frame the type is tested first
-unfoldable pub deserialize_pl_header : List ℕ → PlHeaderAnswer
-deserialize_pl_header s = need (leb 3 (length s)) (Refused BufferTooShort) (pl_by_message s (message_of (message_number s)))
+unfoldable pub deserialize_pl_header : List ℕ → Result PlHeader PowerlinkError
+deserialize_pl_header s = need (leb 3 (length s)) (Err BufferTooShort) (pl_by_message s (message_of (message_number s)))
 
 -- ---- what the two readings promise, with 01's number and values
 
@@ -56,6 +55,6 @@ abbrev pub pl_row : ℕ → ℕ → ℕ → Cause
 pl_row code destination source =
     decoded message_code (λ m. row 0 (code ∷ destination ∷ source ∷ [])) (row unknown_message (code ∷ [])) messages code
 
-pub record ReadsPlHeader (s : List ℕ) (r : PlHeaderAnswer) : Type 0 where
+pub record ReadsPlHeader (s : List ℕ) (r : Result PlHeader PowerlinkError) : Type 0 where
   pub answer : r ≡ deserialize_pl_header s
   pub cause : pl_header_cause r ≡ need (leb 3 (length s)) (row too_short []) (pl_row (message_number s) (get_or s 1 0) (get_or s 2 0))

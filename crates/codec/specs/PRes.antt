@@ -1,6 +1,6 @@
 -- Reading the section of a PRes frame (EPSG DS 301, 4.6.1.1.4, Table 20).
 -- Assumes nothing.
-use Rattle.std.specs.Prelude.{ℕ, ◌-◌, List, length, get_or, leb, eqb}
+use Rattle.std.specs.Prelude.{ℕ, ◌-◌, List, length, get_or, leb, eqb, Result, Ok, Err}
 use Rattle.octets.specs.Numbers.{bit, le_at}
 use Rattle.types.specs.Codes.{need}
 use Rattle.types.specs.Nodes.{broadcast_node}
@@ -8,15 +8,13 @@ use Rattle.types.specs.PollFlags.{priority_at, requests_at}
 use Rattle.types.specs.States.{state_of}
 use Rattle.types.specs.declared.hal.PowerlinkError.TheVariants.{BufferTooShort, InvalidPlFrame, InvalidNmtState}
 use Rattle.types.specs.declared.states.NmtState.{NmtState}
-use Rattle.types.specs.declared.states.NmtStateAnswer.{NmtStateAnswer}
-use Rattle.types.specs.declared.states.NmtStateAnswer.TheVariants.{Known, Unknown}
 use Rattle.poll.specs.Poll.{poll_fields_length, ms_bit, rd_bit}
 use Rattle.poll.specs.PRes.{en_bit}
 use Rattle.poll.specs.declared.pres.PResFlags.{PResFlags}
 use Rattle.poll.specs.declared.pres.PResFrame.{PResFrame}
-use Rattle.codec.specs.declared.FrameAnswer.{FrameAnswer}
-use Rattle.codec.specs.declared.FrameAnswer.TheVariants.{Frame, Refused}
 use Rattle.frame.specs.declared.PowerlinkFrame.TheVariants.{PRes}
+use Rattle.types.specs.declared.hal.PowerlinkError.{PowerlinkError}
+use Rattle.frame.specs.declared.PowerlinkFrame.{PowerlinkFrame}
 
 -- octet 4: ms, en, rd; octet 5: pr and rs
 unfoldable pub pres_flags_of : ℕ → ℕ → PResFlags
@@ -41,15 +39,15 @@ pres_of s state size =
       payload_size = size;
     }
 
-abbrev pub pres_by_state : List ℕ → NmtStateAnswer → FrameAnswer
-pres_by_state s (Unknown b) = Refused (InvalidNmtState b)
-pres_by_state s (Known state) =
-    need (leb (le_at 2 8 s) (length s - poll_fields_length)) (Refused BufferTooShort)
-    (Frame (PRes (pres_of s state (le_at 2 8 s))))
+abbrev pub pres_by_state : List ℕ → Result NmtState PowerlinkError → Result PowerlinkFrame PowerlinkError
+pres_by_state s (Err (InvalidNmtState b)) = Err (InvalidNmtState b)
+pres_by_state s (Ok state) =
+    need (leb (le_at 2 8 s) (length s - poll_fields_length)) (Err BufferTooShort)
+    (Ok (PRes (pres_of s state (le_at 2 8 s))))
 
 -- the octets of the fields are needed, then all nodes as destination, then a state, then the octets of the payload
-unfoldable pub read_pres : List ℕ → FrameAnswer
+unfoldable pub read_pres : List ℕ → Result PowerlinkFrame PowerlinkError
 read_pres s =
-    need (leb poll_fields_length (length s)) (Refused BufferTooShort)
-    (need (eqb (get_or s 1 0) broadcast_node) (Refused InvalidPlFrame)
+    need (leb poll_fields_length (length s)) (Err BufferTooShort)
+    (need (eqb (get_or s 1 0) broadcast_node) (Err InvalidPlFrame)
     (pres_by_state s (state_of (get_or s 3 0))))

@@ -1,14 +1,14 @@
 -- Reading the section of a SoC frame (EPSG DS 301, 4.6.1.1.2, Tables 15 and 16).
 -- Assumes nothing.
-use Rattle.std.specs.Prelude.{ℕ, List, length, get_or, leb}
+use Rattle.std.specs.Prelude.{ℕ, List, length, get_or, leb, Result, Ok, Err}
 use Rattle.octets.specs.Numbers.{bit, le_at}
 use Rattle.types.specs.Codes.{need}
 use Rattle.types.specs.declared.hal.PowerlinkError.TheVariants.{BufferTooShort}
 use Rattle.control.specs.SoC.{mc_bit, ps_bit, soc_fields_length}
 use Rattle.control.specs.declared.soc.SocFrame.{SocFrame}
-use Rattle.codec.specs.declared.FrameAnswer.{FrameAnswer}
-use Rattle.codec.specs.declared.FrameAnswer.TheVariants.{Frame, Refused}
 use Rattle.frame.specs.declared.PowerlinkFrame.TheVariants.{Soc}
+use Rattle.frame.specs.declared.PowerlinkFrame.{PowerlinkFrame}
+use Rattle.types.specs.declared.hal.PowerlinkError.{PowerlinkError}
 
 -- octet 1 destination, 2 source, 4 flags, 6 to 9 seconds, 10 to 13 nanoseconds, 14 to 21 relative time
 abbrev pub soc_of : List ℕ → SocFrame
@@ -22,5 +22,5 @@ soc_of s =
     }
 
 -- the octets of the fields are needed
-unfoldable pub read_soc : List ℕ → FrameAnswer
-read_soc s = need (leb soc_fields_length (length s)) (Refused BufferTooShort) (Frame (Soc (soc_of s)))
+unfoldable pub read_soc : List ℕ → Result PowerlinkFrame PowerlinkError
+read_soc s = need (leb soc_fields_length (length s)) (Err BufferTooShort) (Ok (Soc (soc_of s)))

@@ -3,7 +3,6 @@ ghost use Rattle.std.specs.Prelude.{◌≡◌};
 ghost use Rattle.codec.specs.Verdicts.{asnd_answer};
 ghost use Rattle.codec.specs.ASnd.{asnd_of, read_asnd, asnd_payload_length};
 
-use crate::FrameAnswer;
 use control::asnd::{ASndFrame, FIELDS_LEN, SERVICE_AT};
 use frame::PowerlinkFrame;
 use octets::slices::{byte_at, tail, trimmed_len};
@@ -35,13 +34,13 @@ pub fn judge(services: &Services, s: &[u8]) -> ASndVerdict
 }
 
 // The frame, or why it is refused.
-pub(crate) fn deserialize(services: &Services, s: &[u8]) -> FrameAnswer
+pub(crate) fn deserialize(services: &Services, s: &[u8]) -> Result<PowerlinkFrame, PowerlinkError>
     ensures { result ≡ read_asnd services.now s.now }
 {
     match judge(services, s) {
-        ASndVerdict::Read => FrameAnswer::Frame(PowerlinkFrame::ASnd(fields(s))),
-        ASndVerdict::TooShort => FrameAnswer::Refused(PowerlinkError::BufferTooShort),
-        ASndVerdict::NoService(b) => FrameAnswer::Refused(PowerlinkError::InvalidServiceId(b)),
+        ASndVerdict::Read => Ok(PowerlinkFrame::ASnd(fields(s))),
+        ASndVerdict::TooShort => Err(PowerlinkError::BufferTooShort),
+        ASndVerdict::NoService(b) => Err(PowerlinkError::InvalidServiceId(b)),
     }
 }
 

@@ -8,7 +8,7 @@ use octets::slices::{byte_at, tail};
 use types::NodeId;
 use types::basic::{ETH_LEN, EthernetHeader, MacAddress};
 use types::hal::PowerlinkError;
-use types::message_type::{MessageType, MessageTypeAnswer};
+use types::message_type::MessageType;
 
 // The message type is the low seven bits of octet 0, which is the octet modulo this.
 pub(crate) const MESSAGE_TYPES: u8 = 0x80;
@@ -32,12 +32,6 @@ pub struct PlHeader {
     pub message_type: MessageType,
     pub destination: NodeId,
     pub source: NodeId,
-}
-
-#[derive(Clone, Copy)]
-pub enum PlHeaderAnswer {
-    Read(PlHeader),
-    Refused(PowerlinkError),
 }
 
 // The address that the first six octets are.
@@ -102,17 +96,17 @@ pub fn deserialize_eth_header(buffer: &[u8]) -> DeserializedEthHeader
 }
 
 // Reads what every section begins with.
-pub fn deserialize_pl_header(s: &[u8]) -> PlHeaderAnswer
+pub fn deserialize_pl_header(s: &[u8]) -> Result<PlHeader, PowerlinkError>
     ensures { ReadsPlHeader s.now result }
 {
     if s.len() < 3 {
-        return PlHeaderAnswer::Refused(PowerlinkError::BufferTooShort);
+        return Err(PowerlinkError::BufferTooShort);
     }
     match MessageType::from_u8(s[0] % MESSAGE_TYPES) {
-        MessageTypeAnswer::Unknown(b) => PlHeaderAnswer::Refused(PowerlinkError::InvalidMessageType(
+        Err(PowerlinkError::InvalidMessageType(b)) => Err(PowerlinkError::InvalidMessageType(
             b,
         )),
-        MessageTypeAnswer::Known(message_type) => PlHeaderAnswer::Read(PlHeader {
+        Ok(message_type) => Ok(PlHeader {
             message_type,
             destination: NodeId(s[1]),
             source: NodeId(s[2]),

@@ -23,20 +23,6 @@ use types::basic::{ETH_LEN, EthernetHeader};
 use types::hal::PowerlinkError;
 use types::message_type::MessageType;
 
-// The frame that was read, or why it is refused.
-#[derive(Clone, Copy)]
-pub enum FrameAnswer {
-    Frame(PowerlinkFrame),
-    Refused(PowerlinkError),
-}
-
-// The kind whose rules the section of a frame is read by, or why the frame is refused before.
-#[derive(Clone, Copy)]
-pub enum KindAnswer {
-    Kind(MessageType),
-    Refused(PowerlinkError),
-}
-
 // Where a payload lies in the bytes of its frame.
 #[derive(Clone, Copy)]
 pub struct PayloadPlace {
@@ -49,7 +35,7 @@ pub struct PayloadPlace {
 #[derive(Clone, Copy)]
 pub struct DeserializedFrame {
     pub eth_header: EthernetHeader,
-    pub answer: FrameAnswer,
+    pub answer: Result<PowerlinkFrame, PowerlinkError>,
     pub payload_place: PayloadPlace,
 }
 
@@ -78,7 +64,7 @@ pub fn deserialize_frame(services: &Services, buffer: &[u8]) -> DeserializedFram
     }
     DeserializedFrame {
         eth_header: eth_header_at(buffer),
-        answer: FrameAnswer::Refused(PowerlinkError::BufferTooShort),
+        answer: Err(PowerlinkError::BufferTooShort),
         payload_place: PayloadPlace { start: 0, len: 0 },
     }
 }
@@ -94,54 +80,54 @@ pub fn payload(place: PayloadPlace, buffer: &[u8]) -> &[u8]
 }
 
 // The frame, or why it is refused: for a caller that wants neither header nor payload.
-pub fn read_frame(services: &Services, buffer: &[u8]) -> FrameAnswer
+pub fn read_frame(services: &Services, buffer: &[u8]) -> Result<PowerlinkFrame, PowerlinkError>
     ensures { ReadsFrame services.now buffer.now result }
 {
     match kind_of(buffer) {
-        KindAnswer::Refused(e) => FrameAnswer::Refused(e),
-        KindAnswer::Kind(kind) => read_kind(services, kind, tail(buffer, ETH_LEN)),
+        Err(e) => Err(e),
+        Ok(kind) => read_kind(services, kind, tail(buffer, ETH_LEN)),
     }
 }
 
 // The tests of a frame before those of its kind. What a caller does for each kind then is its own.
-pub fn kind_of(buffer: &[u8]) -> KindAnswer
+pub fn kind_of(buffer: &[u8]) -> Result<MessageType, PowerlinkError>
     ensures { result ≡ kind_of buffer.now }
 {
     if buffer.len() < ETH_LEN {
-        return KindAnswer::Refused(PowerlinkError::BufferTooShort);
+        return Err(PowerlinkError::BufferTooShort);
     }
     if get_u16_be(buffer, 12) != C_DLL_ETHERTYPE_EPL {
-        return KindAnswer::Refused(PowerlinkError::InvalidEthernetFrame);
+        return Err(PowerlinkError::InvalidEthernetFrame);
     }
     if buffer.len() <= ETH_LEN {
-        return KindAnswer::Refused(PowerlinkError::InvalidPlFrame);
+        return Err(PowerlinkError::InvalidPlFrame);
     }
     kind_in(tail(buffer, ETH_LEN))
 }
 
 // The kind of the section `s`. Two tests of a few codes each: one of all five is compiled to a table of jumps.
-fn kind_in(s: &[u8]) -> KindAnswer
+fn kind_in(s: &[u8]) -> Result<MessageType, PowerlinkError>
     ensures { result ≡ kind_in s.now }
 {
     let code = byte_at(s, 0) % MESSAGE_TYPES;
     if code < 4 {
         match code {
-            1 => KindAnswer::Kind(MessageType::SoC),
-            3 => KindAnswer::Kind(MessageType::PReq),
-            _ => KindAnswer::Refused(PowerlinkError::InvalidMessageType(code)),
+            1 => Ok(MessageType::SoC),
+            3 => Ok(MessageType::PReq),
+            _ => Err(PowerlinkError::InvalidMessageType(code)),
         }
     } else {
         match code {
-            4 => KindAnswer::Kind(MessageType::PRes),
-            5 => KindAnswer::Kind(MessageType::SoA),
-            6 => KindAnswer::Kind(MessageType::ASnd),
-            _ => KindAnswer::Refused(PowerlinkError::InvalidMessageType(code)),
+            4 => Ok(MessageType::PRes),
+            5 => Ok(MessageType::SoA),
+            6 => Ok(MessageType::ASnd),
+            _ => Err(PowerlinkError::InvalidMessageType(code)),
         }
     }
 }
 
 // The section `s` of a frame of a kind.
-fn read_kind(services: &Services, kind: MessageType, s: &[u8]) -> FrameAnswer
+fn read_kind(services: &Services, kind: MessageType, s: &[u8]) -> Result<PowerlinkFrame, PowerlinkError>
     ensures { result ≡ by_kind services.now kind s.now }
 {
     match kind {
@@ -154,12 +140,12 @@ fn read_kind(services: &Services, kind: MessageType, s: &[u8]) -> FrameAnswer
 }
 
 // The payload's place in what was read from the section `s`.
-fn place_of(answer: FrameAnswer, s: &[u8]) -> PayloadPlace
+fn place_of(answer: Result<PowerlinkFrame, PowerlinkError>, s: &[u8]) -> PayloadPlace
     ensures { result ≡ place_of answer s.now }
 {
     match answer {
-        FrameAnswer::Refused(_) => PayloadPlace { start: 0, len: 0 },
-        FrameAnswer::Frame(frame) => payload_place(frame, s),
+        Err(_) => PayloadPlace { start: 0, len: 0 },
+        Ok(frame) => payload_place(frame, s),
     }
 }
 

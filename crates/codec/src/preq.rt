@@ -3,7 +3,6 @@ ghost use Rattle.std.specs.Prelude.{◌≡◌};
 ghost use Rattle.codec.specs.Verdicts.{preq_answer};
 ghost use Rattle.codec.specs.PReq.{preq_of, read_preq};
 
-use crate::FrameAnswer;
 use frame::PowerlinkFrame;
 use octets::little_endian::get_u16_le;
 use octets::slices::byte_at;
@@ -35,12 +34,12 @@ pub fn judge(s: &[u8]) -> PReqVerdict
 }
 
 // The frame, or why it is refused.
-pub(crate) fn deserialize(s: &[u8]) -> FrameAnswer
+pub(crate) fn deserialize(s: &[u8]) -> Result<PowerlinkFrame, PowerlinkError>
     ensures { result ≡ read_preq s.now }
 {
     match judge(s) {
-        PReqVerdict::Read(size) => FrameAnswer::Frame(PowerlinkFrame::PReq(fields(s, size))),
-        PReqVerdict::TooShort => FrameAnswer::Refused(PowerlinkError::BufferTooShort),
+        PReqVerdict::Read(size) => Ok(PowerlinkFrame::PReq(fields(s, size))),
+        PReqVerdict::TooShort => Err(PowerlinkError::BufferTooShort),
     }
 }
 

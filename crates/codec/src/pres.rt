@@ -3,7 +3,6 @@ ghost use Rattle.std.specs.Prelude.{◌≡◌};
 ghost use Rattle.codec.specs.Verdicts.{pres_answer};
 ghost use Rattle.codec.specs.PRes.{pres_of, pres_flags_of, read_pres};
 
-use crate::FrameAnswer;
 use frame::PowerlinkFrame;
 use octets::little_endian::get_u16_le;
 use octets::slices::byte_at;
@@ -12,7 +11,7 @@ use poll::{FIELDS_LEN, MS, RD};
 use types::hal::PowerlinkError;
 use types::mapping::PDOVersion;
 use types::poll_flags::{priority_at, requests_at};
-use types::states::{NmtState, NmtStateAnswer};
+use types::states::NmtState;
 use types::{C_ADR_BROADCAST_NODE_ID, NodeId};
 
 // What the tests of a section come to: the codes and the size that its fields are read with, or why it is refused.
@@ -34,8 +33,8 @@ pub fn judge(s: &[u8]) -> PResVerdict
         return PResVerdict::NotToAll;
     }
     match NmtState::from_u8(s[STATE_AT]) {
-        NmtStateAnswer::Unknown(b) => PResVerdict::NoState(b),
-        NmtStateAnswer::Known(nmt_state) => {
+        Err(PowerlinkError::InvalidNmtState(b)) => PResVerdict::NoState(b),
+        Ok(nmt_state) => {
             let size = get_u16_le(s, 8);
             let len = size as usize;
             if s.len() - FIELDS_LEN < len {
@@ -47,16 +46,16 @@ pub fn judge(s: &[u8]) -> PResVerdict
 }
 
 // The frame, or why it is refused.
-pub(crate) fn deserialize(s: &[u8]) -> FrameAnswer
+pub(crate) fn deserialize(s: &[u8]) -> Result<PowerlinkFrame, PowerlinkError>
     ensures { result ≡ read_pres s.now }
 {
     match judge(s) {
         PResVerdict::Read(state, size) => {
-            FrameAnswer::Frame(PowerlinkFrame::PRes(fields(s, state, size)))
+            Ok(PowerlinkFrame::PRes(fields(s, state, size)))
         }
-        PResVerdict::TooShort => FrameAnswer::Refused(PowerlinkError::BufferTooShort),
-        PResVerdict::NotToAll => FrameAnswer::Refused(PowerlinkError::InvalidPlFrame),
-        PResVerdict::NoState(b) => FrameAnswer::Refused(PowerlinkError::InvalidNmtState(b)),
+        PResVerdict::TooShort => Err(PowerlinkError::BufferTooShort),
+        PResVerdict::NotToAll => Err(PowerlinkError::InvalidPlFrame),
+        PResVerdict::NoState(b) => Err(PowerlinkError::InvalidNmtState(b)),
     }
 }
 

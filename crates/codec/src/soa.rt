@@ -3,13 +3,12 @@ ghost use Rattle.std.specs.Prelude.{◌≡◌};
 ghost use Rattle.codec.specs.Verdicts.{soa_answer};
 ghost use Rattle.codec.specs.SoA.{soa_of, read_soa};
 
-use crate::FrameAnswer;
 use control::soa::{EA, ER, FIELDS_LEN, SERVICE_AT, STATE_AT, SoAFlags, SoAFrame};
 use frame::PowerlinkFrame;
 use octets::slices::byte_at;
 use types::hal::PowerlinkError;
-use types::requested_service::{RequestedServiceId, RequestedServiceIdAnswer};
-use types::states::{NmtState, NmtStateAnswer};
+use types::requested_service::RequestedServiceId;
+use types::states::NmtState;
 use types::{EPLVersion, NodeId};
 
 // What the tests of a section come to: the codes and the size that its fields are read with, or why it is refused.
@@ -28,26 +27,26 @@ pub fn judge(s: &[u8]) -> SoAVerdict
         return SoAVerdict::TooShort;
     }
     match NmtState::from_u8(s[STATE_AT]) {
-        NmtStateAnswer::Unknown(b) => SoAVerdict::NoState(b),
-        NmtStateAnswer::Known(state) => match RequestedServiceId::from_u8(s[SERVICE_AT]) {
-            RequestedServiceIdAnswer::Unknown(b) => SoAVerdict::NoService(b),
-            RequestedServiceIdAnswer::Known(service) => SoAVerdict::Read(state, service),
+        Err(PowerlinkError::InvalidNmtState(b)) => SoAVerdict::NoState(b),
+        Ok(state) => match RequestedServiceId::from_u8(s[SERVICE_AT]) {
+            Err(PowerlinkError::InvalidRequestedServiceId(b)) => SoAVerdict::NoService(b),
+            Ok(service) => SoAVerdict::Read(state, service),
         },
     }
 }
 
 // The frame, or why it is refused.
-pub(crate) fn deserialize(s: &[u8]) -> FrameAnswer
+pub(crate) fn deserialize(s: &[u8]) -> Result<PowerlinkFrame, PowerlinkError>
     ensures { result ≡ read_soa s.now }
 {
     match judge(s) {
         SoAVerdict::Read(state, service) => {
-            FrameAnswer::Frame(PowerlinkFrame::SoA(fields(s, state, service)))
+            Ok(PowerlinkFrame::SoA(fields(s, state, service)))
         }
-        SoAVerdict::TooShort => FrameAnswer::Refused(PowerlinkError::BufferTooShort),
-        SoAVerdict::NoState(b) => FrameAnswer::Refused(PowerlinkError::InvalidNmtState(b)),
+        SoAVerdict::TooShort => Err(PowerlinkError::BufferTooShort),
+        SoAVerdict::NoState(b) => Err(PowerlinkError::InvalidNmtState(b)),
         SoAVerdict::NoService(b) => {
-            FrameAnswer::Refused(PowerlinkError::InvalidRequestedServiceId(b))
+            Err(PowerlinkError::InvalidRequestedServiceId(b))
         }
     }
 }

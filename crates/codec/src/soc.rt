@@ -3,7 +3,6 @@ ghost use Rattle.std.specs.Prelude.{◌≡◌};
 ghost use Rattle.codec.specs.Verdicts.{soc_answer, soc_timed};
 ghost use Rattle.codec.specs.SoC.{read_soc};
 
-use crate::FrameAnswer;
 use control::soc::{FIELDS_LEN, MC, PS, SocFlags, SocFrame};
 use frame::PowerlinkFrame;
 use octets::little_endian::{get_u32_le, get_u64_le};
@@ -33,14 +32,14 @@ pub fn judge(s: &[u8]) -> SocVerdict
 }
 
 // The frame, or why it is refused.
-pub(crate) fn deserialize(s: &[u8]) -> FrameAnswer
+pub(crate) fn deserialize(s: &[u8]) -> Result<PowerlinkFrame, PowerlinkError>
     ensures { result ≡ read_soc s.now }
 {
     match judge(s) {
         SocVerdict::Read(net_time, relative_time) => {
-            FrameAnswer::Frame(PowerlinkFrame::Soc(fields(s, net_time, relative_time)))
+            Ok(PowerlinkFrame::Soc(fields(s, net_time, relative_time)))
         }
-        SocVerdict::TooShort => FrameAnswer::Refused(PowerlinkError::BufferTooShort),
+        SocVerdict::TooShort => Err(PowerlinkError::BufferTooShort),
     }
 }
 

@@ -3,7 +3,7 @@ use crate::print::{FILL, written};
 use error_entry::ErrorEntry;
 use octets::slices::tail;
 use status_response::entries::serialize_batch;
-use status_response::fields::{StatusAnswer, deserialize};
+use status_response::fields::deserialize;
 use std::io;
 
 const SPACE: usize = 160;
@@ -21,7 +21,7 @@ fn write(rt: &impl Print, payload: &[u8], n: usize, len: usize) -> io::Result<()
     let read = deserialize(payload);
     let field = read.static_error_bit_field;
     let answer = read.answer;
-    let StatusAnswer::Status(fields) = answer else {
+    let Ok(fields) = answer else {
         return Ok(());
     };
     let batch = [

@@ -1,8 +1,8 @@
 // What no C function does and no other program runs: a frame asked for as each kind, its header and its payload as read, and its
 // section written again.
 use crate::print::{FILL, column, end, flag, octets, written};
-use codec::{FrameAnswer, deserialize_frame, payload};
-use frame::{IntoASnd, IntoPReq, IntoPRes, IntoSoA, IntoSoc, PowerlinkFrame};
+use codec::{deserialize_frame, payload};
+use frame::PowerlinkFrame;
 use section::MIN_SECTION;
 use services::ds301::DS301;
 use std::io;
@@ -13,35 +13,35 @@ use types::hal::PowerlinkError;
 const SPACE: usize = MIN_SECTION + 2;
 
 fn is_soc(f: PowerlinkFrame) -> bool {
-    let IntoSoc::Soc(_) = f.into_soc() else {
+    let Ok(_) = f.into_soc() else {
         return false;
     };
     true
 }
 
 fn is_preq(f: PowerlinkFrame) -> bool {
-    let IntoPReq::PReq(_) = f.into_preq() else {
+    let Ok(_) = f.into_preq() else {
         return false;
     };
     true
 }
 
 fn is_pres(f: PowerlinkFrame) -> bool {
-    let IntoPRes::PRes(_) = f.into_pres() else {
+    let Ok(_) = f.into_pres() else {
         return false;
     };
     true
 }
 
 fn is_soa(f: PowerlinkFrame) -> bool {
-    let IntoSoA::SoA(_) = f.into_soa() else {
+    let Ok(_) = f.into_soa() else {
         return false;
     };
     true
 }
 
 fn is_asnd(f: PowerlinkFrame) -> bool {
-    let IntoASnd::ASnd(_) = f.into_asnd() else {
+    let Ok(_) = f.into_asnd() else {
         return false;
     };
     true
@@ -86,13 +86,13 @@ fn frame(rt: &impl Print, bytes: &[u8]) -> io::Result<()> {
     let data = payload(place, bytes);
     header(rt, read.ethernet_header())?;
     match answer {
-        FrameAnswer::Frame(f) => {
+        Ok(f) => {
             kinds(rt, f)?;
             octets(rt, data)?;
             end(rt)?;
             again(rt, f, data)
         }
-        FrameAnswer::Refused(e) => refused(rt, e),
+        Err(e) => refused(rt, e),
     }
 }
 

@@ -1,7 +1,7 @@
 // Text, names and numbers on standard output.
 use octets::slices::{front, tail};
-use section::WriteAnswer;
 use std::io;
+use types::hal::PowerlinkError;
 
 // The width of a name.
 const WIDTH: usize = 24;
@@ -49,15 +49,15 @@ pub fn flag(rt: &impl Print, on: bool) -> io::Result<()> {
     column(rt, if on { 1 } else { 0 })
 }
 
-fn length_or_number(answer: WriteAnswer) -> u64 {
+fn length_or_number(answer: Result<usize, PowerlinkError>) -> u64 {
     match answer {
-        WriteAnswer::Refused(e) => e.number() as u64,
-        WriteAnswer::Written(n) => n as u64,
+        Err(e) => e.number() as u64,
+        Ok(n) => n as u64,
     }
 }
 
 // A line: 01's number or the length, and what the target holds after the call.
-pub fn written(rt: &impl Print, answer: WriteAnswer, target: &[u8]) -> io::Result<()> {
+pub fn written(rt: &impl Print, answer: Result<usize, PowerlinkError>, target: &[u8]) -> io::Result<()> {
     column(rt, length_or_number(answer))?;
     octets(rt, target)?;
     end(rt)

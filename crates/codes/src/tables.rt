@@ -7,11 +7,11 @@ use services::{
     NMT_PUBLISH_HEARTBEAT, NMT_PUBLISH_NMT_STATE, NMT_PUBLISH_NODE_LIST, NMT_PUBLISH_NODE_STATE,
     NMT_PUBLISH_TIME, NMT_REQUEST, SDO, STATUS_RESPONSE,
 };
-use types::error_mode::{ErrorEntryMode, ErrorEntryModeAnswer};
-use types::message_type::{MessageType, MessageTypeAnswer};
+use types::error_mode::ErrorEntryMode;
+use types::message_type::MessageType;
 use types::poll_flags::PRFlag;
-use types::requested_service::{RequestedServiceId, RequestedServiceIdAnswer};
-use types::states::{NmtState, NmtStateAnswer};
+use types::requested_service::RequestedServiceId;
+use types::states::NmtState;
 
 #[derive(Drop)]
 pub enum Listed {
@@ -20,7 +20,7 @@ pub enum Listed {
 }
 
 pub fn message(b: u8) -> Listed {
-    let MessageTypeAnswer::Known(value) = MessageType::from_u8(b) else {
+    let Ok(value) = MessageType::from_u8(b) else {
         return Listed::Nothing;
     };
     let place = match value {
@@ -37,7 +37,7 @@ pub fn message(b: u8) -> Listed {
 }
 
 pub fn state(b: u8) -> Listed {
-    let NmtStateAnswer::Known(value) = NmtState::from_u8(b) else {
+    let Ok(value) = NmtState::from_u8(b) else {
         return Listed::Nothing;
     };
     let place = match value {
@@ -84,7 +84,7 @@ pub fn service(b: u8) -> Listed {
 }
 
 pub fn requested_service(b: u8) -> Listed {
-    let RequestedServiceIdAnswer::Known(value) = RequestedServiceId::from_u8(b) else {
+    let Ok(value) = RequestedServiceId::from_u8(b) else {
         return Listed::Nothing;
     };
     let place = match value {
@@ -119,7 +119,7 @@ pub fn priority(b: u8) -> Listed {
 }
 
 pub fn mode(b: u8) -> Listed {
-    let ErrorEntryModeAnswer::Known(value) = ErrorEntryMode::from_u8(b) else {
+    let Ok(value) = ErrorEntryMode::from_u8(b) else {
         return Listed::Nothing;
     };
     let place = match value {

@@ -7,13 +7,13 @@ use mathlib.Core.List.{List, [], ◌∷◌, ◌++◌}
 use native.Mathlib.Omega.{arith}
 use lib.ListN.{length, take, drop, length-append, length-take, take-append-drop}
 use lib.Seq.{take-length}
+use Rattle.std.specs.Prelude.{Some, None}
 use Rattle.octets.proofs.Cases.{either}
 use Rattle.octets.proofs.NumberBack.{Octets}
 use Rattle.types.specs.Codes.{pick}
 use Rattle.error_entry.specs.declared.ErrorEntry.{ErrorEntry}
 use Rattle.status_response.specs.ReadBack.{EachInRange}
 use Rattle.status_response.specs.Steps.{status_entries, step_at}
-use Rattle.status_response.specs.declared.walk.EntryStep.TheVariants.{Entry, End}
 use Rattle.collector.specs.Layout.{count_in, pushed_bytes, pushed_all}
 use Rattle.collector.specs.Rules.{bookable, booked_entries}
 use Rattle.collector.proofs.BatchLaws.{all_append}
@@ -102,14 +102,14 @@ so_far_few {s} f = omega (arith, bookable_few (take f.m (status_entries s)), tak
     taken_few n l = omega (arith, length-take n l)
 
 module _ {s : List ℕ} {at : ℕ} (f : Found s at) where
-  pub all_found : step_at s at ≡ End → so_far f ≡ booked_entries s
+  pub all_found : step_at s at ≡ None → so_far f ≡ booked_entries s
   unfolding booked_entries
   all_found e =
       let n = step_end s f.m f.within (ap (step_at s) (sym f.place) ∙ e) in
       ap bookable (ap (λ (j : ℕ). take j (status_entries s)) n ∙ take-length (status_entries s))
 
-  module _ (e : ErrorEntry) (next : ℕ) (found : step_at s at ≡ Entry e next) where
-    here : step_at s (14 + 20 * f.m) ≡ Entry e next
+  module _ (e : ErrorEntry) (next : ℕ) (found : step_at s at ≡ Some (e, next)) where
+    here : step_at s (14 + 20 * f.m) ≡ Some (e, next)
     here = ap (step_at s) (sym f.place) ∙ found
 
     pub one_more : Found s next

@@ -9,21 +9,24 @@ use native.Mathlib.Omega.{arith}
 use lib.ListN.{length}
 use lib.Dec.{eqb, leb, ltb}
 use borrow.Author.Tests.{eqb-true, leb-true, ltb-true}
+use Rattle.std.specs.Prelude.{Result, Ok, Err, Some, None}
 use Rattle.octets.proofs.Cases.{either}
 use Rattle.types.specs.Codes.{need}
 use Rattle.error_entry.specs.declared.ErrorEntry.{ErrorEntry}
 use Rattle.collector.specs.Bounds.{BoxRun, fresh, registers, reads, takes, is_in, EachOnce, OfHeads, BoxBounds}
 use Rattle.collector.specs.Layout.{box_of}
 use Rattle.collector.specs.Rules.{Account, Box, Same, with_account, is_registered, register_vacant, register_answer, after_register, Said, account_answer, response_answer, read_answer, response_in, status_in, after_booking, after_response, take_answer, after_take}
-use Rattle.collector.specs.declared.ReadAnswer.{ReadAnswer}
-use Rattle.collector.specs.declared.ReadAnswer.TheVariants.{Booked, Known, Refused, NotStatusResponse, NotRegistered, BookFull}
-use Rattle.collector.specs.declared.RegisterAnswer.{RegisterAnswer}
-use Rattle.collector.specs.declared.RegisterAnswer.TheVariants.{Registered, IdOutOfRange, IdRegistered, Full}
-use Rattle.collector.specs.declared.TakeAnswer.{TakeAnswer}
-use Rattle.collector.specs.declared.TakeAnswer.TheVariants as taking
-use Rattle.collector.specs.declared.reading.Heard.{Heard}
-use Rattle.collector.specs.declared.reading.Heard.TheVariants as heard
+use Rattle.collector.specs.declared.ReadError.TheVariants.{Frame, NotStatusResponse, NotRegistered, BookFull}
+use Rattle.collector.specs.declared.ReadOutcome.TheVariants.{Booked, Known}
+use Rattle.collector.specs.declared.RegisterError.TheVariants.{IdOutOfRange, IdRegistered, Full}
+use Rattle.collector.specs.declared.TakeError.TheVariants as taking
 use Rattle.collector.proofs.Meaning.{book_bound}
+use Rattle.collector.specs.declared.RegisterError.{RegisterError}
+use Rattle.collector.specs.declared.TakeError.{TakeError}
+use Rattle.collector.specs.declared.ReadOutcome.{ReadOutcome}
+use Rattle.collector.specs.declared.ReadError.{ReadError}
+use Rattle.types.specs.declared.NodeId.{NodeId}
+use Rattle.types.specs.declared.hal.PowerlinkError.{PowerlinkError}
 
 -- ---- what a box means, and the calls that register nobody
 
@@ -60,34 +63,34 @@ put_alike b i p is =
 
 -- ---- reading
 
-known_place : (said : Said) (o : Option Account) → Booked ≡ account_answer said o → is_registered o ≡ true
+known_place : (said : Said) (o : Option Account) → (Ok Booked) ≡ account_answer said o → is_registered o ≡ true
 known_place said none e = cc
 known_place said (some p) e = refl
 
-booking : (h : Heard) (said : Said) (b : Box) → Booked ≡ response_answer h said b → Alike (after_booking h said b) b
-booking (heard.Refused e) said b q = unchanged b
-booking heard.Other said b q = unchanged b
-booking (heard.Status source) said b q = put_alike b source.0 _ (known_place said (b.accounts source.0) q)
+booking : (h : Result (Option NodeId) PowerlinkError) (said : Said) (b : Box) → (Ok Booked) ≡ response_answer h said b → Alike (after_booking h said b) b
+booking (Err e) said b q = unchanged b
+booking (Ok None) said b q = unchanged b
+booking (Ok (Some source)) said b q = put_alike b source.0 _ (known_place said (b.accounts source.0) q)
 
-reading : (services f : List ℕ) (b : Box) (r : ReadAnswer) → r ≡ read_answer services f b → Alike (after_response services r f b) b
+reading : (services f : List ℕ) (b : Box) (r : Result ReadOutcome ReadError) → r ≡ read_answer services f b → Alike (after_response services r f b) b
 unfolding read_answer
-reading services f b Booked e = booking (response_in services f) (status_in f) b e
-reading services f b Known e = unchanged b
-reading services f b (Refused x) e = unchanged b
-reading services f b NotStatusResponse e = unchanged b
-reading services f b NotRegistered e = unchanged b
-reading services f b BookFull e = unchanged b
+reading services f b (Ok Booked) e = booking (response_in services f) (status_in f) b e
+reading services f b (Ok Known) e = unchanged b
+reading services f b (Err (Frame x)) e = unchanged b
+reading services f b (Err NotStatusResponse) e = unchanged b
+reading services f b (Err NotRegistered) e = unchanged b
+reading services f b (Err BookFull) e = unchanged b
 
 -- ---- Take
 
-taken_place : (e : ErrorEntry) (o : Option Account) → taking.Taken e ≡ take_answer o → is_registered o ≡ true
+taken_place : (e : ErrorEntry) (o : Option Account) → Ok e ≡ take_answer o → is_registered o ≡ true
 taken_place e none q = cc
 taken_place e (some p) q = refl
 
-handing : (i : ℕ) (b : Box) (r : TakeAnswer) → r ≡ take_answer (b.accounts i) → Alike (after_take r i b) b
-handing i b (taking.Taken e) q = put_alike b i _ (taken_place e (b.accounts i) q)
-handing i b taking.NotRegistered q = unchanged b
-handing i b taking.NothingBooked q = unchanged b
+handing : (i : ℕ) (b : Box) (r : Result ErrorEntry TakeError) → r ≡ take_answer (b.accounts i) → Alike (after_take r i b) b
+handing i b (Ok e) q = put_alike b i _ (taken_place e (b.accounts i) q)
+handing i b (Err taking.NotRegistered) q = unchanged b
+handing i b (Err taking.NothingBooked) q = unchanged b
 
 -- ---- registering
 
@@ -97,28 +100,28 @@ record WhyRegistered (i : ℕ) (b : Box) : Type 0 where
   free : is_registered (b.accounts i) ≡ false
   room : 0 < b.vacant
 
-vacant_by : (t : Bool) → Registered ≡ need t Full Registered → t ≡ true
+vacant_by : (t : Bool) → (Ok tt) ≡ need t (Err Full) (Ok tt) → t ≡ true
 vacant_by true e = refl
 vacant_by false e = cc
 
-free_by : (o : Option Account) (n : ℕ) → Registered ≡ register_vacant o n → (is_registered o ≡ false) × (0 < n)
+free_by : (o : Option Account) (n : ℕ) → (Ok tt) ≡ register_vacant o n → (is_registered o ≡ false) × (0 < n)
 free_by none n e = (refl, ltb-true 0 n (vacant_by (ltb 0 n) e))
 free_by (some p) n e = let z : ◌≡◌ {A = ℕ} 0 1 = cc in absurd (omega arith)
 
-ok_by : (low high : Bool) (o : Option Account) (n : ℕ) → Registered ≡ need (low && high) IdOutOfRange (register_vacant o n)
+ok_by : (low high : Bool) (o : Option Account) (n : ℕ) → (Ok tt) ≡ need (low && high) (Err IdOutOfRange) (register_vacant o n)
     → (low ≡ true) × (high ≡ true) × (is_registered o ≡ false) × (0 < n)
 ok_by true true o n e = let f = free_by o n e in (refl, refl, f.0, f.1)
 ok_by true false o n e = let z : ◌≡◌ {A = ℕ} 0 1 = cc in absurd (omega arith)
 ok_by false high o n e = let z : ◌≡◌ {A = ℕ} 0 1 = cc in absurd (omega arith)
 
-why : (i : ℕ) (b : Box) → Registered ≡ register_answer i b → WhyRegistered i b
+why : (i : ℕ) (b : Box) → (Ok tt) ≡ register_answer i b → WhyRegistered i b
 unfolding register_answer
 why i b e =
     let f = ok_by (leb 1 i) (leb i 239) (b.accounts i) b.vacant e in
     record { low = leb-true 1 i f.0; high = leb-true i 239 f.1; free = f.2; room = f.3 }
 
-registering : (i : ℕ) (b : Box) (r : RegisterAnswer) → r ≡ register_answer i b → IdsIn b → IdsIn (after_register r i b)
-registering i b Registered e h =
+registering : (i : ℕ) (b : Box) (r : Result Unit RegisterError) → r ≡ register_answer i b → IdsIn b → IdsIn (after_register r i b)
+registering i b (Ok tt) e h =
     let y = why i b e in
     record {
       ids = i ∷ h.ids;
@@ -127,9 +130,9 @@ registering i b Registered e h =
       range = (y.low, y.high, h.range);
       four = omega (arith, y.room, h.four);
     }
-registering i b IdOutOfRange e h = h
-registering i b IdRegistered e h = h
-registering i b Full e h = h
+registering i b (Err IdOutOfRange) e h = h
+registering i b (Err IdRegistered) e h = h
+registering i b (Err Full) e h = h
 
 -- ---- every list
 

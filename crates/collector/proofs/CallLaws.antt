@@ -5,67 +5,67 @@ use mathlib.Core.Path.{◌≡◌, refl, ap, ◌∙◌}
 use mathlib.Core.Bool.{Bool}
 use mathlib.Core.List.{List, [], ◌++◌}
 use lib.ListN.{length}
+use Rattle.std.specs.Prelude.{Result, Ok, Err, Some, None}
 use Rattle.octets.proofs.NumberBack.{Octets}
 use Rattle.types.specs.declared.NodeId.{NodeId}
 use Rattle.types.specs.declared.hal.PowerlinkError.{PowerlinkError}
 use Rattle.types.specs.Header.{eth_bytes}
 use Rattle.section.specs.Write.{padded, write_answer, overwritten, Writes}
-use Rattle.section.specs.declared.WriteAnswer.{WriteAnswer}
 use Rattle.control.specs.SoA.{soa_bytes, soa_section}
 use Rattle.control.specs.declared.soa.NewSoAFrame.{NewSoAFrame}
 use Rattle.frame.specs.Write.{frame_bytes}
 use Rattle.frame.specs.declared.PowerlinkFrame.TheVariants.{SoA}
 use Rattle.status_response.specs.Fields.{read_fields}
-use Rattle.status_response.specs.declared.fields.StatusAnswer.TheVariants as status
 use Rattle.status_response.specs.declared.fields.StatusFields.{StatusFields}
 use Rattle.collector.specs.Calls.{Registers, Reads, Requests, Takes, ReadsStatus, Books}
 use Rattle.collector.specs.Layout.{collector_length, slot_of, account_in, account_of, box_of, register_bytes, response_bytes, take_bytes}
 use Rattle.collector.specs.Rules.{heads, register_answer, register_cause, en_in, status_payload, book_answer, said_in, account_answer, read_answer, read_cause, request_soa, request_frame, as_request, request_written, request_answer, request_cause, after_request, take_answer, take_cause, response_in, booked_entries}
-use Rattle.collector.specs.declared.ReadAnswer.{ReadAnswer}
-use Rattle.collector.specs.declared.ReadAnswer.TheVariants.{Refused, NotStatusResponse, NotRegistered}
-use Rattle.collector.specs.declared.RegisterAnswer.{RegisterAnswer}
-use Rattle.collector.specs.declared.RegisterAnswer.TheVariants.{IdOutOfRange}
-use Rattle.collector.specs.declared.RequestAnswer.{RequestAnswer}
+use Rattle.collector.specs.declared.ReadError.TheVariants.{Frame, NotStatusResponse, NotRegistered}
+use Rattle.collector.specs.declared.RegisterError.TheVariants.{IdOutOfRange}
 use Rattle.collector.specs.declared.RequestFields.{RequestFields}
-use Rattle.collector.specs.declared.TakeAnswer.{TakeAnswer}
-use Rattle.collector.specs.declared.reading.Heard.TheVariants as heard
 use Rattle.collector.proofs.IdLaws.{place_none, place_some}
 use Rattle.collector.proofs.Meaning.{register_means, same_box, take_means, read_means, request_size}
+use Rattle.collector.specs.declared.RegisterError.{RegisterError}
+use Rattle.collector.specs.declared.RequestError.{RequestError}
+use Rattle.error_entry.specs.declared.ErrorEntry.{ErrorEntry}
+use Rattle.collector.specs.declared.TakeError.{TakeError}
+use Rattle.collector.specs.declared.ReadOutcome.{ReadOutcome}
+use Rattle.collector.specs.declared.ReadError.{ReadError}
 
 -- ---- register
 
-pub registers : (i : NodeId) (r : RegisterAnswer) (s after : List ℕ) → length s ≡ collector_length → r ≡ register_answer i.0 (box_of s)
+pub registers : (i : NodeId) (r : Result Unit RegisterError) (s after : List ℕ) → length s ≡ collector_length → r ≡ register_answer i.0 (box_of s)
     → after ≡ register_bytes r i.0 s → Registers i r s after
 registers i r s after size a b =
     record { answer = a; cause = ap register_cause a; box = rw (b, a) (register_means s size i.0); bytes = b }
 
 -- an ID that no controlled node has
-pub registers_none : (i : NodeId) (s : List ℕ) → IdOutOfRange ≡ register_answer i.0 (box_of s) → Registers i IdOutOfRange s s
+pub registers_none : (i : NodeId) (s : List ℕ) → (Err IdOutOfRange) ≡ register_answer i.0 (box_of s) → Registers i (Err IdOutOfRange) s s
 registers_none i s a = record { answer = a; cause = ap register_cause a; box = same_box (box_of s); bytes = refl }
 
 -- ---- take
 
-pub takes : (i : NodeId) (r : TakeAnswer) (s after : List ℕ) → length s ≡ collector_length → r ≡ take_answer (account_of s i.0)
+pub takes : (i : NodeId) (r : Result ErrorEntry TakeError) (s after : List ℕ) → length s ≡ collector_length → r ≡ take_answer (account_of s i.0)
     → after ≡ take_bytes r i.0 s → Takes i r s after
 takes i r s after size a b =
     record { answer = a; cause = ap take_cause a; box = rw (b, a) (take_means s size i.0); bytes = b }
 
 -- ---- read
 
-pub reads : (services s : List ℕ) → length s ≡ collector_length → (f : List ℕ) → Octets f → (r : ReadAnswer) (after : List ℕ)
+pub reads : (services s : List ℕ) → length s ≡ collector_length → (f : List ℕ) → Octets f → (r : Result ReadOutcome ReadError) (after : List ℕ)
     → r ≡ read_answer services f (box_of s) → after ≡ response_bytes services r f s → Reads services f r s after
 reads services s size f octets r after a b =
     record { answer = a; cause = ap read_cause a; box = rw (b, a) (read_means s size services f octets); bytes = b }
 
 module _ (s : List ℕ) (source : ℕ) (payload : List ℕ) where
-  pub status_unknown : heads ≤ slot_of s source → ReadsStatus source payload NotRegistered s s
+  pub status_unknown : heads ≤ slot_of s source → ReadsStatus source payload (Err NotRegistered) s s
   status_unknown h = record { answer = rw (place_none s source h); bytes = refl }
 
   module _ (known : slot_of s source < heads) where
-    pub status_refused : (e : PowerlinkError) → status.Refused e ≡ read_fields payload → ReadsStatus source payload (Refused e) s s
+    pub status_refused : (e : PowerlinkError) → Err e ≡ read_fields payload → ReadsStatus source payload (Err (Frame e)) s s
     status_refused e is = record { answer = rw (place_some s source known, ← is); bytes = refl }
 
-    pub status_books : (f : StatusFields) → status.Status f ≡ read_fields payload → (k : ℕ) → k ≡ slot_of s source → (r : ReadAnswer) (after : List ℕ)
+    pub status_books : (f : StatusFields) → Ok f ≡ read_fields payload → (k : ℕ) → k ≡ slot_of s source → (r : Result ReadOutcome ReadError) (after : List ℕ)
         → Books k f.en_flag payload r s after → ReadsStatus source payload r s after
     status_books f is k at r after b =
         record {
@@ -75,20 +75,20 @@ module _ (s : List ℕ) (source : ℕ) (payload : List ℕ) where
         }
 
 module _ (services s f : List ℕ) where
-  pub reads_refused : (e : PowerlinkError) → heard.Refused e ≡ response_in services f → Reads services f (Refused e) s s
+  pub reads_refused : (e : PowerlinkError) → Err e ≡ response_in services f → Reads services f (Err (Frame e)) s s
   unfolding read_answer
   reads_refused e is =
-      let a : Refused e ≡ read_answer services f (box_of s) = rw (← is) in
+      let a : Err (Frame e) ≡ read_answer services f (box_of s) = rw (← is) in
       record { answer = a; cause = ap read_cause a; box = same_box (box_of s); bytes = refl }
 
-  pub reads_other : heard.Other ≡ response_in services f → Reads services f NotStatusResponse s s
+  pub reads_other : (Ok None) ≡ response_in services f → Reads services f (Err NotStatusResponse) s s
   unfolding read_answer
   reads_other is =
-      let a : NotStatusResponse ≡ read_answer services f (box_of s) = rw (← is) in
+      let a : (Err NotStatusResponse) ≡ read_answer services f (box_of s) = rw (← is) in
       record { answer = a; cause = ap read_cause a; box = same_box (box_of s); bytes = refl }
 
-  pub reads_status : length s ≡ collector_length → Octets f → (source : NodeId) → heard.Status source ≡ response_in services f
-      → (payload : List ℕ) → payload ≡ status_payload f → (r : ReadAnswer) (after : List ℕ) → ReadsStatus source.0 payload r s after
+  pub reads_status : length s ≡ collector_length → Octets f → (source : NodeId) → Ok (Some source) ≡ response_in services f
+      → (payload : List ℕ) → payload ≡ status_payload f → (r : Result ReadOutcome ReadError) (after : List ℕ) → ReadsStatus source.0 payload r s after
       → Reads services f r s after
   unfolding read_answer
   reads_status size octets source is payload from r after b =
@@ -99,7 +99,7 @@ module _ (services s f : List ℕ) where
 -- ---- request
 
 -- the answer and the octets of writing the SoA that `new` makes
-module _ (i : ℕ) (f : RequestFields) (ea : Bool) (soa : NewSoAFrame) (made : soa ≡ request_soa i f ea) (r : WriteAnswer) (target after : List ℕ) where
+module _ (i : ℕ) (f : RequestFields) (ea : Bool) (soa : NewSoAFrame) (made : soa ≡ request_soa i f ea) (r : Result ℕ PowerlinkError) (target after : List ℕ) where
   pub request_writes : Writes (eth_bytes soa.eth_header ++ padded (soa_bytes soa.frame ++ [])) r target after
       → (as_request r ≡ request_written (request_frame i f ea) target) × (after ≡ overwritten (request_frame i f ea) target)
   unfolding request_frame frame_bytes soa_section
@@ -108,7 +108,7 @@ module _ (i : ℕ) (f : RequestFields) (ea : Bool) (soa : NewSoAFrame) (made : s
       ap (λ (x : NewSoAFrame). frame_bytes x.eth_header (SoA x.frame) []) made in
       (ap as_request w.answer ∙ ap (λ (bs : List ℕ). as_request (write_answer bs target)) e, w.holds ∙ ap (λ (bs : List ℕ). overwritten bs target) e)
 
-pub requests : (i : NodeId) (f : RequestFields) → length f.source_mac.0 ≡ 6 → (r : RequestAnswer) (s target written : List ℕ)
+pub requests : (i : NodeId) (f : RequestFields) → length f.source_mac.0 ≡ 6 → (r : Result ℕ RequestError) (s target written : List ℕ)
     → r ≡ request_answer i.0 f target (account_of s i.0) → written ≡ after_request i.0 f target (account_of s i.0) → Requests i f r s target written
 requests i f six r s target written a h =
     record { answer = a; cause = ap request_cause a; source = six; size = λ ea. request_size i.0 f ea; holds = h }

@@ -11,6 +11,7 @@ use lib.ListN.{length, get_or, replicate}
 use lib.Seq.{get_or-drop}
 use lib.Dec.{leb}
 use borrow.Author.Tests.{leb-true}
+use Rattle.std.specs.Prelude.{Result, Ok, Err, Option, Some, None}
 use Rattle.octets.proofs.NumberBack.{Octets}
 use Rattle.octets.proofs.Order.{le_or_lt}
 use Rattle.types.specs.Codes.{need, pick}
@@ -21,19 +22,13 @@ use Rattle.control.specs.SoA.{soa_section}
 use Rattle.frame.specs.Write.{frame_bytes}
 use Rattle.error_entry.specs.declared.ErrorEntry.{ErrorEntry}
 use Rattle.status_response.specs.Fields.{read_fields}
-use Rattle.status_response.specs.declared.fields.StatusAnswer.{StatusAnswer}
-use Rattle.status_response.specs.declared.fields.StatusAnswer.TheVariants as status
 use Rattle.collector.specs.Layout.{node_at, collector_length, block, node_in, find_of, slot_of, count_in, book_in, account_in, account_of, vacant_of, box_of, fresh_bytes, register_bytes, response_bytes, booking_bytes, booked_bytes, taken_bytes, take_bytes}
 use Rattle.collector.specs.Rules.{said_in, Said, heads, book_length, Account, Box, Same, fresh_box, with_account, register_answer, after_register, en_in, status_payload, book_answer, status_answer, response_answer, read_answer, booked_account, after_booking, after_response, request_frame, take_answer, without_first, after_take, response_in, status_in, booked_entries}
-use Rattle.collector.specs.declared.ReadAnswer.{ReadAnswer}
-use Rattle.collector.specs.declared.ReadAnswer.TheVariants.{Booked, Known, Refused, NotStatusResponse, NotRegistered, BookFull}
-use Rattle.collector.specs.declared.RegisterAnswer.{RegisterAnswer}
-use Rattle.collector.specs.declared.RegisterAnswer.TheVariants.{Registered, IdOutOfRange, IdRegistered, Full}
+use Rattle.collector.specs.declared.ReadError.TheVariants.{Frame, NotStatusResponse, NotRegistered, BookFull}
+use Rattle.collector.specs.declared.ReadOutcome.TheVariants.{Booked, Known}
+use Rattle.collector.specs.declared.RegisterError.TheVariants.{IdOutOfRange, IdRegistered, Full}
 use Rattle.collector.specs.declared.RequestFields.{RequestFields}
-use Rattle.collector.specs.declared.TakeAnswer.{TakeAnswer}
-use Rattle.collector.specs.declared.TakeAnswer.TheVariants as taking
-use Rattle.collector.specs.declared.reading.Heard.{Heard}
-use Rattle.collector.specs.declared.reading.Heard.TheVariants as heard
+use Rattle.collector.specs.declared.TakeError.TheVariants as taking
 use Rattle.collector.proofs.AnswerLaws.{cn_low, register_bad, register_full, register_new, register_known, take_unknown, take_one, take_nothing}
 use Rattle.collector.proofs.BatchLaws.{booked_kept, booked_node, booked_place, booked_length}
 use Rattle.collector.proofs.BookLaws.{book_most, taken_kept, taken_node, book_taken, taken_ea, taken_length, book_length_lem}
@@ -41,6 +36,13 @@ use Rattle.collector.proofs.IdLaws.{place_none, place_some, slot_taken, block_me
 use Rattle.collector.proofs.PlacedLaws.{placed_length}
 use Rattle.collector.proofs.RegisterLaws.{placed_means}
 use Rattle.collector.proofs.BookableLaws.{booked_in_range}
+use Rattle.status_response.specs.declared.fields.StatusFields.{StatusFields}
+use Rattle.types.specs.declared.hal.PowerlinkError.{PowerlinkError}
+use Rattle.collector.specs.declared.RegisterError.{RegisterError}
+use Rattle.collector.specs.declared.TakeError.{TakeError}
+use Rattle.collector.specs.declared.ReadOutcome.{ReadOutcome}
+use Rattle.collector.specs.declared.ReadError.{ReadError}
+use Rattle.types.specs.declared.NodeId.{NodeId}
 
 pub same_box : (b : Box) → Same b b
 same_box b = record { accounts = λ i. refl; vacant = refl }
@@ -98,11 +100,11 @@ register_means s size i = by_id (is_cn_node_id i) refl
         (λ (known : find_of s i < heads). rw (← register_known s i cn known) (same_box (box_of s)))
         (le_or_lt heads (find_of s i))
 
-pub register_length : (r : RegisterAnswer) (i : ℕ) (s : List ℕ) → length (register_bytes r i s) ≡ length s
-register_length Registered i s = placed_length s (find_of s 0) i
-register_length IdOutOfRange i s = refl
-register_length IdRegistered i s = refl
-register_length Full i s = refl
+pub register_length : (r : Result Unit RegisterError) (i : ℕ) (s : List ℕ) → length (register_bytes r i s) ≡ length s
+register_length (Ok tt) i s = placed_length s (find_of s 0) i
+register_length (Err IdOutOfRange) i s = refl
+register_length (Err IdRegistered) i s = refl
+register_length (Err Full) i s = refl
 
 -- ---- take
 
@@ -125,10 +127,10 @@ take_means s size i =
     (le_or_lt 1 (count_in s (slot_of s i))))
     (le_or_lt heads (slot_of s i))
 
-pub take_length : (r : TakeAnswer) (i : ℕ) (s : List ℕ) → length (take_bytes r i s) ≡ length s
-take_length (taking.Taken e) i s = taken_length s (slot_of s i)
-take_length taking.NotRegistered i s = refl
-take_length taking.NothingBooked i s = refl
+pub take_length : (r : Result ErrorEntry TakeError) (i : ℕ) (s : List ℕ) → length (take_bytes r i s) ≡ length s
+take_length (Ok e) i s = taken_length s (slot_of s i)
+take_length (Err taking.NotRegistered) i s = refl
+take_length (Err taking.NothingBooked) i s = refl
 
 -- ---- read
 
@@ -145,30 +147,30 @@ module _ (s : List ℕ) (i : ℕ) (known : slot_of s i < heads) (size : length s
       (rw (place_some s i known) (booked_place s k en es size known (booked_in_range payload octets) (omega (arith, book_length_lem s k))))
 
   -- the answer is that the batch is booked, so there was room
-  room_for : (a : StatusAnswer) → status_answer a (booked_entries payload) (account_in s (slot_of s i)) ≡ Booked
+  room_for : (a : Result StatusFields PowerlinkError) → status_answer a (booked_entries payload) (account_in s (slot_of s i)) ≡ Ok Booked
       → length (book_in s (slot_of s i)) + length (booked_entries payload) ≤ book_length
   unfolding book_answer
-  room_for (status.Refused e) q = let z : ◌≡◌ {A = ℕ} 0 1 = cc in absurd (omega arith)
-  room_for (status.Status f) q =
+  room_for (Err e) q = let z : ◌≡◌ {A = ℕ} 0 1 = cc in absurd (omega arith)
+  room_for (Ok f) q =
       let book : List ErrorEntry = book_in s (slot_of s i) in
       let n : ℕ = length book + length (booked_entries payload) in
       leb-true n book_length (go (beq f.en_flag (account_in s (slot_of s i)).ea) (leb n book_length) q)
     where
-      go : (same fits : Bool) → pick same Known (need fits BookFull Booked) ≡ Booked → fits ≡ true
+      go : (same fits : Bool) → pick same (Ok Known) (need fits (Err BookFull) (Ok Booked)) ≡ Ok Booked → fits ≡ true
       go true fits q = let z : ◌≡◌ {A = ℕ} 0 1 = cc in absurd (omega arith)
       go false true q = refl
       go false false q = let z : ◌≡◌ {A = ℕ} 0 1 = cc in absurd (omega arith)
 
 module _ (s : List ℕ) (size : length s ≡ collector_length) (payload : List ℕ) (octets : Octets payload) where
-  booking_means : (h : Heard) → response_answer h (said_in payload) (box_of s) ≡ Booked
+  booking_means : (h : Result (Option NodeId) PowerlinkError) → response_answer h (said_in payload) (box_of s) ≡ Ok Booked
       → Same (box_of (booking_bytes h (said_in payload) s)) (after_booking h (said_in payload) (box_of s))
-  booking_means (heard.Refused e) q = same_box (box_of s)
-  booking_means heard.Other q = same_box (box_of s)
-  booking_means (heard.Status source) q =
+  booking_means (Err e) q = same_box (box_of s)
+  booking_means (Ok None) q = same_box (box_of s)
+  booking_means (Ok (Some source)) q =
       let i : ℕ = source.0 in
       ⊎_elim
       (λ (unknown : heads ≤ slot_of s i).
-      let r : NotRegistered ≡ Booked = rw (place_none s i unknown) at q in
+      let r : (Err NotRegistered) ≡ (Ok Booked) = rw (place_none s i unknown) at q in
       let z : ◌≡◌ {A = ℕ} 0 1 = cc in absurd (omega arith))
       (λ (known : slot_of s i < heads).
       booked_means s i known size payload octets (room_for s i known size payload octets (read_fields payload) (rw (place_some s i known) at q)))
@@ -182,26 +184,26 @@ module _ (s : List ℕ) (size : length s ≡ collector_length) (services f : Lis
   unfolding read_answer
   read_means = go (read_answer services f (box_of s)) refl
     where
-      go : (r : ReadAnswer) → read_answer services f (box_of s) ≡ r → Same (box_of (response_bytes services r f s)) (after_response services r f (box_of s))
-      go Booked q = booking_means s size (status_payload f) payload_octets (response_in services f) q
-      go Known q = same_box (box_of s)
-      go (Refused e) q = same_box (box_of s)
-      go NotStatusResponse q = same_box (box_of s)
-      go NotRegistered q = same_box (box_of s)
-      go BookFull q = same_box (box_of s)
+      go : (r : Result ReadOutcome ReadError) → read_answer services f (box_of s) ≡ r → Same (box_of (response_bytes services r f s)) (after_response services r f (box_of s))
+      go (Ok Booked) q = booking_means s size (status_payload f) payload_octets (response_in services f) q
+      go (Ok Known) q = same_box (box_of s)
+      go (Err (Frame e)) q = same_box (box_of s)
+      go (Err NotStatusResponse) q = same_box (box_of s)
+      go (Err NotRegistered) q = same_box (box_of s)
+      go (Err BookFull) q = same_box (box_of s)
 
-booking_length : (h : Heard) (said : Said) (s : List ℕ) → length (booking_bytes h said s) ≡ length s
-booking_length (heard.Refused e) said s = refl
-booking_length heard.Other said s = refl
-booking_length (heard.Status source) said s = booked_length s (slot_of s source.0) (en_in said.fields) said.entries
+booking_length : (h : Result (Option NodeId) PowerlinkError) (said : Said) (s : List ℕ) → length (booking_bytes h said s) ≡ length s
+booking_length (Err e) said s = refl
+booking_length (Ok None) said s = refl
+booking_length (Ok (Some source)) said s = booked_length s (slot_of s source.0) (en_in said.fields) said.entries
 
-pub read_length : (services : List ℕ) (r : ReadAnswer) (f s : List ℕ) → length (response_bytes services r f s) ≡ length s
-read_length services Booked f s = booking_length (response_in services f) (status_in f) s
-read_length services Known f s = refl
-read_length services (Refused e) f s = refl
-read_length services NotStatusResponse f s = refl
-read_length services NotRegistered f s = refl
-read_length services BookFull f s = refl
+pub read_length : (services : List ℕ) (r : Result ReadOutcome ReadError) (f s : List ℕ) → length (response_bytes services r f s) ≡ length s
+read_length services (Ok Booked) f s = booking_length (response_in services f) (status_in f) s
+read_length services (Ok Known) f s = refl
+read_length services (Err (Frame e)) f s = refl
+read_length services (Err NotStatusResponse) f s = refl
+read_length services (Err NotRegistered) f s = refl
+read_length services (Err BookFull) f s = refl
 
 -- ---- request
 

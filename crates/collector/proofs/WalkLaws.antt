@@ -11,6 +11,7 @@ use native.Mathlib.Omega.{arith}
 use lib.ListN.{length, get_or, take, drop, length-drop}
 use lib.Seq.{take-suc, drop-drop, get_or-drop}
 use lib.Dec.{leb}
+use Rattle.std.specs.Prelude.{Option, Some, None}
 use Rattle.octets.proofs.NumberBack.{Octets}
 use Rattle.octets.proofs.Order.{le_or_lt}
 use Rattle.types.specs.Codes.{need}
@@ -20,20 +21,18 @@ use Rattle.error_entry.specs.Entry.{entry_of}
 use Rattle.error_entry.specs.declared.ErrorEntry.{ErrorEntry}
 use Rattle.status_response.specs.ReadBack.{walked, EachInRange}
 use Rattle.status_response.specs.Steps.{entries_in, status_entries, step_at, unless_terminator}
-use Rattle.status_response.specs.declared.walk.EntryStep.{EntryStep}
-use Rattle.status_response.specs.declared.walk.EntryStep.TheVariants.{Entry, End}
 use Rattle.status_response.proofs.StepLaws.{step_none, step_by_mode}
 use Rattle.status_response.proofs.StepsBack.{steps_back}
 use Rattle.records.proofs.RecordLaws.{in_range}
 
 -- ---- the shape of a step
 
-no_entry : {A : Type 0} (e : ErrorEntry) (next : ℕ) → End ≡ Entry e next → A
+no_entry : {A : Type 0} (e : ErrorEntry) (next : ℕ) → None ≡ Some (e, next) → A
 no_entry e next q = let z : ◌≡◌ {A = ℕ} 0 1 = cc in absurd (omega arith)
 
 -- an entry has 20 octets
-module _ (s : List ℕ) (at : ℕ) (e : ErrorEntry) (next : ℕ) (found : step_at s at ≡ Entry e next) where
-  by_mode : (m : ErrorEntryMode) (x : ErrorEntry) → unless_terminator m (Entry x (at + 20)) End ≡ Entry e next → next ≡ at + 20
+module _ (s : List ℕ) (at : ℕ) (e : ErrorEntry) (next : ℕ) (found : step_at s at ≡ Some (e, next)) where
+  by_mode : (m : ErrorEntryMode) (x : ErrorEntry) → unless_terminator m (Some (x, (at + 20))) None ≡ Some (e, next) → next ≡ at + 20
   by_mode Terminator x q = no_entry e next q
   by_mode ErrorActive x q = cc
   by_mode ErrorCleared x q = cc
@@ -45,7 +44,7 @@ module _ (s : List ℕ) (at : ℕ) (e : ErrorEntry) (next : ℕ) (found : step_a
       (λ (h : 20 ≤ length s - at).
       let x : ErrorEntry = entry_of (drop at s) in
       let m : ErrorEntryMode = x.entry_type.mode in
-      let r : EntryStep = unless_terminator m (Entry x (at + 20)) End in
+      let r : (Option (ErrorEntry × ℕ)) = unless_terminator m (Some (x, (at + 20))) None in
       (by_mode m x (step_by_mode s at (drop at s) x m r h refl refl refl refl ∙ found), omega arith))
       (λ (h : length s - at < 20). no_entry e next (step_none s at h ∙ found))
       (le_or_lt 20 (length s - at))
@@ -53,7 +52,7 @@ module _ (s : List ℕ) (at : ℕ) (e : ErrorEntry) (next : ℕ) (found : step_a
 -- ---- the entries from an offset on
 
 module _ (s : List ℕ) where
-  walk_end : (m at : ℕ) → step_at s at ≡ End → walked m s at ≡ []
+  walk_end : (m at : ℕ) → step_at s at ≡ None → walked m s at ≡ []
   walk_end zero at e = refl
   walk_end (suc m) at e = rw e
 
@@ -61,9 +60,9 @@ module _ (s : List ℕ) where
   walk_rest zero at l e h = absurd (let z : length l ≡ 0 = ap length e in omega arith)
   walk_rest (suc m) at l e h = let one : suc m - 1 ≡ m = omega arith in rw one (go (step_at s at) refl)
     where
-      go : (x : EntryStep) → step_at s at ≡ x → drop 1 l ≡ walked m s (at + 20)
-      go End q = absurd (let z : length l ≡ 0 = ap length (e ∙ walk_end (suc m) at q) in omega arith)
-      go (Entry x next) q =
+      go : (x : Option (ErrorEntry × ℕ)) → step_at s at ≡ x → drop 1 l ≡ walked m s (at + 20)
+      go None q = absurd (let z : length l ≡ 0 = ap length (e ∙ walk_end (suc m) at q) in omega arith)
+      go (Some (x, next)) q =
           let f : l ≡ x ∷ walked m s next = e ∙ rw q in
           ap (drop 1) f ∙ ap (walked m s) (entry_shape s at x next q).0
 
@@ -81,12 +80,12 @@ module _ (s : List ℕ) where
       ∙ ap (walked (length s - suc n) s) at
 
   module _ (n : ℕ) (h : n ≤ length (status_entries s)) where
-    pub step_end : step_at s (14 + 20 * n) ≡ End → n ≡ length (status_entries s)
+    pub step_end : step_at s (14 + 20 * n) ≡ None → n ≡ length (status_entries s)
     step_end e =
         let z : length (drop n (status_entries s)) ≡ 0 = ap length (walk_from n h ∙ walk_end (length s - n) (14 + 20 * n) e) in
         omega (arith, length-drop n (status_entries s))
 
-    module _ (e : ErrorEntry) (next : ℕ) (found : step_at s (14 + 20 * n) ≡ Entry e next) where
+    module _ (e : ErrorEntry) (next : ℕ) (found : step_at s (14 + 20 * n) ≡ Some (e, next)) where
       here : drop n (status_entries s) ≡ e ∷ walked (length s - suc n) s next
       here =
           let shape = entry_shape s (14 + 20 * n) e next found in

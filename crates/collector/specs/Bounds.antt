@@ -1,22 +1,24 @@
 -- 01's bounds of a box: of a book, for any octets of a state; of the registered IDs, after any list of calls from a fresh state.
 -- Assumes nothing.
-use Rattle.std.specs.Prelude.{ℕ, ◌+◌, ◌≤◌, Bool, true, false, ◌≡◌, List, [], ◌∷◌, length, eqb}
+use Rattle.std.specs.Prelude.{ℕ, ◌+◌, ◌≤◌, Bool, true, false, ◌≡◌, List, [], ◌∷◌, length, eqb, Result}
 use Rattle.std.proofs.Math.Option.{some}
 use Rattle.types.specs.Codes.{pick}
 use Rattle.types.specs.declared.NodeId.{NodeId}
 use Rattle.collector.specs.Calls.{Fresh, Registers, Reads, Takes}
 use Rattle.collector.specs.Layout.{account_of, vacant_of}
 use Rattle.collector.specs.Rules.{Account, is_registered}
-use Rattle.collector.specs.declared.ReadAnswer.{ReadAnswer}
-use Rattle.collector.specs.declared.RegisterAnswer.{RegisterAnswer}
-use Rattle.collector.specs.declared.TakeAnswer.{TakeAnswer}
+use Rattle.collector.specs.declared.RegisterError.{RegisterError}
+use Rattle.error_entry.specs.declared.ErrorEntry.{ErrorEntry}
+use Rattle.collector.specs.declared.TakeError.{TakeError}
+use Rattle.collector.specs.declared.ReadOutcome.{ReadOutcome}
+use Rattle.collector.specs.declared.ReadError.{ReadError}
 
 -- the calls that may change the state, in any order; the others are lent it to be read
 pub data BoxRun : List ℕ → Type 0 where
   fresh : (s : List ℕ) → Fresh s → BoxRun s
-  registers : {s : List ℕ} (i : NodeId) (r : RegisterAnswer) (after : List ℕ) → BoxRun s → Registers i r s after → BoxRun after
-  reads : {s : List ℕ} (services frame : List ℕ) (r : ReadAnswer) (after : List ℕ) → BoxRun s → Reads services frame r s after → BoxRun after
-  takes : {s : List ℕ} (i : NodeId) (r : TakeAnswer) (after : List ℕ) → BoxRun s → Takes i r s after → BoxRun after
+  registers : {s : List ℕ} (i : NodeId) (r : Result Unit RegisterError) (after : List ℕ) → BoxRun s → Registers i r s after → BoxRun after
+  reads : {s : List ℕ} (services frame : List ℕ) (r : Result ReadOutcome ReadError) (after : List ℕ) → BoxRun s → Reads services frame r s after → BoxRun after
+  takes : {s : List ℕ} (i : NodeId) (r : Result ErrorEntry TakeError) (after : List ℕ) → BoxRun s → Takes i r s after → BoxRun after
 
 abbrev pub is_in : ℕ → List ℕ → Bool
 is_in i [] = false

@@ -2,18 +2,19 @@
 -- list of octets means a box: a start counts modulo 64, a count above 64 is 64, EA is the lowest bit, and where two blocks have
 -- the same node ID the first is the node's.
 -- Assumes nothing.
-use Rattle.std.specs.Prelude.{ℕ, ◌+◌, ◌*◌, ◌-◌, ◌%◌, min, Bool, List, [], ◌∷◌, get_or, set, replicate, eqb, ltb}
+use Rattle.std.specs.Prelude.{ℕ, ◌+◌, ◌*◌, ◌-◌, ◌%◌, min, Bool, List, [], ◌∷◌, get_or, set, replicate, eqb, ltb, Result, Ok, Err, Some, None}
 use Rattle.std.proofs.Math.Option.{Option, none, some}
 use Rattle.types.specs.Codes.{pick}
 use Rattle.error_entry.specs.declared.ErrorEntry.{ErrorEntry}
 use Rattle.records.specs.Records.{entry_length, record_at, with_record}
 use Rattle.records.specs.Ring.{ring}
 use Rattle.collector.specs.Rules.{heads, book_length, Account, Box, when_registered, Said, en_in, when_booked, when_taken, response_in, status_in}
-use Rattle.collector.specs.declared.ReadAnswer.{ReadAnswer}
-use Rattle.collector.specs.declared.RegisterAnswer.{RegisterAnswer}
-use Rattle.collector.specs.declared.TakeAnswer.{TakeAnswer}
-use Rattle.collector.specs.declared.reading.Heard.{Heard}
-use Rattle.collector.specs.declared.reading.Heard.TheVariants as heard
+use Rattle.collector.specs.declared.RegisterError.{RegisterError}
+use Rattle.collector.specs.declared.TakeError.{TakeError}
+use Rattle.collector.specs.declared.ReadOutcome.{ReadOutcome}
+use Rattle.collector.specs.declared.ReadError.{ReadError}
+use Rattle.types.specs.declared.NodeId.{NodeId}
+use Rattle.types.specs.declared.hal.PowerlinkError.{PowerlinkError}
 
 -- ---- where the octets stand: a block for each head, then the box's own; in a block its control octets, then its book's records
 
@@ -106,7 +107,7 @@ fresh_bytes = replicate collector_length 0
 unfoldable pub placed_bytes : List ℕ → ℕ → ℕ → List ℕ
 placed_bytes s k i = set (set (set (set s (block k + node_at) i) (block k + ea_at) 0) (block k + start_at) 0) (block k + count_at) 0
 
-abbrev pub register_bytes : RegisterAnswer → ℕ → List ℕ → List ℕ
+abbrev pub register_bytes : Result Unit RegisterError → ℕ → List ℕ → List ℕ
 register_bytes r i s = when_registered r (placed_bytes s (find_of s 0) i) s
 
 -- the entry's record behind those of the book
@@ -124,17 +125,17 @@ ea_bytes s k ea = set s (block k + ea_at) (pick ea 1 0)
 unfoldable pub booked_bytes : List ℕ → ℕ → Bool → List ErrorEntry → List ℕ
 booked_bytes s k en es = ea_bytes (pushed_all s k es) k en
 
-abbrev pub booking_bytes : Heard → Said → List ℕ → List ℕ
-booking_bytes (heard.Refused e) said s = s
-booking_bytes heard.Other said s = s
-booking_bytes (heard.Status source) said s = booked_bytes s (slot_of s source.0) (en_in said.fields) said.entries
+abbrev pub booking_bytes : Result (Option NodeId) PowerlinkError → Said → List ℕ → List ℕ
+booking_bytes (Err e) said s = s
+booking_bytes (Ok None) said s = s
+booking_bytes (Ok (Some source)) said s = booked_bytes s (slot_of s source.0) (en_in said.fields) said.entries
 
-abbrev pub response_bytes : List ℕ → ReadAnswer → List ℕ → List ℕ → List ℕ
+abbrev pub response_bytes : List ℕ → Result ReadOutcome ReadError → List ℕ → List ℕ → List ℕ
 response_bytes services r f s = when_booked r (booking_bytes (response_in services f) (status_in f) s) s
 
 -- the book's start moves past its first record
 unfoldable pub taken_bytes : List ℕ → ℕ → List ℕ
 taken_bytes s k = set (set s (block k + start_at) ((start_in s k + 1) % book_length)) (block k + count_at) (count_in s k - 1)
 
-abbrev pub take_bytes : TakeAnswer → ℕ → List ℕ → List ℕ
+abbrev pub take_bytes : Result ErrorEntry TakeError → ℕ → List ℕ → List ℕ
 take_bytes r i s = when_taken r (taken_bytes s (slot_of s i)) s

@@ -1,6 +1,6 @@
 -- The rules of 01, "The error exchange", for the box: the managing node that collects errors (EPSG DS 301, 6.5).
 -- Assumes nothing.
-use Rattle.std.specs.Prelude.{ℕ, ◌+◌, ◌-◌, Bool, true, false, ◌≡◌, List, [], ◌∷◌, ◌++◌, length, drop, leb, ltb, eqb}
+use Rattle.std.specs.Prelude.{ℕ, ◌+◌, ◌-◌, Bool, true, false, ◌≡◌, List, [], ◌∷◌, ◌++◌, length, drop, leb, ltb, eqb, Result, Ok, Err, Some, None}
 use Rattle.std.specs.Bool.{beq}
 use Rattle.std.proofs.Math.Option.{Option, none, some}
 use Rattle.types.specs.CauseNumbers as cause
@@ -12,8 +12,6 @@ use Rattle.types.specs.declared.requested_service.RequestedServiceId.TheVariants
 use Rattle.services.specs.Ids.{status_response}
 use Rattle.services.specs.declared.ServiceId.{ServiceId}
 use Rattle.section.specs.Write.{write_answer, overwritten}
-use Rattle.section.specs.declared.WriteAnswer.{WriteAnswer}
-use Rattle.section.specs.declared.WriteAnswer.TheVariants as write
 use Rattle.control.specs.ASnd.{asnd_payload_at}
 use Rattle.control.specs.SoA.{new_soa}
 use Rattle.control.specs.declared.soa.NewSoAFrame.{NewSoAFrame}
@@ -21,27 +19,24 @@ use Rattle.frame.specs.Write.{frame_bytes}
 use Rattle.frame.specs.declared.PowerlinkFrame.{PowerlinkFrame}
 use Rattle.frame.specs.declared.PowerlinkFrame.TheVariants.{Soc, PReq, PRes, SoA, ASnd}
 use Rattle.codec.specs.Frame.{read_frame}
-use Rattle.codec.specs.declared.FrameAnswer.{FrameAnswer}
-use Rattle.codec.specs.declared.FrameAnswer.TheVariants as frame
 use Rattle.error_entry.specs.Values.{as_number, entry_numbers}
 use Rattle.error_entry.specs.declared.ErrorEntry.{ErrorEntry}
 use Rattle.status_response.specs.Fields.{read_fields}
 use Rattle.status_response.specs.Steps.{status_entries}
-use Rattle.status_response.specs.declared.fields.StatusAnswer.{StatusAnswer}
-use Rattle.status_response.specs.declared.fields.StatusAnswer.TheVariants as status
-use Rattle.collector.specs.declared.FlagsAnswer.{FlagsAnswer}
-use Rattle.collector.specs.declared.FlagsAnswer.TheVariants as flagging
-use Rattle.collector.specs.declared.ReadAnswer.{ReadAnswer}
-use Rattle.collector.specs.declared.ReadAnswer.TheVariants.{Booked, Known, Refused, NotStatusResponse, NotRegistered, BookFull}
-use Rattle.collector.specs.declared.RegisterAnswer.{RegisterAnswer}
-use Rattle.collector.specs.declared.RegisterAnswer.TheVariants.{Registered, IdOutOfRange, IdRegistered, Full}
-use Rattle.collector.specs.declared.RequestAnswer.{RequestAnswer}
-use Rattle.collector.specs.declared.RequestAnswer.TheVariants as requesting
+use Rattle.collector.specs.declared.ReadError.TheVariants.{Frame, NotStatusResponse, NotRegistered, BookFull}
+use Rattle.collector.specs.declared.ReadOutcome.TheVariants.{Booked, Known}
+use Rattle.collector.specs.declared.RegisterError.TheVariants.{IdOutOfRange, IdRegistered, Full}
+use Rattle.collector.specs.declared.RequestError.TheVariants as requesting
 use Rattle.collector.specs.declared.RequestFields.{RequestFields}
-use Rattle.collector.specs.declared.TakeAnswer.{TakeAnswer}
-use Rattle.collector.specs.declared.TakeAnswer.TheVariants as taking
-use Rattle.collector.specs.declared.reading.Heard.{Heard}
-use Rattle.collector.specs.declared.reading.Heard.TheVariants as heard
+use Rattle.collector.specs.declared.TakeError.TheVariants as taking
+use Rattle.types.specs.declared.hal.PowerlinkError.{PowerlinkError}
+use Rattle.status_response.specs.declared.fields.StatusFields.{StatusFields}
+use Rattle.collector.specs.declared.RegisterError.{RegisterError}
+use Rattle.collector.specs.declared.RequestError.{RequestError}
+use Rattle.collector.specs.declared.TakeError.{TakeError}
+use Rattle.control.specs.declared.soa.SoAFlags.{SoAFlags}
+use Rattle.collector.specs.declared.ReadOutcome.{ReadOutcome}
+use Rattle.collector.specs.declared.ReadError.{ReadError}
 
 -- "up to four registered heads"
 abbrev pub heads : ℕ
@@ -90,52 +85,52 @@ is_registered none = false
 is_registered (some p) = true
 
 -- 14, then 15: "four registered"
-abbrev pub register_vacant : Option Account → ℕ → RegisterAnswer
-register_vacant (some p) vacant = IdRegistered
-register_vacant none vacant = need (ltb 0 vacant) Full Registered
+abbrev pub register_vacant : Option Account → ℕ → Result Unit RegisterError
+register_vacant (some p) vacant = Err IdRegistered
+register_vacant none vacant = need (ltb 0 vacant) (Err Full) (Ok tt)
 
 -- 13: "ID to register not 1 to 239"
-unfoldable pub register_answer : ℕ → Box → RegisterAnswer
-register_answer i b = need (is_cn_node_id i) IdOutOfRange (register_vacant (b.accounts i) b.vacant)
+unfoldable pub register_answer : ℕ → Box → Result Unit RegisterError
+register_answer i b = need (is_cn_node_id i) (Err IdOutOfRange) (register_vacant (b.accounts i) b.vacant)
 
 -- 01's number for each case: 0 where nothing is refused
-abbrev pub register_cause : RegisterAnswer → Cause
-register_cause Registered = row 0 []
-register_cause IdOutOfRange = row cause.id_out_of_range []
-register_cause IdRegistered = row cause.id_registered []
-register_cause Full = row cause.four_registered []
+abbrev pub register_cause : Result Unit RegisterError → Cause
+register_cause (Ok tt) = row 0 []
+register_cause (Err IdOutOfRange) = row cause.id_out_of_range []
+register_cause (Err IdRegistered) = row cause.id_registered []
+register_cause (Err Full) = row cause.four_registered []
 
-abbrev pub when_registered : {A : Type 0} → RegisterAnswer → A → A → A
-when_registered Registered a b = a
-when_registered IdOutOfRange a b = b
-when_registered IdRegistered a b = b
-when_registered Full a b = b
+abbrev pub when_registered : {A : Type 0} → Result Unit RegisterError → A → A → A
+when_registered (Ok tt) a b = a
+when_registered (Err IdOutOfRange) a b = b
+when_registered (Err IdRegistered) a b = b
+when_registered (Err Full) a b = b
 
 -- "gives a head a place": EA 0 and an empty book
-abbrev pub after_register : RegisterAnswer → ℕ → Box → Box
+abbrev pub after_register : Result Unit RegisterError → ℕ → Box → Box
 after_register r i b =
     when_registered r (record { accounts = (with_account i fresh_account b).accounts; vacant = b.vacant - 1 }) b
 
 -- ---- reading a frame
 
 -- service 2, whatever the table
-abbrev pub response_of_service : ServiceId → NodeId → Heard
-response_of_service s source = pick (eqb s.0 status_response) (heard.Status source) heard.Other
+abbrev pub response_of_service : ServiceId → NodeId → Result (Option NodeId) PowerlinkError
+response_of_service s source = pick (eqb s.0 status_response) (Ok (Some source)) (Ok None)
 
-abbrev pub response_in_frame : PowerlinkFrame → Heard
-response_in_frame (Soc f) = heard.Other
-response_in_frame (PReq f) = heard.Other
-response_in_frame (PRes f) = heard.Other
-response_in_frame (SoA f) = heard.Other
+abbrev pub response_in_frame : PowerlinkFrame → Result (Option NodeId) PowerlinkError
+response_in_frame (Soc f) = Ok None
+response_in_frame (PReq f) = Ok None
+response_in_frame (PRes f) = Ok None
+response_in_frame (SoA f) = Ok None
 response_in_frame (ASnd f) = response_of_service f.service_id f.source
 
-abbrev pub response_in_answer : FrameAnswer → Heard
-response_in_answer (frame.Refused e) = heard.Refused e
-response_in_answer (frame.Frame f) = response_in_frame f
+abbrev pub response_in_answer : Result PowerlinkFrame PowerlinkError → Result (Option NodeId) PowerlinkError
+response_in_answer (Err e) = Err e
+response_in_answer (Ok f) = response_in_frame f
 
 -- what the box wants in the octets of a frame: whose StatusResponse it is, that it is another frame, or why they cannot be read under a
 -- table ..
-abbrev pub response_in : List ℕ → List ℕ → Heard
+abbrev pub response_in : List ℕ → List ℕ → Result (Option NodeId) PowerlinkError
 response_in services f = response_in_answer (read_frame services f)
 
 -- "the box reads it from section byte 4, untrimmed"
@@ -153,7 +148,7 @@ booked_entries payload = bookable (status_entries payload)
 
 -- what a StatusResponse says to the box: its fields, or why they cannot be read, and the entries to book
 pub record Said : Type 0 where
-  pub fields : StatusAnswer
+  pub fields : Result StatusFields PowerlinkError
   pub entries : List ErrorEntry
 
 abbrev pub said_in : List ℕ → Said
@@ -164,75 +159,75 @@ abbrev pub status_in : List ℕ → Said
 status_in f = said_in (status_payload f)
 
 -- EN, where the fields can be read
-abbrev pub en_in : StatusAnswer → Bool
-en_in (status.Refused e) = false
-en_in (status.Status f) = f.en_flag
+abbrev pub en_in : Result StatusFields PowerlinkError → Bool
+en_in (Err e) = false
+en_in (Ok f) = f.en_flag
 
 -- "EN equal to EA means known", whatever the entries; 12: "fewer free places than batch entries", of those to book
-unfoldable pub book_answer : Bool → List ErrorEntry → Account → ReadAnswer
-book_answer en es p = pick (beq en p.ea) Known (need (leb (length p.book + length es) book_length) BookFull Booked)
+unfoldable pub book_answer : Bool → List ErrorEntry → Account → Result ReadOutcome ReadError
+book_answer en es p = pick (beq en p.ea) (Ok Known) (need (leb (length p.book + length es) book_length) (Err BookFull) (Ok Booked))
 
 -- the StatusResponse rules, then known, then 12
-abbrev pub status_answer : StatusAnswer → List ErrorEntry → Account → ReadAnswer
-status_answer (status.Refused e) es p = Refused e
-status_answer (status.Status f) es p = book_answer f.en_flag es p
+abbrev pub status_answer : Result StatusFields PowerlinkError → List ErrorEntry → Account → Result ReadOutcome ReadError
+status_answer (Err e) es p = Err (Frame e)
+status_answer (Ok f) es p = book_answer f.en_flag es p
 
 -- 11: "ID not registered"
-abbrev pub account_answer : Said → Option Account → ReadAnswer
-account_answer said none = NotRegistered
+abbrev pub account_answer : Said → Option Account → Result ReadOutcome ReadError
+account_answer said none = Err NotRegistered
 account_answer said (some p) = status_answer said.fields said.entries p
 
 -- "Box order: frame rules, 10, 11, StatusResponse rules (1, 5), known, 12"
-abbrev pub response_answer : Heard → Said → Box → ReadAnswer
-response_answer (heard.Refused e) said b = Refused e
-response_answer heard.Other said b = NotStatusResponse
-response_answer (heard.Status source) said b = account_answer said (b.accounts source.0)
+abbrev pub response_answer : Result (Option NodeId) PowerlinkError → Said → Box → Result ReadOutcome ReadError
+response_answer (Err e) said b = Err (Frame e)
+response_answer (Ok None) said b = Err NotStatusResponse
+response_answer (Ok (Some source)) said b = account_answer said (b.accounts source.0)
 
-unfoldable pub read_answer : List ℕ → List ℕ → Box → ReadAnswer
+unfoldable pub read_answer : List ℕ → List ℕ → Box → Result ReadOutcome ReadError
 read_answer services f b = response_answer (response_in services f) (status_in f) b
 
 -- 01's number for each case; behind 0 what C tells: 0 known, 1 booked
-abbrev pub read_cause : ReadAnswer → Cause
-read_cause Booked = row 0 (1 ∷ [])
-read_cause Known = row 0 (0 ∷ [])
-read_cause (Refused e) = cause_of e
-read_cause NotStatusResponse = row cause.not_status_response []
-read_cause NotRegistered = row cause.not_registered []
-read_cause BookFull = row cause.book_full []
+abbrev pub read_cause : Result ReadOutcome ReadError → Cause
+read_cause (Ok Booked) = row 0 (1 ∷ [])
+read_cause (Ok Known) = row 0 (0 ∷ [])
+read_cause (Err (Frame e)) = cause_of e
+read_cause (Err NotStatusResponse) = row cause.not_status_response []
+read_cause (Err NotRegistered) = row cause.not_registered []
+read_cause (Err BookFull) = row cause.book_full []
 
-abbrev pub when_booked : {A : Type 0} → ReadAnswer → A → A → A
-when_booked Booked a b = a
-when_booked Known a b = b
-when_booked (Refused e) a b = b
-when_booked NotStatusResponse a b = b
-when_booked NotRegistered a b = b
-when_booked BookFull a b = b
+abbrev pub when_booked : {A : Type 0} → Result ReadOutcome ReadError → A → A → A
+when_booked (Ok Booked) a b = a
+when_booked (Ok Known) a b = b
+when_booked (Err (Frame e)) a b = b
+when_booked (Err NotStatusResponse) a b = b
+when_booked (Err NotRegistered) a b = b
+when_booked (Err BookFull) a b = b
 
 -- "the whole batch goes into the book and EA becomes EN": of the batch the entries to book, which may be none
 abbrev pub booked_account : Said → Option Account → Account
 booked_account said none = fresh_account
 booked_account said (some p) = with_ea (en_in said.fields) (with_book (p.book ++ said.entries) p)
 
-abbrev pub after_booking : Heard → Said → Box → Box
-after_booking (heard.Refused e) said b = b
-after_booking heard.Other said b = b
-after_booking (heard.Status source) said b = with_account source.0 (booked_account said (b.accounts source.0)) b
+abbrev pub after_booking : Result (Option NodeId) PowerlinkError → Said → Box → Box
+after_booking (Err e) said b = b
+after_booking (Ok None) said b = b
+after_booking (Ok (Some source)) said b = with_account source.0 (booked_account said (b.accounts source.0)) b
 
 -- only what is booked changes anything
-abbrev pub after_response : List ℕ → ReadAnswer → List ℕ → Box → Box
+abbrev pub after_response : List ℕ → Result ReadOutcome ReadError → List ℕ → Box → Box
 after_response services r f b = when_booked r (after_booking (response_in services f) (status_in f) b) b
 
 -- ---- the flags
 
 -- what every frame of the box to a head carries: "EA, er 0"; or 11
-abbrev pub flags_answer : Option Account → FlagsAnswer
-flags_answer none = flagging.NotRegistered
-flags_answer (some p) = flagging.Flags (record { ea = p.ea; er = false })
+abbrev pub flags_answer : Option Account → Option SoAFlags
+flags_answer none = None
+flags_answer (some p) = Some (record { ea = p.ea; er = false })
 
 -- EA, then ER
-abbrev pub flags_cause : FlagsAnswer → Cause
-flags_cause (flagging.Flags f) = row 0 (as_number f.ea ∷ as_number f.er ∷ [])
-flags_cause flagging.NotRegistered = row cause.not_registered []
+abbrev pub flags_cause : Option SoAFlags → Cause
+flags_cause (Some f) = row 0 (as_number f.ea ∷ as_number f.er ∷ [])
+flags_cause None = row cause.not_registered []
 
 -- ---- request
 
@@ -244,23 +239,23 @@ request_soa i f ea =
 unfoldable pub request_frame : ℕ → RequestFields → Bool → List ℕ
 request_frame i f ea = frame_bytes (request_soa i f ea).eth_header (SoA (request_soa i f ea).frame) []
 
-abbrev pub as_request : WriteAnswer → RequestAnswer
-as_request (write.Written n) = requesting.Written n
-as_request (write.Refused e) = requesting.Refused e
+abbrev pub as_request : Result ℕ PowerlinkError → Result ℕ RequestError
+as_request (Ok n) = Ok n
+as_request (Err e) = Err (requesting.Frame e)
 
 -- the answer of writing these octets
-abbrev pub request_written : List ℕ → List ℕ → RequestAnswer
+abbrev pub request_written : List ℕ → List ℕ → Result ℕ RequestError
 request_written bs target = as_request (write_answer bs target)
 
 -- 11, then 1
-abbrev pub request_answer : ℕ → RequestFields → List ℕ → Option Account → RequestAnswer
-request_answer i f target none = requesting.NotRegistered
+abbrev pub request_answer : ℕ → RequestFields → List ℕ → Option Account → Result ℕ RequestError
+request_answer i f target none = Err requesting.NotRegistered
 request_answer i f target (some p) = request_written (request_frame i f p.ea) target
 
-abbrev pub request_cause : RequestAnswer → Cause
-request_cause (requesting.Written n) = row 0 (n ∷ [])
-request_cause requesting.NotRegistered = row cause.not_registered []
-request_cause (requesting.Refused e) = cause_of e
+abbrev pub request_cause : Result ℕ RequestError → Cause
+request_cause (Ok n) = row 0 (n ∷ [])
+request_cause (Err requesting.NotRegistered) = row cause.not_registered []
+request_cause (Err (requesting.Frame e)) = cause_of e
 
 -- what the target then holds
 abbrev pub after_request : ℕ → RequestFields → List ℕ → Option Account → List ℕ
@@ -270,30 +265,30 @@ after_request i f target (some p) = overwritten (request_frame i f p.ea) target
 -- ---- Take
 
 -- 16: "nothing booked to take"
-abbrev pub take_first : List ErrorEntry → TakeAnswer
-take_first [] = taking.NothingBooked
-take_first (e ∷ es) = taking.Taken e
+abbrev pub take_first : List ErrorEntry → Result ErrorEntry TakeError
+take_first [] = Err taking.NothingBooked
+take_first (e ∷ es) = Ok e
 
 -- 11, then 16; "the oldest booked entry is handed out"
-abbrev pub take_answer : Option Account → TakeAnswer
-take_answer none = taking.NotRegistered
+abbrev pub take_answer : Option Account → Result ErrorEntry TakeError
+take_answer none = Err taking.NotRegistered
 take_answer (some p) = take_first p.book
 
 -- the entry's numbers
-abbrev pub take_cause : TakeAnswer → Cause
-take_cause (taking.Taken e) = row 0 (entry_numbers e)
-take_cause taking.NotRegistered = row cause.not_registered []
-take_cause taking.NothingBooked = row cause.nothing_booked []
+abbrev pub take_cause : Result ErrorEntry TakeError → Cause
+take_cause (Ok e) = row 0 (entry_numbers e)
+take_cause (Err taking.NotRegistered) = row cause.not_registered []
+take_cause (Err taking.NothingBooked) = row cause.nothing_booked []
 
 -- "and its place is used again"
 abbrev pub without_first : Option Account → Account
 without_first none = fresh_account
 without_first (some p) = with_book (drop 1 p.book) p
 
-abbrev pub when_taken : {A : Type 0} → TakeAnswer → A → A → A
-when_taken (taking.Taken e) a b = a
-when_taken taking.NotRegistered a b = b
-when_taken taking.NothingBooked a b = b
+abbrev pub when_taken : {A : Type 0} → Result ErrorEntry TakeError → A → A → A
+when_taken (Ok e) a b = a
+when_taken (Err taking.NotRegistered) a b = b
+when_taken (Err taking.NothingBooked) a b = b
 
-abbrev pub after_take : TakeAnswer → ℕ → Box → Box
+abbrev pub after_take : Result ErrorEntry TakeError → ℕ → Box → Box
 after_take r i b = when_taken r (with_account i (without_first (b.accounts i)) b) b

@@ -3,9 +3,9 @@ ghost use Rattle.std.specs.Prelude.{◌≡◌};
 ghost use Rattle.section.specs.Write.{overwritten};
 ghost use Rattle.collector.specs.Rules.{request_frame, request_written};
 
-use crate::{RequestAnswer, RequestFields};
+use crate::{RequestError, RequestFields};
 use control::soa::{SoAFlags, SoAFrame};
-use section::{WriteAnswer, write_behind};
+use section::write_behind;
 use types::NodeId;
 use types::requested_service::RequestedServiceId;
 
@@ -15,7 +15,7 @@ pub(crate) fn write_request(
     fields: RequestFields,
     ea: bool,
     target: &mut [u8],
-) -> RequestAnswer
+) -> Result<usize, RequestError>
     ensures { (result ≡ request_written (request_frame id.0 fields ea) target.old) × (target.new ≡ overwritten (request_frame id.0 fields ea) target.old) }
 {
     let nmt_state = fields.nmt_state;
@@ -30,7 +30,7 @@ pub(crate) fn write_request(
     let eth_header = soa.eth_header;
     let frame = soa.frame;
     match write_behind(&eth_header.to_bytes(), &frame.to_bytes(), b"", target) {
-        WriteAnswer::Written(n) => RequestAnswer::Written(n),
-        WriteAnswer::Refused(e) => RequestAnswer::Refused(e),
+        Ok(n) => Ok(n),
+        Err(e) => Err(RequestError::Frame(e)),
     }
 }

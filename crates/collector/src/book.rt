@@ -8,7 +8,7 @@ use crate::{BLOCK_LEN, COUNT_AT, Collector, PLACES, START_AT};
 use error_entry::ErrorEntry;
 use records::{get, put};
 use status_response::fields::FRONT_LEN;
-use status_response::walk::{EntryStep, step_from};
+use status_response::walk::step_from;
 
 // Hands out the oldest entry.
 pub(crate) fn take_first(state: &mut Collector, k: usize) -> ErrorEntry
@@ -49,8 +49,8 @@ pub(crate) fn count_entries(payload: &[u8]) -> usize
     let mut at = FRONT_LEN;
     loop {
         match step_from(payload, at) {
-            EntryStep::End => return n,
-            EntryStep::Entry(e, next) => {
+            None => return n,
+            Some((e, next)) => {
                 n += places_for(e);
                 at = next;
             }
@@ -77,8 +77,8 @@ pub(crate) fn push_entries(state: &mut Collector, k: usize, payload: &[u8])
     let mut at = FRONT_LEN;
     loop {
         match step_from(payload, at) {
-            EntryStep::End => return,
-            EntryStep::Entry(e, next) => {
+            None => return,
+            Some((e, next)) => {
                 push_bookable(state, k, e);
                 at = next;
             }

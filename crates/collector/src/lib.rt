@@ -21,7 +21,7 @@ use codec::{PayloadPlace, payload};
 use control::asnd::PAYLOAD_AT;
 use control::soa::SoAFlags;
 use error_entry::ErrorEntry;
-use reading::{Heard, hear, read_status};
+use reading::{hear, read_status};
 use records::ENTRY_LEN;
 use services::table::Services;
 use state::{NODES, count, ea, find, place_node, slot};
@@ -67,6 +67,7 @@ const PLACES: u8 = BOOK_LEN as u8;
 // What Take hands out goes into a journal whose length is saved with the state; after a restart the journal is cut to it.
 pub type Collector = [u8; COLLECTOR_LEN];
 
+@@DECL RegisterAnswer@@
 #[derive(Clone, Copy)]
 pub enum RegisterAnswer {
     Registered,
@@ -76,6 +77,7 @@ pub enum RegisterAnswer {
     Full,
 }
 
+@@DECL ReadAnswer@@
 // What reading a frame comes to: its batch is booked; EN equals EA, so its batch is known; or why nothing is booked.
 #[derive(Clone, Copy)]
 pub enum ReadAnswer {
@@ -96,6 +98,7 @@ pub struct RequestFields {
     pub epl_version: EPLVersion,
 }
 
+@@DECL RequestAnswer@@
 #[derive(Clone, Copy)]
 pub enum RequestAnswer {
     Written(usize),
@@ -103,12 +106,7 @@ pub enum RequestAnswer {
     Refused(PowerlinkError),
 }
 
-#[derive(Clone, Copy)]
-pub enum FlagsAnswer {
-    Flags(SoAFlags),
-    NotRegistered,
-}
-
+@@DECL TakeAnswer@@
 #[derive(Clone, Copy)]
 pub enum TakeAnswer {
     Taken(ErrorEntry),
@@ -124,21 +122,21 @@ pub fn new(state: &mut Collector)
 }
 
 // Gives a node a place, with EA 0 and an empty book.
-pub fn register(state: &mut Collector, id: NodeId) -> RegisterAnswer
+pub fn register(state: &mut Collector, id: NodeId) -> Result<(), RegisterError>
     ensures { Registers id result state.old state.new }
 {
     if !id.is_cn() {
-        return RegisterAnswer::IdOutOfRange;
+        return Err(RegisterError::IdOutOfRange);
     }
     if find(state, id.0) < NODES {
-        return RegisterAnswer::IdRegistered;
+        return Err(RegisterError::IdRegistered);
     }
     let k = find(state, 0);
     if NODES <= k {
-        return RegisterAnswer::Full;
+        return Err(RegisterError::Full);
     }
     place_node(state, k, id.0);
-    RegisterAnswer::Registered
+    Ok(())
 }
 
 // Whether a node is registered.
@@ -150,14 +148,14 @@ pub fn is_registered(state: &Collector, id: NodeId) -> bool
 
 // Reads a frame: the batch of a registered node's StatusResponse goes into its book, whole but for status entries, unless
 // it is there already.
-pub fn read(state: &mut Collector, services: &Services, buffer: &[u8]) -> ReadAnswer
+pub fn read(state: &mut Collector, services: &Services, buffer: &[u8]) -> Result<ReadOutcome, ReadError>
     ensures { Reads services.now buffer.now result state.old state.new }
 {
     match hear(services, buffer) {
-        Heard::Refused(e) => ReadAnswer::Refused(e),
-        Heard::Other => ReadAnswer::NotStatusResponse,
+        Err(e) => Err(ReadError::Frame(e)),
+        Ok(None) => Err(ReadError::NotStatusResponse),
         // The payload from octet 4 of the section on, untrimmed: an answer without entries ends in zeros.
-        Heard::Status(source) => {
+        Ok(Some(source)) => {
             let place = PayloadPlace {
                 start: PAYLOAD_AT,
                 len: buffer.len(),
@@ -169,14 +167,14 @@ pub fn read(state: &mut Collector, services: &Services, buffer: &[u8]) -> ReadAn
 
 // What every frame of the managing node to a registered node has to carry: EA in a PReq to it, EA and ER in an SoA with it as
 // target. Any other EA can close a batch that is not booked.
-pub fn flags(state: &Collector, id: NodeId) -> FlagsAnswer
+pub fn flags(state: &Collector, id: NodeId) -> Option<SoAFlags>
     ensures { Flags id result state.now }
 {
     let k = slot(state, id.0);
     if NODES <= k {
-        return FlagsAnswer::NotRegistered;
+        return None;
     }
-    FlagsAnswer::Flags(SoAFlags {
+    Some(SoAFlags {
         ea: ea(state, k),
         er: false,
     })
@@ -188,26 +186,26 @@ pub fn request(
     id: NodeId,
     fields: RequestFields,
     target: &mut [u8],
-) -> RequestAnswer
+) -> Result<usize, RequestError>
     ensures { Requests id fields result state.now target.old target.new }
 {
     let k = slot(state, id.0);
     if NODES <= k {
-        return RequestAnswer::NotRegistered;
+        return Err(RequestError::NotRegistered);
     }
     write_request(id, fields, ea(state, k), target)
 }
 
 // Hands out the oldest entry of a node's book; its place is used again.
-pub fn take(state: &mut Collector, id: NodeId) -> TakeAnswer
+pub fn take(state: &mut Collector, id: NodeId) -> Result<ErrorEntry, TakeError>
     ensures { Takes id result state.old state.new }
 {
     let k = slot(state, id.0);
     if NODES <= k {
-        return TakeAnswer::NotRegistered;
+        return Err(TakeError::NotRegistered);
     }
     if count(state, k) == 0 {
-        return TakeAnswer::NothingBooked;
+        return Err(TakeError::NothingBooked);
     }
-    TakeAnswer::Taken(take_first(state, k))
+    Ok(take_first(state, k))
 }

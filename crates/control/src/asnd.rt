@@ -4,7 +4,7 @@ ghost use Rattle.types.specs.Addresses.{multicast_asnd};
 ghost use Rattle.section.specs.Write.{Serializes};
 ghost use Rattle.control.specs.ASnd.{new_asnd, asnd_bytes, asnd_section, served};
 
-use section::{WriteAnswer, fits, write_behind};
+use section::{fits, write_behind};
 use services::ServiceId;
 use services::table::{Services, contains};
 use types::basic::{ETH_LEN, EthernetHeader, MacAddress};
@@ -80,7 +80,7 @@ impl ASndFrame {
     }
 
     // Writes the section with its payload, if it fits and the table holds its service.
-    pub fn serialize(self, services: &Services, payload: &[u8], target: &mut [u8]) -> WriteAnswer
+    pub fn serialize(self, services: &Services, payload: &[u8], target: &mut [u8]) -> Result<usize, PowerlinkError>
         ensures { Serializes (served services.now self.service_id (asnd_section self payload.now)) result target.old target.new }
     {
         self.serialize_behind(services, b"", payload, target)
@@ -93,7 +93,7 @@ impl ASndFrame {
         front: &[u8],
         payload: &[u8],
         target: &mut [u8],
-    ) -> WriteAnswer
+    ) -> Result<usize, PowerlinkError>
         ensures { Serializes (served services.now self.service_id (front.now ++ asnd_section self payload.now)) result target.old target.new }
     {
         let service = self.service_id.0;
@@ -101,8 +101,8 @@ impl ASndFrame {
             return write_behind(front, &self.to_bytes(), payload, target);
         }
         if !fits(front.len(), FIELDS_LEN + payload.len(), target.len()) {
-            return WriteAnswer::Refused(PowerlinkError::BufferTooShort);
+            return Err(PowerlinkError::BufferTooShort);
         }
-        WriteAnswer::Refused(PowerlinkError::InvalidServiceId(service))
+        Err(PowerlinkError::InvalidServiceId(service))
     }
 }

@@ -4,7 +4,7 @@ ghost use Rattle.section.specs.Write.{Writes};
 ghost use Rattle.control.specs.SoA.{new_soa, soa_bytes, soa_section};
 
 use octets::slices::put;
-use section::{WriteAnswer, flag, write_section};
+use section::{flag, write_section};
 use types::basic::{EthernetHeader, MacAddress};
 use types::message_type::MessageType;
 use types::requested_service::RequestedServiceId;
@@ -12,6 +12,7 @@ use types::states::NmtState;
 use types::{
     C_ADR_BROADCAST_NODE_ID, C_ADR_MN_DEF_NODE_ID, C_DLL_MULTICAST_SOA, EPLVersion, NodeId,
 };
+use types::hal::PowerlinkError;
 
 // How many octets the fields have.
 pub const FIELDS_LEN: usize = 9;
@@ -94,7 +95,7 @@ impl SoAFrame {
     }
 
     // Writes the section, if it fits.
-    pub fn serialize(self, target: &mut [u8]) -> WriteAnswer
+    pub fn serialize(self, target: &mut [u8]) -> Result<usize, PowerlinkError>
         ensures { Writes (soa_section self) result target.old target.new }
     {
         write_section(&self.to_bytes(), b"", target)

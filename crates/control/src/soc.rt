@@ -6,11 +6,12 @@ ghost use Rattle.control.specs.SoC.{new_soc, soc_bytes, soc_section};
 
 use octets::little_endian::{put_u32_le, put_u64_le};
 use octets::slices::put;
-use section::{WriteAnswer, flag, write_section};
+use section::{flag, write_section};
 use types::basic::{EthernetHeader, MacAddress};
 use types::common::{NetTime, RelativeTime};
 use types::message_type::MessageType;
 use types::{C_ADR_BROADCAST_NODE_ID, C_ADR_MN_DEF_NODE_ID, C_DLL_MULTICAST_SOC, NodeId};
+use types::hal::PowerlinkError;
 
 // How many octets the fields have.
 pub const FIELDS_LEN: usize = 22;
@@ -84,7 +85,7 @@ impl SocFrame {
     }
 
     // Writes the section, if it fits.
-    pub fn serialize(self, target: &mut [u8]) -> WriteAnswer
+    pub fn serialize(self, target: &mut [u8]) -> Result<usize, PowerlinkError>
         ensures { Writes (soc_section self) result target.old target.new }
     {
         write_section(&self.to_bytes(), b"", target)

@@ -2,7 +2,7 @@
 use crate::entries::{entry, same};
 use crate::sums::plus;
 use crate::{Head, Scene, World};
-use collector::{Collector, TakeAnswer};
+use collector::Collector;
 use types::NodeId;
 
 // More than a book holds.
@@ -16,7 +16,7 @@ fn booked(head: Head, at_box: Collector) -> u64 {
     let mut copy = at_box;
     let mut n = head.taken;
     for _ in 0..TAKES {
-        let TakeAnswer::Taken(e) = collector::take(&mut copy, NodeId(head.id)) else {
+        let Ok(e) = collector::take(&mut copy, NodeId(head.id)) else {
             return n;
         };
         if !same(e, entry(head.number, n)) {

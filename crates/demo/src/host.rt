@@ -5,7 +5,6 @@ use crate::fields::{EPL_VERSION, station};
 use crate::house::SERVICE;
 use crate::outcome::of_writing;
 use crate::target::{FILL, ROOM, target_in};
-use collector::FlagsAnswer;
 use control::asnd::ASndFrame;
 use control::soa::{SoAFlags, SoAFrame};
 use frame::PowerlinkFrame;
@@ -79,8 +78,8 @@ fn ident_request(w: World, id: u8, flags: SoAFlags) -> World {
 // What the box says of a head; nothing is told to one that is not registered.
 fn flags_for(w: World, id: u8) -> SoAFlags {
     match collector::flags(&w.at_box, NodeId(id)) {
-        FlagsAnswer::Flags(flags) => flags,
-        FlagsAnswer::NotRegistered => SoAFlags {
+        Some(flags) => flags,
+        None => SoAFlags {
             ea: false,
             er: false,
         },

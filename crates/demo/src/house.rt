@@ -1,7 +1,7 @@
 // The tables of services that the heads are under (02, CR 1): a house's, which has service IDs of its own, or the twelve of
 // DS 301.
 use services::ds301::DS301;
-use services::load::{LoadAnswer, load};
+use services::load::load;
 use services::table::Services;
 
 // The house's table as it is loaded: the mark `PLS`, version 1, then StatusResponse and three services that DS 301 does not
@@ -30,7 +30,7 @@ pub fn table_of(number: usize) -> Services {
 }
 
 // Loads a table of the lines to check: 1 to 8 are refused, any other is the house's.
-pub fn load_numbered(services: &mut Services, n: u64) -> LoadAnswer {
+pub fn load_numbered(services: &mut Services, n: u64) -> Result<(), LoadError> {
     match n {
         1 => load(b"PLS\x01", services),
         2 => load(b"PLB\x01\x00\x02", services),

@@ -1,6 +1,6 @@
 // The journal of what the box hands out (01, "Journal"): a record for each entry, in a file where one is named.
 use error_entry::ErrorEntry;
-use journal_records::{JOURNAL_RECORD_LEN, JournalAnswer};
+use journal_records::{JOURNAL_RECORD_LEN, JournalError};
 use std::fs::File;
 use std::io;
 use std::io::{ErrorKind, Write};
@@ -87,9 +87,9 @@ pub fn record(
 ) -> Option<Journal> {
     let mut octets = [0u8; JOURNAL_RECORD_LEN];
     match journal_records::write(NodeId(id), e, &mut octets) {
-        JournalAnswer::Written(_) => Some(keep(out, journal, &octets)),
-        JournalAnswer::BufferTooShort => None,
-        JournalAnswer::RecordInvalid => None,
+        Ok(_) => Some(keep(out, journal, &octets)),
+        Err(JournalError::BufferTooShort) => None,
+        Err(JournalError::RecordInvalid) => None,
     }
 }
 

@@ -1,8 +1,8 @@
 // What a call came to, as a number: the cause of 01 or 02 where it was refused, the length where a frame was written.
-use collector::{RegisterAnswer, RequestAnswer, TakeAnswer};
-use reporter::{NewAnswer, RaiseAnswer};
-use section::WriteAnswer;
-use services::load::LoadAnswer;
+use collector::{RegisterError, RequestError, TakeError};
+use reporter::{NewError, RaiseError};
+use services::load::LoadError;
+use types::hal::PowerlinkError;
 
 // The call did what it is for: raised, booked, closed, registered, handed out, loaded.
 pub const DONE: u64 = 900;
@@ -19,35 +19,35 @@ pub const IGNORED: u64 = 903;
 // More than the largest cause, and less than the shortest frame.
 pub const CAUSES: usize = 24;
 
-pub fn of_new(answer: NewAnswer) -> u64 {
+pub fn of_new(answer: Result<(), NewError>) -> u64 {
     match answer {
-        NewAnswer::Made => DONE,
-        NewAnswer::IdOutOfRange => 13,
+        Ok(()) => DONE,
+        Err(NewError::IdOutOfRange) => 13,
     }
 }
 
-pub fn of_raise(answer: RaiseAnswer) -> u64 {
+pub fn of_raise(answer: Result<(), RaiseError>) -> u64 {
     match answer {
-        RaiseAnswer::Raised => DONE,
-        RaiseAnswer::EntryInvalid => 8,
-        RaiseAnswer::StatusEntry => 23,
-        RaiseAnswer::QueueFull => 9,
+        Ok(()) => DONE,
+        Err(RaiseError::EntryInvalid) => 8,
+        Err(RaiseError::StatusEntry) => 23,
+        Err(RaiseError::QueueFull) => 9,
     }
 }
 
-pub fn of_writing(answer: WriteAnswer) -> u64 {
+pub fn of_writing(answer: Result<usize, PowerlinkError>) -> u64 {
     match answer {
-        WriteAnswer::Written(len) => len as u64,
-        WriteAnswer::Refused(e) => e.number() as u64,
+        Ok(len) => len as u64,
+        Err(e) => e.number() as u64,
     }
 }
 
-pub fn of_load(answer: LoadAnswer) -> u64 {
+pub fn of_load(answer: Result<(), LoadError>) -> u64 {
     match answer {
-        LoadAnswer::Loaded => DONE,
-        LoadAnswer::NotATable => 20,
-        LoadAnswer::NotAscending => 21,
-        LoadAnswer::WithoutStatusResponse => 22,
+        Ok(()) => DONE,
+        Err(LoadError::NotATable) => 20,
+        Err(LoadError::NotAscending) => 21,
+        Err(LoadError::WithoutStatusResponse) => 22,
     }
 }
 
@@ -60,12 +60,12 @@ pub fn of_head_reading(answer: reporter::ReadAnswer) -> u64 {
     }
 }
 
-pub fn of_register(answer: RegisterAnswer) -> u64 {
+pub fn of_register(answer: Result<(), RegisterError>) -> u64 {
     match answer {
-        RegisterAnswer::Registered => DONE,
-        RegisterAnswer::IdOutOfRange => 13,
-        RegisterAnswer::IdRegistered => 14,
-        RegisterAnswer::Full => 15,
+        Ok(()) => DONE,
+        Err(RegisterError::IdOutOfRange) => 13,
+        Err(RegisterError::IdRegistered) => 14,
+        Err(RegisterError::Full) => 15,
     }
 }
 
@@ -80,18 +80,18 @@ pub fn of_box_reading(answer: collector::ReadAnswer) -> u64 {
     }
 }
 
-pub fn of_request(answer: RequestAnswer) -> u64 {
+pub fn of_request(answer: Result<usize, RequestError>) -> u64 {
     match answer {
-        RequestAnswer::Written(len) => len as u64,
-        RequestAnswer::Refused(e) => e.number() as u64,
-        RequestAnswer::NotRegistered => 11,
+        Ok(len) => len as u64,
+        Err(RequestError::Frame(e)) => e.number() as u64,
+        Err(RequestError::NotRegistered) => 11,
     }
 }
 
-pub fn of_take(answer: TakeAnswer) -> u64 {
+pub fn of_take(answer: Result<ErrorEntry, TakeError>) -> u64 {
     match answer {
-        TakeAnswer::Taken(_) => DONE,
-        TakeAnswer::NotRegistered => 11,
-        TakeAnswer::NothingBooked => 16,
+        Ok(_) => DONE,
+        Err(TakeError::NotRegistered) => 11,
+        Err(TakeError::NothingBooked) => 16,
     }
 }

@@ -8,7 +8,6 @@ use crate::outcome::{DONE, of_take};
 use crate::sums::plus;
 use crate::target::is_clean;
 use crate::{World, calls, expected, foreign, host, journal, status};
-use collector::TakeAnswer;
 use error_entry::ErrorEntry;
 use types::NodeId;
 
@@ -131,7 +130,7 @@ pub fn take(out: &Out<'_, impl Eprint>, mut w: World) -> World {
     let answer = collector::take(&mut w.at_box, NodeId(head.id));
     w.got = of_take(answer);
     let after = w.comes_to(expected::taking(head));
-    let TakeAnswer::Taken(e) = answer else {
+    let Ok(e) = answer else {
         return after;
     };
     recorded(

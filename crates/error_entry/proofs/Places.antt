@@ -9,9 +9,10 @@ use lib.ListN.{length, take, drop, set, length-drop, take-append-drop, drop_of_l
 use lib.Seq.{sets, take_all, take-set-le, drop-set-add}
 use borrow.Author.Tests.{le-leb}
 use borrow.Rule.Slice.PartMut.{mid_of, put_mid}
+use Rattle.std.specs.Prelude.{Result}
 use Rattle.octets.proofs.Sets.{sets_front}
 use Rattle.section.specs.Write.{overwritten, Writes}
-use Rattle.section.specs.declared.WriteAnswer.{WriteAnswer}
+use Rattle.types.specs.declared.hal.PowerlinkError.{PowerlinkError}
 
 sets_behind : (at i : ℕ) (vs t : List ℕ) → sets t (at + i) vs ≡ take at t ++ sets (drop at t) i vs
 sets_behind at i [] t = sym (take-append-drop at t)
@@ -27,6 +28,6 @@ sets_rest at i t vs h =
     rw (rest, none, append-nil, sets_behind at i vs t)
 
 -- octets that fit are written
-pub writes_sets : (bs t : List ℕ) (r : WriteAnswer) (after : List ℕ) → Writes bs r t after → length bs ≤ length t → after ≡ sets t 0 bs
+pub writes_sets : (bs t : List ℕ) (r : Result ℕ PowerlinkError) (after : List ℕ) → Writes bs r t after → length bs ≤ length t → after ≡ sets t 0 bs
 unfolding overwritten
 writes_sets bs t r after w h = w.holds ∙ rw (le-leb (length bs) (length t) h) (sym (sets_front t bs h))

@@ -1,6 +1,6 @@
 -- The 20 octets of an error entry (EPSG DS 301, Tables 94 and 96).
 -- Assumes nothing.
-use Rattle.std.specs.Prelude.{ℕ, ◌+◌, ◌*◌, ◌/◌, ◌%◌, false, ◌≡◌, List, [], ◌++◌, length, leb}
+use Rattle.std.specs.Prelude.{ℕ, ◌+◌, ◌*◌, ◌/◌, ◌%◌, false, ◌≡◌, List, [], ◌++◌, length, leb, Result, Ok, Err}
 use Rattle.octets.specs.Numbers.{bit, le_at, le_bytes}
 use Rattle.types.specs.CauseNumbers.{too_short}
 use Rattle.types.specs.Causes.{Cause, row, cause_of}
@@ -12,8 +12,7 @@ use Rattle.section.specs.Write.{at_bit}
 use Rattle.error_entry.specs.Values.{entry_numbers}
 use Rattle.error_entry.specs.declared.EntryType.{EntryType}
 use Rattle.error_entry.specs.declared.ErrorEntry.{ErrorEntry}
-use Rattle.error_entry.specs.declared.ErrorEntryAnswer.{ErrorEntryAnswer}
-use Rattle.error_entry.specs.declared.ErrorEntryAnswer.TheVariants.{Entry, Refused}
+use Rattle.types.specs.declared.hal.PowerlinkError.{PowerlinkError}
 
 -- the octets of an entry
 abbrev pub entry_length : ℕ
@@ -66,20 +65,20 @@ terminator =
     }
 
 -- all octets are needed
-unfoldable pub read_entry : List ℕ → ErrorEntryAnswer
-read_entry s = need (leb entry_length (length s)) (Refused BufferTooShort) (Entry (entry_of s))
+unfoldable pub read_entry : List ℕ → Result ErrorEntry PowerlinkError
+read_entry s = need (leb entry_length (length s)) (Err BufferTooShort) (Ok (entry_of s))
 
 -- 01's number and values for each case: 0 with the entry's numbers, or the cause
-abbrev pub entry_cause : ErrorEntryAnswer → Cause
-entry_cause (Entry e) = row 0 (entry_numbers e)
-entry_cause (Refused e) = cause_of e
+abbrev pub entry_cause : Result ErrorEntry PowerlinkError → Cause
+entry_cause (Ok e) = row 0 (entry_numbers e)
+entry_cause (Err e) = cause_of e
 
 -- r is what reading an entry from the octets s answers, with 01's number and values
-pub record ReadsEntry (s : List ℕ) (r : ErrorEntryAnswer) : Type 0 where
+pub record ReadsEntry (s : List ℕ) (r : Result ErrorEntry PowerlinkError) : Type 0 where
   pub answer : r ≡ read_entry s
   pub cause : entry_cause r ≡ need (leb entry_length (length s)) (row too_short []) (row 0 (entry_numbers (entry_of s)))
 
 -- the entry that was read, or a terminator
-abbrev pub or_terminator : ErrorEntryAnswer → ErrorEntry
-or_terminator (Entry e) = e
-or_terminator (Refused e) = terminator
+abbrev pub or_terminator : Result ErrorEntry PowerlinkError → ErrorEntry
+or_terminator (Ok e) = e
+or_terminator (Err e) = terminator

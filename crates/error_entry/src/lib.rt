@@ -10,7 +10,6 @@ ghost use Rattle.section.specs.Write.{Writes};
 ghost use Rattle.error_entry.specs.Entry.{entry_length, entry_type_of, type_number, entry_of, entry_bytes, or_terminator, ReadsEntry};
 
 use octets::little_endian::{put_u16_le, put_u32_le, put_u64_le};
-use section::WriteAnswer;
 use types::common::NetTime;
 use types::error_mode::ErrorEntryMode;
 use types::hal::PowerlinkError;
@@ -43,20 +42,14 @@ pub struct ErrorEntry {
     pub additional_information: u64,
 }
 
-#[derive(Clone, Copy)]
-pub enum ErrorEntryAnswer {
-    Entry(ErrorEntry),
-    Refused(PowerlinkError),
-}
-
-impl ErrorEntryAnswer {
+impl Result<ErrorEntry, PowerlinkError> {
     // The entry, or a terminator where there is none: for a caller that counts its entries itself.
     pub fn or_terminator(self) -> ErrorEntry
         ensures { result ≡ or_terminator self }
     {
         match self {
-            ErrorEntryAnswer::Entry(e) => e,
-            ErrorEntryAnswer::Refused(_) => ErrorEntry {
+            Ok(e) => e,
+            Err(_) => ErrorEntry {
                 entry_type: EntryType {
                     is_status_entry: false,
                     send_to_queue: false,
@@ -112,24 +105,24 @@ fn mode_bits(mode: ErrorEntryMode) -> u16
 
 impl ErrorEntry {
     // The entry that the first 20 octets are.
-    pub fn deserialize(buffer: &[u8]) -> ErrorEntryAnswer
+    pub fn deserialize(buffer: &[u8]) -> Result<ErrorEntry, PowerlinkError>
         ensures { ReadsEntry buffer.now result }
     {
         if buffer.len() < ENTRY_LEN {
-            return ErrorEntryAnswer::Refused(PowerlinkError::BufferTooShort);
+            return Err(PowerlinkError::BufferTooShort);
         }
-        ErrorEntryAnswer::Entry(entry_in(buffer))
+        Ok(entry_in(buffer))
     }
 
     // Writes the 20 octets, if they fit.
-    pub fn serialize(self, target: &mut [u8]) -> WriteAnswer
+    pub fn serialize(self, target: &mut [u8]) -> Result<usize, PowerlinkError>
         ensures { Writes (entry_bytes self) result target.old target.new }
     {
         if target.len() < ENTRY_LEN {
-            return WriteAnswer::Refused(PowerlinkError::BufferTooShort);
+            return Err(PowerlinkError::BufferTooShort);
         }
         self.put(target);
-        WriteAnswer::Written(ENTRY_LEN)
+        Ok(ENTRY_LEN)
     }
 
     // Writes the 20 octets to the front of `target`, each field straight to its place, where the length was tested.

@@ -13,8 +13,9 @@ use control::soa::SoAFrame;
 use control::soc::SocFrame;
 use poll::preq::PReqFrame;
 use poll::pres::PResFrame;
-use section::{WriteAnswer, write_behind};
+use section::write_behind;
 use services::table::Services;
+use types::hal::PowerlinkError;
 
 #[derive(Clone, Copy)]
 pub enum PowerlinkFrame {
@@ -25,86 +26,55 @@ pub enum PowerlinkFrame {
     ASnd(ASndFrame),
 }
 
-// A frame asked for as one kind: that kind, or the frame as it was.
-#[derive(Clone, Copy)]
-pub enum IntoSoc {
-    Soc(SocFrame),
-    Other(PowerlinkFrame),
-}
-
-#[derive(Clone, Copy)]
-pub enum IntoPReq {
-    PReq(PReqFrame),
-    Other(PowerlinkFrame),
-}
-
-#[derive(Clone, Copy)]
-pub enum IntoPRes {
-    PRes(PResFrame),
-    Other(PowerlinkFrame),
-}
-
-#[derive(Clone, Copy)]
-pub enum IntoSoA {
-    SoA(SoAFrame),
-    Other(PowerlinkFrame),
-}
-
-#[derive(Clone, Copy)]
-pub enum IntoASnd {
-    ASnd(ASndFrame),
-    Other(PowerlinkFrame),
-}
-
 impl PowerlinkFrame {
-    pub fn into_soc(self) -> IntoSoc
+    pub fn into_soc(self) -> Result<SocFrame, PowerlinkFrame>
         ensures { result ≡ into_soc self }
     {
         let PowerlinkFrame::Soc(f) = self else {
-            return IntoSoc::Other(self);
+            return Err(self);
         };
-        IntoSoc::Soc(f)
+        Ok(f)
     }
 
-    pub fn into_preq(self) -> IntoPReq
+    pub fn into_preq(self) -> Result<PReqFrame, PowerlinkFrame>
         ensures { result ≡ into_preq self }
     {
         let PowerlinkFrame::PReq(f) = self else {
-            return IntoPReq::Other(self);
+            return Err(self);
         };
-        IntoPReq::PReq(f)
+        Ok(f)
     }
 
-    pub fn into_pres(self) -> IntoPRes
+    pub fn into_pres(self) -> Result<PResFrame, PowerlinkFrame>
         ensures { result ≡ into_pres self }
     {
         let PowerlinkFrame::PRes(f) = self else {
-            return IntoPRes::Other(self);
+            return Err(self);
         };
-        IntoPRes::PRes(f)
+        Ok(f)
     }
 
-    pub fn into_soa(self) -> IntoSoA
+    pub fn into_soa(self) -> Result<SoAFrame, PowerlinkFrame>
         ensures { result ≡ into_soa self }
     {
         let PowerlinkFrame::SoA(f) = self else {
-            return IntoSoA::Other(self);
+            return Err(self);
         };
-        IntoSoA::SoA(f)
+        Ok(f)
     }
 
-    pub fn into_asnd(self) -> IntoASnd
+    pub fn into_asnd(self) -> Result<ASndFrame, PowerlinkFrame>
         ensures { result ≡ into_asnd self }
     {
         let PowerlinkFrame::ASnd(f) = self else {
-            return IntoASnd::Other(self);
+            return Err(self);
         };
-        IntoASnd::ASnd(f)
+        Ok(f)
     }
 
     // Writes the section with its payload, if it fits and the table holds an ASnd's service. SoC and SoA have no payload: what
     // is lent as one is left aside.
-    pub fn serialize(self, services: &Services, payload: &[u8], target: &mut [u8]) -> WriteAnswer
+    pub fn serialize(self, services: &Services, payload: &[u8], target: &mut [u8]) -> Result<usize, PowerlinkError>
         ensures { Serializes (under_table services.now self (frame_section self payload.now)) result target.old target.new }
     {
         self.serialize_behind(services, b"", payload, target)
@@ -117,7 +87,7 @@ impl PowerlinkFrame {
         front: &[u8],
         payload: &[u8],
         target: &mut [u8],
-    ) -> WriteAnswer
+    ) -> Result<usize, PowerlinkError>
         ensures { Serializes (under_table services.now self (front.now ++ frame_section self payload.now)) result target.old target.new }
     {
         match self {

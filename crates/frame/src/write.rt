@@ -4,14 +4,15 @@ ghost use Rattle.types.specs.Header.{eth_bytes};
 ghost use Rattle.frame.specs.Write.{pl_header_bytes, frame_bytes, under_table};
 
 use crate::PowerlinkFrame;
-use section::{WriteAnswer, write};
+use section::write;
 use services::table::Services;
 use types::NodeId;
 use types::basic::EthernetHeader;
 use types::message_type::MessageType;
+use types::hal::PowerlinkError;
 
 // Writes the 14 octets of an Ethernet header, if they fit.
-pub fn serialize_eth_header(header: EthernetHeader, target: &mut [u8]) -> WriteAnswer
+pub fn serialize_eth_header(header: EthernetHeader, target: &mut [u8]) -> Result<usize, PowerlinkError>
     ensures { Writes (eth_bytes header) result target.old target.new }
 {
     write(&header.to_bytes(), target)
@@ -23,7 +24,7 @@ pub fn serialize_pl_header(
     destination: NodeId,
     source: NodeId,
     target: &mut [u8],
-) -> WriteAnswer
+) -> Result<usize, PowerlinkError>
     ensures { Writes (pl_header_bytes message_type destination source) result target.old target.new }
 {
     let octets = [message_type.to_u8(), destination.0, source.0];
@@ -37,7 +38,7 @@ pub fn serialize_frame(
     frame: PowerlinkFrame,
     payload: &[u8],
     target: &mut [u8],
-) -> WriteAnswer
+) -> Result<usize, PowerlinkError>
     ensures { Serializes (under_table services.now frame (frame_bytes eth_header frame payload.now)) result target.old target.new }
 {
     frame.serialize_behind(services, &eth_header.to_bytes(), payload, target)

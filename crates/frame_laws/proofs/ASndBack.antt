@@ -9,6 +9,7 @@ use native.Mathlib.Omega.{arith}
 use lib.ListN.{length, take, drop}
 use lib.Seq.{take_at}
 use borrow.Author.Tests.{le-leb, eq-eqb, ne_eqb}
+use Rattle.std.specs.Prelude.{Ok}
 use Rattle.octets.specs.Trim.{trimmed_length}
 use Rattle.octets.proofs.Order.{le_or_lt}
 use Rattle.octets.proofs.Trim.{trimmed_padded}
@@ -21,10 +22,9 @@ use Rattle.section.proofs.Sections.{padded_length}
 use Rattle.frame.specs.declared.PowerlinkFrame.TheVariants.{ASnd}
 use Rattle.codec.specs.ASnd.{read_asnd, asnd_payload_length}
 use Rattle.codec.specs.Frame.{kind_in, read_section}
-use Rattle.codec.specs.declared.FrameAnswer.TheVariants.{Frame}
 
 pub asnd_back : (services : List ℕ) (f : ASndFrame) (p : List ℕ) → holds services f.service_id.0 ≡ true
-    → read_section services (asnd_section f p) ≡ Frame (ASnd f)
+    → read_section services (asnd_section f p) ≡ Ok (ASnd f)
 unfolding message_of kind_in read_section read_asnd asnd_section padded
 asnd_back services f p held = rw (le-leb 4 (length (asnd_section f p)) (omega arith), held)
 

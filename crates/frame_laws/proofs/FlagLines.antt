@@ -4,6 +4,7 @@ use Prim.Native.Nat.{ℕ}
 use mathlib.Core.Path.{◌≡◌}
 use mathlib.Core.List.{List}
 use lib.ListN.{get_or}
+use Rattle.std.specs.Prelude.{Ok}
 use Rattle.types.specs.PollFlags.{priority_in, poll_octet, priority_at, requests_at}
 use Rattle.types.specs.declared.poll_flags.PRFlag.{PRFlag}
 use Rattle.types.specs.declared.poll_flags.RSFlag.{RSFlag}
@@ -13,10 +14,8 @@ use Rattle.frame.specs.declared.PowerlinkFrame.{PowerlinkFrame}
 use Rattle.frame.specs.declared.PowerlinkFrame.TheVariants.{Soc, PReq, PRes, SoA, ASnd}
 use Rattle.codec.specs.Frame.{read_section}
 use Rattle.codec.specs.PRes.{pres_flags_of}
-use Rattle.codec.specs.declared.FrameAnswer.TheVariants.{Frame}
 use Rattle.status_response.specs.Fields.{head_bytes, read_fields}
 use Rattle.status_response.specs.Steps.{status_bytes}
-use Rattle.status_response.specs.declared.fields.StatusAnswer.TheVariants.{Status}
 use Rattle.status_response.specs.declared.fields.StatusFields.{StatusFields}
 use Rattle.frame_laws.specs.FlagLines.{AllSet, all_set_octet, pres_poll_at, status_poll_at, FlagLineHolds}
 use Rattle.frame_laws.proofs.Passed.{by_tests}
@@ -38,7 +37,7 @@ OfPRes s (PRes f) = get_or s pres_poll_at 0 ≡ all_set_octet → AllSet f.flags
 OfPRes s (SoA f) = Unit
 OfPRes s (ASnd f) = Unit
 
-pres_read_lem : (services s : List ℕ) (f : PowerlinkFrame) → read_section services s ≡ Frame f → OfPRes s f
+pres_read_lem : (services s : List ℕ) (f : PowerlinkFrame) → read_section services s ≡ Ok f → OfPRes s f
 unfolding pres_flags_of
 pres_read_lem services s =
     by_tests services s (OfPRes s)
@@ -50,7 +49,7 @@ pres_read_lem services s =
       asnd = λ _ _ _. tt;
     })
 
-status_read_lem : (s : List ℕ) (f : StatusFields) → read_fields s ≡ Status f → get_or s status_poll_at 0 ≡ all_set_octet → AllSet f.pr f.rs
+status_read_lem : (s : List ℕ) (f : StatusFields) → read_fields s ≡ Ok f → get_or s status_poll_at 0 ≡ all_set_octet → AllSet f.pr f.rs
 status_read_lem s f e q = rw (status_passed s f e).fields (read (get_or s status_poll_at 0) q)
 
 pub flag_line_holds : FlagLineHolds

@@ -8,6 +8,7 @@ use lib.Dec.{leb, ltb, eqb}
 use lib.ListN.{length, get_or, take, drop, take-append-drop, length-drop}
 use lib.Seq.{get_or-drop, drop-drop}
 use borrow.Author.Tests.{leb-true}
+use Rattle.std.specs.Prelude.{Ok}
 use Rattle.octets.specs.Numbers.{be, be_at, be_bytes}
 use Rattle.types.specs.Header.{eth_header_of, eth_bytes, ethertype_epl}
 use Rattle.types.specs.declared.hal.PowerlinkError.TheVariants.{BufferTooShort, InvalidEthernetFrame, InvalidPlFrame}
@@ -15,7 +16,6 @@ use Rattle.frame.specs.Write.{frame_bytes}
 use Rattle.frame.specs.declared.PowerlinkFrame.{PowerlinkFrame}
 use Rattle.frame.specs.declared.PowerlinkFrame.TheVariants.{Soc, PReq, PRes, SoA, ASnd}
 use Rattle.codec.specs.Frame.{kind_of, read_section, read_frame, place_in_frame, deserialize_frame, payload_of}
-use Rattle.codec.specs.declared.FrameAnswer.TheVariants.{Frame}
 use Rattle.frame_laws.specs.WriteBack.{Octets, Plain, payload_in}
 use Rattle.frame_laws.proofs.HeldUnder.{Held}
 use Rattle.frame_laws.proofs.Elements.{elements, elements_are, joined}
@@ -52,14 +52,14 @@ module _ (bytes : List ℕ) where
 
 module _ (services bytes : List ℕ) (f : PowerlinkFrame) where
   -- a frame that is read has a header, and the rest is read as its section
-  section_read : read_frame services bytes ≡ Frame f → (14 ≤ length bytes) × (read_section services (drop 14 bytes) ≡ Frame f)
+  section_read : read_frame services bytes ≡ Ok f → (14 ≤ length bytes) × (read_section services (drop 14 bytes) ≡ Ok f)
   unfolding kind_of read_frame read_section
   section_read e =
       let r = kind_passed services (leb 14 (length bytes)) BufferTooShort _ (drop 14 bytes) f e in
       let t = kind_passed services (eqb (be_at 2 12 bytes) ethertype_epl) InvalidEthernetFrame _ (drop 14 bytes) f r.1 in
       (leb-true 14 (length bytes) r.0, (kind_passed services (ltb 14 (length bytes)) InvalidPlFrame _ (drop 14 bytes) f t.1).1)
 
-  pub frame_again : Octets bytes → (deserialize_frame services bytes).answer ≡ Frame f → Plain f (drop 14 bytes)
+  pub frame_again : Octets bytes → (deserialize_frame services bytes).answer ≡ Ok f → Plain f (drop 14 bytes)
       → frame_bytes (deserialize_frame services bytes).eth_header f (payload_of (deserialize_frame services bytes).payload_place bytes) ≡ bytes
   unfolding deserialize_frame frame_bytes
   frame_again o e c =
@@ -72,7 +72,7 @@ module _ (services bytes : List ℕ) (f : PowerlinkFrame) where
         take-append-drop 14 bytes,
       )
 
-  pub frame_held : (deserialize_frame services bytes).answer ≡ Frame f → Held services f
+  pub frame_held : (deserialize_frame services bytes).answer ≡ Ok f → Held services f
   unfolding deserialize_frame
   frame_held e =
       by_tests services (drop 14 bytes) (Held services)

@@ -7,16 +7,15 @@ use mathlib.Core.List.{List, [], ◌∷◌}
 use native.Mathlib.Omega.{arith}
 use lib.Dec.{eqb}
 use borrow.Author.Tests.{eqb-true}
+use Rattle.std.specs.Prelude.{Ok, Err}
 use Rattle.types.specs.Codes.{pick, decoded}
 use Rattle.types.specs.Messages.{message_code, messages, message_of}
 use Rattle.types.specs.RequestedServices.{requested_code, requested_services, requested_of}
 use Rattle.types.specs.States.{state_code, states, state_of}
 use Rattle.types.specs.declared.message_type.MessageType.{MessageType}
-use Rattle.types.specs.declared.message_type.MessageTypeAnswer.TheVariants as message
 use Rattle.types.specs.declared.requested_service.RequestedServiceId.{RequestedServiceId}
-use Rattle.types.specs.declared.requested_service.RequestedServiceIdAnswer.TheVariants as requested
 use Rattle.types.specs.declared.states.NmtState.{NmtState}
-use Rattle.types.specs.declared.states.NmtStateAnswer.TheVariants as state
+use Rattle.types.specs.declared.hal.PowerlinkError.TheVariants.{InvalidNmtState, InvalidMessageType, InvalidRequestedServiceId}
 
 -- for every table, whose answers tell values apart, and a value from none
 module _ {A R : Type 0} (code : A → ℕ) (known : A → R) (other : R) (same : (x y : A) → known x ≡ known y → x ≡ y)
@@ -30,17 +29,17 @@ module _ {A R : Type 0} (code : A → ℕ) (known : A → R) (other : R) (same :
   code_of (y ∷ ys) e = first y (eqb b (code y)) (decoded code known other ys b) refl (code_of ys) e
 
 module _ (b : ℕ) where
-  pub message_named : (m : MessageType) → message_of b ≡ message.Known m → message_code m ≡ b
+  pub message_named : (m : MessageType) → message_of b ≡ Ok m → message_code m ≡ b
   unfolding message_of
   message_named m =
-      code_of message_code message.Known (message.Unknown b) (λ x y e. cc) (λ x e. let z : ◌≡◌ {A = ℕ} 0 1 = cc in omega arith) b m messages
+      code_of message_code Ok (Err (InvalidMessageType b)) (λ x y e. cc) (λ x e. let z : ◌≡◌ {A = ℕ} 0 1 = cc in omega arith) b m messages
 
-  pub state_named : (s : NmtState) → state_of b ≡ state.Known s → state_code s ≡ b
+  pub state_named : (s : NmtState) → state_of b ≡ Ok s → state_code s ≡ b
   unfolding state_of
-  state_named s = code_of state_code state.Known (state.Unknown b) (λ x y e. cc) (λ x e. let z : ◌≡◌ {A = ℕ} 0 1 = cc in omega arith) b s states
+  state_named s = code_of state_code Ok (Err (InvalidNmtState b)) (λ x y e. cc) (λ x e. let z : ◌≡◌ {A = ℕ} 0 1 = cc in omega arith) b s states
 
-  pub requested_named : (q : RequestedServiceId) → requested_of b ≡ requested.Known q → requested_code q ≡ b
+  pub requested_named : (q : RequestedServiceId) → requested_of b ≡ Ok q → requested_code q ≡ b
   unfolding requested_of
   requested_named q =
-      code_of requested_code requested.Known (requested.Unknown b) (λ x y e. cc) (λ x e. let z : ◌≡◌ {A = ℕ} 0 1 = cc in omega arith) b q
+      code_of requested_code Ok (Err (InvalidRequestedServiceId b)) (λ x y e. cc) (λ x e. let z : ◌≡◌ {A = ℕ} 0 1 = cc in omega arith) b q
       requested_services

@@ -6,6 +6,7 @@ use mathlib.Core.List.{List}
 use native.Mathlib.Omega.{arith}
 use lib.ListN.{length, drop}
 use borrow.Author.Tests.{le-leb, lt-leb}
+use Rattle.std.specs.Prelude.{Ok, Err}
 use Rattle.octets.specs.Numbers.{le_at}
 use Rattle.octets.proofs.Le.{bytes_back}
 use Rattle.types.specs.Messages.{message_of}
@@ -16,7 +17,6 @@ use Rattle.section.specs.Write.{padded}
 use Rattle.frame.specs.declared.PowerlinkFrame.TheVariants.{PReq}
 use Rattle.codec.specs.Frame.{kind_in, read_section}
 use Rattle.codec.specs.PReq.{read_preq}
-use Rattle.codec.specs.declared.FrameAnswer.TheVariants.{Frame, Refused}
 use Rattle.frame_laws.specs.Sizes.{behind_fields}
 use Rattle.frame_laws.proofs.Behind.{behind, behind_length}
 use Rattle.frame_laws.proofs.Flags.{two, three, Reads3}
@@ -39,7 +39,7 @@ module _ (services : List ℕ) (f : PReqFrame) (p : List ℕ) (small : f.payload
   unfolding preq_section
   left = behind_length (preq_bytes f) p refl
 
-  pub preq_back : f.payload_size ≤ length (behind_fields p) → read_section services (preq_section f p) ≡ Frame (PReq f)
+  pub preq_back : f.payload_size ≤ length (behind_fields p) → read_section services (preq_section f p) ≡ Ok (PReq f)
   unfolding message_of kind_in read_section read_preq preq_section padded
   preq_back fits =
       rw (
@@ -52,7 +52,7 @@ module _ (services : List ℕ) (f : PReqFrame) (p : List ℕ) (small : f.payload
         rd f.flags.ms f.flags.ea f.flags.rd,
       )
 
-  pub preq_cut : length (behind_fields p) < f.payload_size → read_section services (preq_section f p) ≡ Refused BufferTooShort
+  pub preq_cut : length (behind_fields p) < f.payload_size → read_section services (preq_section f p) ≡ Err BufferTooShort
   unfolding message_of kind_in read_section read_preq preq_section padded
   preq_cut lacks =
       rw (

@@ -6,6 +6,7 @@ use mathlib.Core.List.{List}
 use native.Mathlib.Omega.{arith}
 use lib.ListN.{length, drop}
 use borrow.Author.Tests.{le-leb, lt-leb}
+use Rattle.std.specs.Prelude.{Ok, Err}
 use Rattle.octets.specs.Numbers.{le_at}
 use Rattle.octets.proofs.Le.{bytes_back}
 use Rattle.types.specs.Messages.{message_of}
@@ -20,7 +21,6 @@ use Rattle.section.specs.Write.{padded}
 use Rattle.frame.specs.declared.PowerlinkFrame.TheVariants.{PRes}
 use Rattle.codec.specs.Frame.{kind_in, read_section}
 use Rattle.codec.specs.PRes.{pres_flags_of, read_pres}
-use Rattle.codec.specs.declared.FrameAnswer.TheVariants.{Frame, Refused}
 use Rattle.frame_laws.specs.Sizes.{behind_fields}
 use Rattle.frame_laws.proofs.Behind.{behind, behind_length}
 use Rattle.frame_laws.proofs.Flags.{two, three, Reads3}
@@ -54,7 +54,7 @@ module _ (services : List ℕ) (f : PResFrame) (p : List ℕ) (to : f.destinatio
   unfolding pres_section
   left = behind_length (pres_bytes f) p refl
 
-  pub pres_back : f.flags.rs.0 ≤ 7 → f.payload_size ≤ length (behind_fields p) → read_section services (pres_section f p) ≡ Frame (PRes f)
+  pub pres_back : f.flags.rs.0 ≤ 7 → f.payload_size ≤ length (behind_fields p) → read_section services (pres_section f p) ≡ Ok (PRes f)
   unfolding message_of kind_in read_section read_pres pres_section padded le_at
   pres_back seven fits =
       rw (
@@ -67,7 +67,7 @@ module _ (services : List ℕ) (f : PResFrame) (p : List ℕ) (to : f.destinatio
         flags_back f.flags seven,
       )
 
-  pub pres_cut : length (behind_fields p) < f.payload_size → read_section services (pres_section f p) ≡ Refused BufferTooShort
+  pub pres_cut : length (behind_fields p) < f.payload_size → read_section services (pres_section f p) ≡ Err BufferTooShort
   unfolding message_of kind_in read_section read_pres pres_section padded le_at
   pres_cut lacks =
       rw (

@@ -6,6 +6,7 @@ use mathlib.Core.List.{List}
 use native.Mathlib.Omega.{arith}
 use lib.ListN.{length, replicate, length-append}
 use lib.Seq.{take_at}
+use Rattle.std.specs.Prelude.{Ok}
 use Rattle.types.specs.Header.{eth_bytes}
 use Rattle.types.specs.declared.basic.EthernetHeader.{EthernetHeader}
 use Rattle.section.specs.Write.{padded}
@@ -16,7 +17,6 @@ use Rattle.control.specs.declared.asnd.ASndFrame.{ASndFrame}
 use Rattle.frame.specs.Write.{frame_bytes}
 use Rattle.frame.specs.declared.PowerlinkFrame.{PowerlinkFrame}
 use Rattle.frame.specs.declared.PowerlinkFrame.TheVariants.{Soc, PReq, PRes, SoA, ASnd}
-use Rattle.codec.specs.declared.FrameAnswer.TheVariants.{Frame}
 use Rattle.frame_laws.specs.ReadBack.{ReadsAs, IsHeader, Faithful, FramesReadBack}
 use Rattle.frame_laws.specs.Sizes.{SizeReadsBack}
 use Rattle.frame_laws.proofs.ASndBack.{asnd_back, asnd_payload}
@@ -58,7 +58,7 @@ frames_read_back =
           let b = reads services k g q ik fg in (
             sym a.header ∙ rw e b.header,
             (
-              let z : Frame f ≡ Frame g = sym a.frame ∙ rw e b.frame in cc,
+              let z : Ok f ≡ Ok g = sym a.frame ∙ rw e b.frame in cc,
               sym a.octets ∙ rw e b.octets,
             ),
           );

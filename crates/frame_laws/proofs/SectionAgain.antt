@@ -5,6 +5,7 @@ use mathlib.Core.Path.{◌≡◌, refl, sym, ap, ◌∙◌}
 use mathlib.Core.List.{List, ◌++◌}
 use native.Mathlib.Omega.{arith}
 use lib.ListN.{take, drop}
+use Rattle.std.specs.Prelude.{Ok}
 use Rattle.octets.specs.Numbers.{le_at}
 use Rattle.section.specs.Write.{padded}
 use Rattle.control.specs.ASnd.{asnd_section}
@@ -16,7 +17,6 @@ use Rattle.frame.specs.Write.{frame_section}
 use Rattle.frame.specs.declared.PowerlinkFrame.{PowerlinkFrame}
 use Rattle.codec.specs.ASnd.{asnd_payload_length}
 use Rattle.codec.specs.Frame.{read_section}
-use Rattle.codec.specs.declared.FrameAnswer.TheVariants.{Frame}
 use Rattle.frame_laws.specs.WriteBack.{Octets, PaddedFrom, Plain, payload_in}
 use Rattle.frame_laws.proofs.Elements.{joined}
 use Rattle.frame_laws.proofs.FieldsAgain.{soc_again, preq_again, pres_again, soa_again, asnd_again}
@@ -31,7 +31,7 @@ module _ (s fields : List ℕ) (k : ℕ) (e : fields ≡ take k s) where
   with_payload : (n : ℕ) → PaddedFrom (k + n) s → padded (fields ++ take n (drop k s)) ≡ s
   with_payload n p = ap padded (joined k n s fields (take n (drop k s)) e refl) ∙ sym p
 
-pub section_again : (services s : List ℕ) (f : PowerlinkFrame) → Octets s → read_section services s ≡ Frame f → Plain f s
+pub section_again : (services s : List ℕ) (f : PowerlinkFrame) → Octets s → read_section services s ≡ Ok f → Plain f s
     → frame_section f (payload_in f s) ≡ s
 unfolding soc_section preq_section pres_section soa_section asnd_section
 section_again services s f o =

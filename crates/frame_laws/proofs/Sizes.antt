@@ -5,6 +5,7 @@ use mathlib.Core.Path.{◌≡◌, refl, ap, ◌∙◌}
 use mathlib.Core.List.{List, ◌++◌}
 use native.Mathlib.Omega.{arith}
 use lib.ListN.{length, take}
+use Rattle.std.specs.Prelude.{Ok, Err}
 use Rattle.types.specs.Header.{eth_bytes}
 use Rattle.types.specs.declared.basic.EthernetHeader.{EthernetHeader}
 use Rattle.types.specs.declared.hal.PowerlinkError.TheVariants.{BufferTooShort}
@@ -15,7 +16,6 @@ use Rattle.frame.specs.Write.{frame_section, frame_bytes}
 use Rattle.frame.specs.declared.PowerlinkFrame.{PowerlinkFrame}
 use Rattle.frame.specs.declared.PowerlinkFrame.TheVariants.{PReq, PRes}
 use Rattle.codec.specs.Frame.{read_section, place_in_frame, deserialize_frame, payload_of}
-use Rattle.codec.specs.declared.FrameAnswer.TheVariants.{Frame, Refused}
 use Rattle.frame_laws.specs.ReadBack.{ReadsAs, IsHeader}
 use Rattle.frame_laws.specs.Sizes.{behind_fields, SizeReadsBack, SizesReadBack}
 use Rattle.frame_laws.proofs.HeaderBack.{frame_back}
@@ -25,18 +25,18 @@ use Rattle.frame_laws.proofs.PResBack.{pres_back, pres_cut, pres_payload}
 module _ (services : List ℕ) (h : EthernetHeader) (f : PowerlinkFrame) (p s : List ℕ) (is : IsHeader h) (es : frame_section f p ≡ s)
     (long : 0 < length s) where
   -- from the section: it is not empty, it reads as the frame, and the payload lies at its place
-  pub from_section : (q : List ℕ) → read_section services s ≡ Frame f → payload_of (place_in_frame f s) (eth_bytes h ++ s) ≡ q
+  pub from_section : (q : List ℕ) → read_section services s ≡ Ok f → payload_of (place_in_frame f s) (eth_bytes h ++ s) ≡ q
       → ReadsAs services (frame_bytes h f p) h f q
   unfolding frame_bytes
   from_section q read place =
-      let e : deserialize_frame services (frame_bytes h f p) ≡ record { eth_header = h; answer = Frame f; payload_place = place_in_frame f s } =
+      let e : deserialize_frame services (frame_bytes h f p) ≡ record { eth_header = h; answer = Ok f; payload_place = place_in_frame f s } =
       rw es (frame_back services h s is long ∙ rw read) in
       record { header = rw e; frame = rw e; octets = rw (e, es) place }
 
   -- where what stands behind the fields decides: read with the first n octets of it, or too short
   by_size : (n : ℕ) → payload_of (place_in_frame f s) (eth_bytes h ++ s) ≡ take n (behind_fields p)
-      → (n ≤ length (behind_fields p) → read_section services s ≡ Frame f)
-      → (length (behind_fields p) < n → read_section services s ≡ Refused BufferTooShort) → SizeReadsBack services h f n p
+      → (n ≤ length (behind_fields p) → read_section services s ≡ Ok f)
+      → (length (behind_fields p) < n → read_section services s ≡ Err BufferTooShort) → SizeReadsBack services h f n p
   unfolding frame_bytes
   by_size n place read cut =
       record {

@@ -3,6 +3,7 @@
 use Prim.Native.Nat.{ℕ}
 use mathlib.Core.Path.{◌≡◌, refl}
 use mathlib.Core.List.{List}
+use Rattle.std.specs.Prelude.{Ok}
 use Rattle.octets.specs.Numbers.{le_at}
 use Rattle.octets.proofs.Le.{bytes_back}
 use Rattle.types.specs.Messages.{message_of}
@@ -12,7 +13,6 @@ use Rattle.section.specs.Write.{padded}
 use Rattle.frame.specs.declared.PowerlinkFrame.TheVariants.{Soc}
 use Rattle.codec.specs.Frame.{kind_in, read_section}
 use Rattle.codec.specs.SoC.{read_soc}
-use Rattle.codec.specs.declared.FrameAnswer.TheVariants.{Frame}
 use Rattle.frame_laws.specs.ReadBack.{SocInRange}
 use Rattle.frame_laws.proofs.Flags.{two, Reads2}
 
@@ -22,7 +22,7 @@ mc = two _ refl refl refl refl
 ps : Reads2 7 6 6 (λ x y. y)
 ps = two _ refl refl refl refl
 
-pub soc_back : (services : List ℕ) (f : SocFrame) → SocInRange f → read_section services (soc_section f) ≡ Frame (Soc f)
+pub soc_back : (services : List ℕ) (f : SocFrame) → SocInRange f → read_section services (soc_section f) ≡ Ok (Soc f)
 unfolding message_of kind_in read_section read_soc soc_section padded le_at
 soc_back services f r =
     rw (

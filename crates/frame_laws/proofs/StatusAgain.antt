@@ -9,6 +9,7 @@ use lib.Dec.{leb}
 use lib.ListN.{length, get_or, take, drop, replicate, take-append-drop, length-drop}
 use lib.Seq.{drop-drop}
 use borrow.Author.Tests.{leb-true}
+use Rattle.std.specs.Prelude.{Ok}
 use Rattle.octets.specs.Numbers.{bit}
 use Rattle.types.specs.Codes.{need}
 use Rattle.types.specs.PollFlags.{poll_octet}
@@ -22,7 +23,6 @@ use Rattle.error_entry.proofs.ReadBack.{octets_back}
 use Rattle.status_response.specs.BitField.{field_of, field_bytes}
 use Rattle.status_response.specs.Fields.{en_bit, ec_bit, head_bytes, read_fields}
 use Rattle.status_response.specs.Steps.{entries_in, status_entries, entries_bytes, status_bytes, unless_terminator}
-use Rattle.status_response.specs.declared.fields.StatusAnswer.TheVariants.{Status}
 use Rattle.status_response.specs.declared.fields.StatusFields.{StatusFields}
 use Rattle.frame_laws.specs.WriteBack.{Octets, status_unnamed, PlainStatus}
 use Rattle.frame_laws.proofs.Bits.{named_bits, poll_again}
@@ -81,7 +81,7 @@ module _ (s : List ℕ) (o : Octets s) (f : StatusFields) (passed : StatusPassed
       rw (← c.behind, ← drop-drop (20 * length (status_entries s)) 14 s)
       (entries_again (length s) (drop 14 s) (octets_from s o 14))
 
-pub status_again : (s : List ℕ) (f : StatusFields) → Octets s → read_fields s ≡ Status f → PlainStatus s
+pub status_again : (s : List ℕ) (f : StatusFields) → Octets s → read_fields s ≡ Ok f → PlainStatus s
     → status_bytes (head_bytes f (field_of (drop 6 s))) (status_entries s) ≡ s
 unfolding status_bytes
 status_again s f o e c =

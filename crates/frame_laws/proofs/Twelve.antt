@@ -4,6 +4,7 @@ use Prim.Native.Nat.{ℕ}
 use mathlib.Core.Path.{◌≡◌, refl}
 use mathlib.Core.List.{List}
 use lib.ListN.{get_or, drop}
+use Rattle.std.specs.Prelude.{Result, Ok, Err}
 use Rattle.types.specs.Header.{eth_length}
 use Rattle.types.specs.declared.message_type.MessageType.TheVariants as message
 use Rattle.services.specs.Table.{ds301}
@@ -13,18 +14,18 @@ use Rattle.frame.specs.declared.PowerlinkFrame.{PowerlinkFrame}
 use Rattle.frame.specs.declared.PowerlinkFrame.TheVariants.{Soc, PReq, PRes, SoA, ASnd}
 use Rattle.codec.specs.ASnd.{read_asnd}
 use Rattle.codec.specs.Frame.{kind_of, kind_answer, read_frame, deserialize_frame}
-use Rattle.codec.specs.declared.KindAnswer.{KindAnswer}
-use Rattle.codec.specs.declared.KindAnswer.TheVariants as kind
 use Rattle.frame_laws.specs.Twelve.{section_in01, frame_in01, deserialized_in01, written_in01, TheTwelve}
+use Rattle.types.specs.declared.message_type.MessageType.{MessageType}
+use Rattle.types.specs.declared.hal.PowerlinkError.{PowerlinkError}
 
-read : (k : KindAnswer) (s : List ℕ) → kind_answer ds301 k s ≡ section_in01 k s
+read : (k : Result MessageType PowerlinkError) (s : List ℕ) → kind_answer ds301 k s ≡ section_in01 k s
 unfolding read_asnd
-read (kind.Refused e) s = refl
-read (kind.Kind message.SoC) s = refl
-read (kind.Kind message.PReq) s = refl
-read (kind.Kind message.PRes) s = refl
-read (kind.Kind message.SoA) s = refl
-read (kind.Kind message.ASnd) s = rw (ds301_holds (get_or s 3 0))
+read (Err e) s = refl
+read (Ok message.SoC) s = refl
+read (Ok message.PReq) s = refl
+read (Ok message.PRes) s = refl
+read (Ok message.SoA) s = refl
+read (Ok message.ASnd) s = rw (ds301_holds (get_or s 3 0))
 
 written : (f : PowerlinkFrame) (bs : List ℕ) → under_table ds301 f bs ≡ written_in01 f bs
 written (Soc f) bs = refl

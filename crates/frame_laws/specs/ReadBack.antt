@@ -1,6 +1,6 @@
 -- A frame that is written is read back: header, fields and payload, under every table that holds its service.
 -- Assumes nothing.
-use Rattle.std.specs.Prelude.{ℕ, ◌^◌, ◌≤◌, ◌<◌, true, ◌≡◌, List, [], length}
+use Rattle.std.specs.Prelude.{ℕ, ◌^◌, ◌≤◌, ◌<◌, true, ◌≡◌, List, [], length, Ok}
 use Rattle.octets.specs.Trim.{trimmed_length}
 use Rattle.types.specs.Header.{ethertype_epl}
 use Rattle.types.specs.Nodes.{broadcast_node}
@@ -11,12 +11,11 @@ use Rattle.frame.specs.Write.{frame_bytes}
 use Rattle.frame.specs.declared.PowerlinkFrame.{PowerlinkFrame}
 use Rattle.frame.specs.declared.PowerlinkFrame.TheVariants.{Soc, PReq, PRes, SoA, ASnd}
 use Rattle.codec.specs.Frame.{deserialize_frame, payload_of}
-use Rattle.codec.specs.declared.FrameAnswer.TheVariants.{Frame}
 
 -- the bytes read as this header, this frame and this payload
 pub record ReadsAs (services bytes : List ℕ) (h : EthernetHeader) (f : PowerlinkFrame) (payload : List ℕ) : Type 0 where
   pub header : (deserialize_frame services bytes).eth_header ≡ h
-  pub frame : (deserialize_frame services bytes).answer ≡ Frame f
+  pub frame : (deserialize_frame services bytes).answer ≡ Ok f
   pub octets : payload_of (deserialize_frame services bytes).payload_place bytes ≡ payload
 
 -- two addresses of six octets, and the EtherType of POWERLINK: with another EtherType nothing is read

@@ -1,6 +1,6 @@
 -- 01: "Payload size is written as given, equal to the length or not". What a PReq or a PRes reads back as, whatever size it was given.
 -- Assumes nothing.
-use Rattle.std.specs.Prelude.{ℕ, ◌+◌, ◌-◌, ◌^◌, ◌≤◌, ◌<◌, ◌≡◌, List, ◌++◌, length, take, replicate}
+use Rattle.std.specs.Prelude.{ℕ, ◌+◌, ◌-◌, ◌^◌, ◌≤◌, ◌<◌, ◌≡◌, List, ◌++◌, length, take, replicate, Err}
 use Rattle.types.specs.Nodes.{broadcast_node}
 use Rattle.types.specs.declared.basic.EthernetHeader.{EthernetHeader}
 use Rattle.types.specs.declared.hal.PowerlinkError.TheVariants.{BufferTooShort}
@@ -12,7 +12,6 @@ use Rattle.frame.specs.Write.{frame_bytes}
 use Rattle.frame.specs.declared.PowerlinkFrame.{PowerlinkFrame}
 use Rattle.frame.specs.declared.PowerlinkFrame.TheVariants.{PReq, PRes}
 use Rattle.codec.specs.Frame.{deserialize_frame, place}
-use Rattle.codec.specs.declared.FrameAnswer.TheVariants.{Refused}
 use Rattle.frame_laws.specs.ReadBack.{ReadsAs, IsHeader}
 
 -- what stands behind the ten octets of the fields: the payload, and the zeros up to the smallest section
@@ -23,7 +22,7 @@ behind_fields payload = payload ++ replicate (min_section - (poll_fields_length 
 pub record SizeReadsBack (services : List ℕ) (h : EthernetHeader) (f : PowerlinkFrame) (n : ℕ) (payload : List ℕ) : Type 0 where
   pub enough : n ≤ length (behind_fields payload) → ReadsAs services (frame_bytes h f payload) h f (take n (behind_fields payload))
   pub too_few : length (behind_fields payload) < n
-      → deserialize_frame services (frame_bytes h f payload) ≡ record { eth_header = h; answer = Refused BufferTooShort; payload_place = place 0 0 }
+      → deserialize_frame services (frame_bytes h f payload) ≡ record { eth_header = h; answer = Err BufferTooShort; payload_place = place 0 0 }
 
 -- the size is a number of 16 bits; PRes goes to node 255, with rs at most 7, as in `Faithful`
 pub record SizesReadBack : Type 0 where

@@ -1,7 +1,7 @@
 -- Under the table of DS 301 frames are read and written as 01 has it, on every input (02, CR 1: "The built-in twelve are replaced by a
 -- loaded table"). What 01 says of the services of ASnd stands here, over `is_listed`; all else is in the definitions of the other crates.
 -- Assumes nothing.
-use Rattle.std.specs.Prelude.{ℕ, ◌≡◌, List, leb, length, get_or, drop}
+use Rattle.std.specs.Prelude.{ℕ, ◌≡◌, List, leb, length, get_or, drop, Result, Ok, Err}
 use Rattle.types.specs.Codes.{pick, need}
 use Rattle.types.specs.Header.{eth_length, eth_header_of}
 use Rattle.types.specs.declared.hal.PowerlinkError.TheVariants.{BufferTooShort, InvalidServiceId}
@@ -21,30 +21,27 @@ use Rattle.codec.specs.PRes.{read_pres}
 use Rattle.codec.specs.SoA.{read_soa}
 use Rattle.codec.specs.SoC.{read_soc}
 use Rattle.codec.specs.declared.DeserializedFrame.{DeserializedFrame}
-use Rattle.codec.specs.declared.FrameAnswer.{FrameAnswer}
-use Rattle.codec.specs.declared.FrameAnswer.TheVariants.{Frame, Refused}
-use Rattle.codec.specs.declared.KindAnswer.{KindAnswer}
-use Rattle.codec.specs.declared.KindAnswer.TheVariants as kind
+use Rattle.types.specs.declared.hal.PowerlinkError.{PowerlinkError}
 
 -- "ASnd: 4 bytes needed. Byte 3 service: 1 to 5, 0B, 0D to 12 h"
-abbrev pub asnd_in01 : List ℕ → FrameAnswer
+abbrev pub asnd_in01 : List ℕ → Result PowerlinkFrame PowerlinkError
 asnd_in01 s =
-    need (leb asnd_fields_length (length s)) (Refused BufferTooShort)
-    (need (is_listed (get_or s 3 0)) (Refused (InvalidServiceId (get_or s 3 0)))
-    (Frame (ASnd (asnd_of s))))
+    need (leb asnd_fields_length (length s)) (Err BufferTooShort)
+    (need (is_listed (get_or s 3 0)) (Err (InvalidServiceId (get_or s 3 0)))
+    (Ok (ASnd (asnd_of s))))
 
-abbrev pub kind_in01 : MessageType → List ℕ → FrameAnswer
+abbrev pub kind_in01 : MessageType → List ℕ → Result PowerlinkFrame PowerlinkError
 kind_in01 message.SoC s = read_soc s
 kind_in01 message.PReq s = read_preq s
 kind_in01 message.PRes s = read_pres s
 kind_in01 message.SoA s = read_soa s
 kind_in01 message.ASnd s = asnd_in01 s
 
-abbrev pub section_in01 : KindAnswer → List ℕ → FrameAnswer
-section_in01 (kind.Refused e) s = Refused e
-section_in01 (kind.Kind k) s = kind_in01 k s
+abbrev pub section_in01 : Result MessageType PowerlinkError → List ℕ → Result PowerlinkFrame PowerlinkError
+section_in01 (Err e) s = Err e
+section_in01 (Ok k) s = kind_in01 k s
 
-abbrev pub frame_in01 : List ℕ → FrameAnswer
+abbrev pub frame_in01 : List ℕ → Result PowerlinkFrame PowerlinkError
 frame_in01 f = section_in01 (kind_of f) (drop eth_length f)
 
 -- the whole reading: the header that the octets give, the answer, and the payload's place

@@ -1,7 +1,7 @@
 -- A frame that is read is written back, where the bits and octets that its kind does not name are 0. 01: "Unnamed bits and bytes are written
 -- 0 and ignored on reading"; the names are those of 01's list of kinds.
 -- Assumes nothing.
-use Rattle.std.specs.Prelude.{ℕ, ◌+◌, ◌*◌, ◌≤◌, ◌<◌, ◌≡◌, false, List, [], ◌∷◌, ◌++◌, length, get_or, take, drop, replicate}
+use Rattle.std.specs.Prelude.{ℕ, ◌+◌, ◌*◌, ◌≤◌, ◌<◌, ◌≡◌, false, List, [], ◌∷◌, ◌++◌, length, get_or, take, drop, replicate, Ok}
 use Rattle.octets.specs.Numbers.{bit}
 use Rattle.types.specs.Header.{eth_length}
 use Rattle.section.specs.Write.{min_section, padded, octets}
@@ -12,7 +12,6 @@ use Rattle.frame.specs.Write.{frame_section, frame_bytes, under_table}
 use Rattle.frame.specs.declared.PowerlinkFrame.{PowerlinkFrame}
 use Rattle.frame.specs.declared.PowerlinkFrame.TheVariants.{Soc, PReq, PRes, SoA, ASnd}
 use Rattle.codec.specs.Frame.{read_section, place_in_frame, deserialize_frame, payload_of}
-use Rattle.codec.specs.declared.FrameAnswer.TheVariants.{Frame}
 use Rattle.error_entry.specs.Entry.{entry_length}
 use Rattle.error_entry.specs.declared.ErrorEntry.{ErrorEntry}
 use Rattle.status_response.specs.BitField.{field_of}
@@ -20,7 +19,6 @@ use Rattle.status_response.specs.Fields.{front_length, head_bytes, read_fields}
 use Rattle.status_response.specs.ReadBack.{EachInRange, until_terminator}
 use Rattle.status_response.specs.Steps.{status_bytes, status_entries}
 use Rattle.status_response.specs.declared.bit_field.StaticErrorBitField.{StaticErrorBitField}
-use Rattle.status_response.specs.declared.fields.StatusAnswer.TheVariants.{Status}
 use Rattle.status_response.specs.declared.fields.StatusFields.{StatusFields}
 use Rattle.frame_laws.specs.ReadBack.{Faithful}
 
@@ -122,15 +120,15 @@ abbrev pub payload_in : PowerlinkFrame → List ℕ → List ℕ
 payload_in f s = payload_of (place_in_frame f s) (replicate eth_length 0 ++ s)
 
 pub record SectionsWriteBack : Type 0 where
-  pub sections : (services s : List ℕ) (f : PowerlinkFrame) → Octets s → read_section services s ≡ Frame f → Plain f s
+  pub sections : (services s : List ℕ) (f : PowerlinkFrame) → Octets s → read_section services s ≡ Ok f → Plain f s
       → frame_section f (payload_in f s) ≡ s
-  pub frames : (services bytes : List ℕ) (f : PowerlinkFrame) → Octets bytes → (deserialize_frame services bytes).answer ≡ Frame f
+  pub frames : (services bytes : List ℕ) (f : PowerlinkFrame) → Octets bytes → (deserialize_frame services bytes).answer ≡ Ok f
       → Plain f (drop eth_length bytes)
       → frame_bytes (deserialize_frame services bytes).eth_header f (payload_of (deserialize_frame services bytes).payload_place bytes) ≡ bytes
   -- under the table that it was read under, no writer refuses it with 6
-  pub held : (services bytes : List ℕ) (f : PowerlinkFrame) → (deserialize_frame services bytes).answer ≡ Frame f
+  pub held : (services bytes : List ℕ) (f : PowerlinkFrame) → (deserialize_frame services bytes).answer ≡ Ok f
       → (bs : List ℕ) → under_table services f bs ≡ octets bs
-  pub statuses : (s : List ℕ) (f : StatusFields) → Octets s → read_fields s ≡ Status f → PlainStatus s
+  pub statuses : (s : List ℕ) (f : StatusFields) → Octets s → read_fields s ≡ Ok f → PlainStatus s
       → status_bytes (head_bytes f (field_of (drop 6 s))) (status_entries s) ≡ s
   -- and no more is asked than writing gives: whatever reads back is plain where it is written
   pub plain_sections : (services : List ℕ) (f : PowerlinkFrame) (payload : List ℕ) → Faithful services f payload → Plain f (frame_section f payload)

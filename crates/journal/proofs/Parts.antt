@@ -7,10 +7,11 @@ use mathlib.Core.List.{List, [], ◌++◌, append_assoc, append-nil}
 use native.Mathlib.Omega.{arith}
 use lib.ListN.{length, take, drop, length-drop, length-append}
 use lib.Seq.{drop_at, drop-drop, length-take-le, take-append_seam}
+use Rattle.std.specs.Prelude.{Result, Ok, Err}
 use Rattle.journal_records.specs.Listing.{version1, listing}
 use Rattle.journal_records.specs.Parts.{Lists, text_from, crowded, due_after, needed}
-use Rattle.journal_records.specs.declared.listing.ListAnswer.{ListAnswer}
-use Rattle.journal_records.specs.declared.listing.ListAnswer.TheVariants as answer
+use Rattle.journal_records.specs.declared.listing.ListError.TheVariants as answerError
+use Rattle.journal_records.specs.declared.listing.Stop.TheVariants as answer
 use Rattle.journal_records.specs.declared.listing.Part.{Part}
 use Rattle.journal_records.specs.declared.listing.Phase.{Phase}
 use Rattle.journal_records.specs.declared.listing.Phase.TheVariants.{Header, Records}
@@ -20,13 +21,15 @@ use Rattle.journal.specs.declared.streams.Streams.{Streams}
 use Rattle.journal.specs.Rest.{Follows, Says, Stands, Done, Listed, buffer_len, record_len, rest_after}
 use Rattle.journal.specs.Streams.{said_more, count_most, Counted, OrFails}
 use Rattle.journal.proofs.Counts.{not_both, unless_failed}
+use Rattle.journal_records.specs.declared.listing.Stop.{Stop}
+use Rattle.journal_records.specs.declared.listing.ListError.{ListError}
 
 needed_most : (p : Phase) → needed p ≤ record_len
 unfolding version1
 needed_most Header = omega arith
 needed_most Records = omega arith
 
-pub rest_by : (a b : ListAnswer) (q : Phase) (at : ℕ) → a ≡ b → rest_after b q at ≡ rest_after a q at
+pub rest_by : (a b : Result Stop ListError) (q : Phase) (at : ℕ) → a ≡ b → rest_after b q at ≡ rest_after a q at
 rest_by a b q at e = rw e
 
 pub listed_as : (s s' : List ℕ) (before after : Streams) (r r' : Rest) → s ≡ s' → r ≡ r' → Listed s before after r → Listed s' before after r'
@@ -138,11 +141,11 @@ module _ {p : Phase} {s : List ℕ} {at : ℕ} {before now : Streams} {t : List 
               said = λ rest l. ap length (due_told rest l ∙ ap (λ (x : List ℕ). so_far ++ x) (d rest) ∙ append-nil so_far) ∙ said_length;
             }
 
-        then_by : {a : ListAnswer} → r.answer ≡ a → (rest : List ℕ) → then rest ≡ due_after a r.phase (drop (at + r.consumed) s ++ rest)
-        then_by e rest = ap (λ (a : ListAnswer). due_after a r.phase (drop (at + r.consumed) s ++ rest)) e
+        then_by : {a : (Result Stop ListError)} → r.answer ≡ a → (rest : List ℕ) → then rest ≡ due_after a r.phase (drop (at + r.consumed) s ++ rest)
+        then_by e rest = ap (λ (a : Result Stop ListError). due_after a r.phase (drop (at + r.consumed) s ++ rest)) e
 
-        by_answer : (a : ListAnswer) → r.answer ≡ a → crowded a ≡ false → Listed s before told (rest_after a r.phase (at + r.consumed))
-        by_answer answer.More e c =
+        by_answer : (a : Result Stop ListError) → r.answer ≡ a → crowded a ≡ false → Listed s before told (rest_after a r.phase (at + r.consumed))
+        by_answer (Ok answer.More) e c =
             let m = lists_in_parts.more L e in
             record {
               stands = stands_told (then_by e);
@@ -152,23 +155,23 @@ module _ {p : Phase} {s : List ℕ} {at : ℕ} {before now : Streams} {t : List 
               ends = ends_same ∙ F.ends;
               got = got_same ∙ F.got;
             }
-        by_answer answer.Full e c = not_both refl c
-        by_answer answer.End e c = over (then_by e)
-        by_answer answer.BufferTooShort e c = not_both refl c
-        by_answer answer.NotAJournal e c = over (then_by e)
-        by_answer answer.UnknownVersion e c = over (then_by e)
-        by_answer answer.RecordInvalid e c = over (then_by e)
+        by_answer (Ok answer.Full) e c = not_both refl c
+        by_answer (Ok answer.End) e c = over (then_by e)
+        by_answer (Err answerError.BufferTooShort) e c = not_both refl c
+        by_answer (Err answerError.NotAJournal) e c = over (then_by e)
+        by_answer (Err answerError.UnknownVersion) e c = over (then_by e)
+        by_answer (Err answerError.RecordInvalid) e c = over (then_by e)
 
   -- where the room is used up, something was consumed
   module _ (c : crowded r.answer ≡ true) (room : buffer_len ≡ length out) where
-    some : (a : ListAnswer) → r.answer ≡ a → crowded a ≡ true → (0 < r.consumed) × ((x : List ℕ) → due_after a r.phase x ≡ text_from r.phase x)
-    some answer.More e d = not_both d refl
-    some answer.Full e d = ((lists_in_parts.full L e).0, λ x. refl)
-    some answer.End e d = not_both d refl
-    some answer.BufferTooShort e d = let z : ⊥ = omega (arith, (lists_in_parts.short L e).0) in absurd z
-    some answer.NotAJournal e d = not_both d refl
-    some answer.UnknownVersion e d = not_both d refl
-    some answer.RecordInvalid e d = not_both d refl
+    some : (a : Result Stop ListError) → r.answer ≡ a → crowded a ≡ true → (0 < r.consumed) × ((x : List ℕ) → due_after a r.phase x ≡ text_from r.phase x)
+    some (Ok answer.More) e d = not_both d refl
+    some (Ok answer.Full) e d = ((lists_in_parts.full L e).0, λ x. refl)
+    some (Ok answer.End) e d = not_both d refl
+    some (Err answerError.BufferTooShort) e d = let z : ⊥ = omega (arith, (lists_in_parts.short L e).0) in absurd z
+    some (Err answerError.NotAJournal) e d = not_both d refl
+    some (Err answerError.UnknownVersion) e d = not_both d refl
+    some (Err answerError.RecordInvalid) e d = not_both d refl
 
     pub less : length s - (at + r.consumed) < length s - at
     less = let k = (some r.answer refl c).0 in omega (arith, further)

@@ -1,10 +1,10 @@
 -- How far the listing is said, at each place of the program, and what is left to be listed.
 -- Assumes nothing.
-use Rattle.std.specs.Prelude.{ℕ, ◌+◌, ◌≤◌, ◌<◌, Bool, true, false, ◌≡◌, List, [], ◌++◌, length, take, drop}
+use Rattle.std.specs.Prelude.{ℕ, ◌+◌, ◌≤◌, ◌<◌, Bool, true, false, ◌≡◌, List, [], ◌++◌, length, take, drop, Result, Ok, Err}
 use Rattle.journal_records.specs.Listing.{listing}
 use Rattle.journal_records.specs.Parts.{text_from, needed}
-use Rattle.journal_records.specs.declared.listing.ListAnswer.{ListAnswer}
-use Rattle.journal_records.specs.declared.listing.ListAnswer.TheVariants as answer
+use Rattle.journal_records.specs.declared.listing.ListError.TheVariants as answerError
+use Rattle.journal_records.specs.declared.listing.Stop.TheVariants as answer
 use Rattle.journal_records.specs.declared.listing.Phase.{Phase}
 use Rattle.journal_records.specs.declared.listing.Phase.TheVariants.{Records}
 use Rattle.journal.specs.Streams.{has_room}
@@ -13,6 +13,8 @@ use Rattle.journal.specs.declared.End.TheVariants as end
 use Rattle.journal.specs.declared.Rest.{Rest}
 use Rattle.journal.specs.declared.Rest.TheVariants.{More, Over, Failed}
 use Rattle.journal.specs.declared.streams.Streams.{Streams}
+use Rattle.journal_records.specs.declared.listing.Stop.{Stop}
+use Rattle.journal_records.specs.declared.listing.ListError.{ListError}
 
 -- the octets of `large_buffer`
 abbrev pub buffer_len : ℕ
@@ -26,14 +28,14 @@ abbrev pub record_len : ℕ
 record_len = needed Records
 
 -- calls go on, or it is over
-abbrev pub rest_after : ListAnswer → Phase → ℕ → Rest
-rest_after answer.More p at = More p at
-rest_after answer.Full p at = More p at
-rest_after answer.End p at = Over
-rest_after answer.BufferTooShort p at = More p at
-rest_after answer.NotAJournal p at = Over
-rest_after answer.UnknownVersion p at = Over
-rest_after answer.RecordInvalid p at = Over
+abbrev pub rest_after : Result Stop ListError → Phase → ℕ → Rest
+rest_after (Ok answer.More) p at = More p at
+rest_after (Ok answer.Full) p at = More p at
+rest_after (Ok answer.End) p at = Over
+rest_after (Err answerError.BufferTooShort) p at = More p at
+rest_after (Err answerError.NotAJournal) p at = Over
+rest_after (Err answerError.UnknownVersion) p at = Over
+rest_after (Err answerError.RecordInvalid) p at = Over
 
 -- what may follow the octets that were read: nothing, where the input has ended
 abbrev pub Follows : Bool → List ℕ → Type 0

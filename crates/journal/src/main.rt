@@ -11,7 +11,7 @@ ghost use Rattle.journal.specs.Rest.{rest_after, buffer_len, record_len, Buffer,
 ghost use Rattle.journal.specs.Streams.{count_most, has_room};
 ghost use Rattle.journal_records.specs.Parts.{crowded};
 
-use journal_records::listing::{ListAnswer, Phase, list_part};
+use journal_records::listing::{ListError, Stop, Phase, list_part};
 use octets::slices::{front, tail};
 use std::io::Input;
 use streams::{Streams, tell_too_long};
@@ -33,32 +33,32 @@ struct Outcome {
     rest: Rest,
 }
 
-fn is_crowded(answer: ListAnswer) -> bool
+fn is_crowded(answer: Result<Stop, ListError>) -> bool
     ensures { result ≡ crowded answer }
 {
     match answer {
-        ListAnswer::More => false,
-        ListAnswer::Full => true,
-        ListAnswer::End => false,
-        ListAnswer::BufferTooShort => true,
-        ListAnswer::NotAJournal => false,
-        ListAnswer::UnknownVersion => false,
-        ListAnswer::RecordInvalid => false,
+        Ok(Stop::More) => false,
+        Ok(Stop::Full) => true,
+        Ok(Stop::End) => false,
+        Err(ListError::BufferTooShort) => true,
+        Err(ListError::NotAJournal) => false,
+        Err(ListError::UnknownVersion) => false,
+        Err(ListError::RecordInvalid) => false,
     }
 }
 
 // What follows a call of `list_part` that left the octets from `at` on.
-fn rest_after(answer: ListAnswer, phase: Phase, at: usize) -> Rest
+fn rest_after(answer: Result<Stop, ListError>, phase: Phase, at: usize) -> Rest
     ensures { result ≡ rest_after answer phase at }
 {
     match answer {
-        ListAnswer::More => Rest::More { phase, at },
-        ListAnswer::Full => Rest::More { phase, at },
-        ListAnswer::End => Rest::Over,
-        ListAnswer::BufferTooShort => Rest::More { phase, at },
-        ListAnswer::NotAJournal => Rest::Over,
-        ListAnswer::UnknownVersion => Rest::Over,
-        ListAnswer::RecordInvalid => Rest::Over,
+        Ok(Stop::More) => Rest::More { phase, at },
+        Ok(Stop::Full) => Rest::More { phase, at },
+        Ok(Stop::End) => Rest::Over,
+        Err(ListError::BufferTooShort) => Rest::More { phase, at },
+        Err(ListError::NotAJournal) => Rest::Over,
+        Err(ListError::UnknownVersion) => Rest::Over,
+        Err(ListError::RecordInvalid) => Rest::Over,
     }
 }
 

@@ -3,6 +3,7 @@
 use mathlib.Core.Path.{◌≡◌, refl}
 use lib.Dec.{eqb}
 use lib.ListN.{get_or}
+use Rattle.std.specs.Prelude.{Result, Ok, Err}
 use Rattle.types.specs.Causes.{Cause}
 use Rattle.types.specs.Codes.{pick}
 use Rattle.types.proofs.Apart.{apart}
@@ -10,45 +11,47 @@ use Rattle.journal_records.specs.CausesTell.{CausesTell}
 use Rattle.journal_records.specs.Parts.{list_cause}
 use Rattle.journal_records.specs.Record.{journal_cause}
 use Rattle.journal_records.specs.Whole.{whole_len_cause}
-use Rattle.journal_records.specs.declared.JournalAnswer.{JournalAnswer}
-use Rattle.journal_records.specs.declared.JournalAnswer.TheVariants as written
-use Rattle.journal_records.specs.declared.WholeLenAnswer.{WholeLenAnswer}
-use Rattle.journal_records.specs.declared.WholeLenAnswer.TheVariants as whole
-use Rattle.journal_records.specs.declared.listing.ListAnswer.{ListAnswer}
-use Rattle.journal_records.specs.declared.listing.ListAnswer.TheVariants as listing
+use Rattle.journal_records.specs.declared.JournalError.TheVariants as written
+use Rattle.journal_records.specs.declared.WholeLenError.TheVariants as whole
+use Rattle.journal_records.specs.declared.listing.ListError.TheVariants as listingError
+use Rattle.journal_records.specs.declared.listing.Stop.TheVariants as listing
+use Rattle.journal_records.specs.declared.JournalError.{JournalError}
+use Rattle.journal_records.specs.declared.WholeLenError.{WholeLenError}
+use Rattle.journal_records.specs.declared.listing.Stop.{Stop}
+use Rattle.journal_records.specs.declared.listing.ListError.{ListError}
 
 -- ---- reading back
 
-abbrev journal_of : Cause → JournalAnswer
-journal_of c = pick (eqb c.number 0) (written.Written (get_or c.returned 0 0)) (pick (eqb c.number 1) written.BufferTooShort written.RecordInvalid)
+abbrev journal_of : Cause → Result ℕ JournalError
+journal_of c = pick (eqb c.number 0) (Ok (get_or c.returned 0 0)) (pick (eqb c.number 1) (Err written.BufferTooShort) (Err written.RecordInvalid))
 
-journal_back : (a : JournalAnswer) → journal_of (journal_cause a) ≡ a
-journal_back (written.Written n) = refl
-journal_back written.BufferTooShort = refl
-journal_back written.RecordInvalid = refl
+journal_back : (a : Result ℕ JournalError) → journal_of (journal_cause a) ≡ a
+journal_back (Ok n) = refl
+journal_back (Err written.BufferTooShort) = refl
+journal_back (Err written.RecordInvalid) = refl
 
-abbrev whole_len_of : Cause → WholeLenAnswer
-whole_len_of c = pick (eqb c.number 0) (whole.Whole (get_or c.returned 0 0)) (pick (eqb c.number 17) whole.TooShort whole.UnknownVersion)
+abbrev whole_len_of : Cause → Result ℕ WholeLenError
+whole_len_of c = pick (eqb c.number 0) (Ok (get_or c.returned 0 0)) (pick (eqb c.number 17) (Err whole.TooShort) (Err whole.UnknownVersion))
 
-whole_len_back : (a : WholeLenAnswer) → whole_len_of (whole_len_cause a) ≡ a
-whole_len_back (whole.Whole n) = refl
-whole_len_back whole.TooShort = refl
-whole_len_back whole.UnknownVersion = refl
+whole_len_back : (a : Result ℕ WholeLenError) → whole_len_of (whole_len_cause a) ≡ a
+whole_len_back (Ok n) = refl
+whole_len_back (Err whole.TooShort) = refl
+whole_len_back (Err whole.UnknownVersion) = refl
 
-abbrev list_of : Cause → ListAnswer
+abbrev list_of : Cause → Result Stop ListError
 list_of c =
-    pick (eqb c.number 0) (pick (eqb (get_or c.returned 0 0) 0) listing.More (pick (eqb (get_or c.returned 0 0) 1) listing.Full listing.End))
-    (pick (eqb c.number 1) listing.BufferTooShort
-    (pick (eqb c.number 17) listing.NotAJournal (pick (eqb c.number 18) listing.UnknownVersion listing.RecordInvalid)))
+    pick (eqb c.number 0) (pick (eqb (get_or c.returned 0 0) 0) (Ok listing.More) (pick (eqb (get_or c.returned 0 0) 1) (Ok listing.Full) (Ok listing.End)))
+    (pick (eqb c.number 1) (Err listingError.BufferTooShort)
+    (pick (eqb c.number 17) (Err listingError.NotAJournal) (pick (eqb c.number 18) (Err listingError.UnknownVersion) (Err listingError.RecordInvalid))))
 
-list_back : (a : ListAnswer) → list_of (list_cause a) ≡ a
-list_back listing.More = refl
-list_back listing.Full = refl
-list_back listing.End = refl
-list_back listing.BufferTooShort = refl
-list_back listing.NotAJournal = refl
-list_back listing.UnknownVersion = refl
-list_back listing.RecordInvalid = refl
+list_back : (a : Result Stop ListError) → list_of (list_cause a) ≡ a
+list_back (Ok listing.More) = refl
+list_back (Ok listing.Full) = refl
+list_back (Ok listing.End) = refl
+list_back (Err listingError.BufferTooShort) = refl
+list_back (Err listingError.NotAJournal) = refl
+list_back (Err listingError.UnknownVersion) = refl
+list_back (Err listingError.RecordInvalid) = refl
 
 pub causes_tell : CausesTell
 causes_tell =

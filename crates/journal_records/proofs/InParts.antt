@@ -10,18 +10,21 @@ use lib.Dec.{eqb}
 use lib.ListN.{length, take, drop, replicate, length-append, length-drop, length-replicate}
 use lib.Seq.{drop-drop, take-append_seam}
 use borrow.Author.Tests.{eqb-true, eqb-false}
+use Rattle.std.specs.Prelude.{Result, Ok, Err}
 use Rattle.journal_records.specs.InParts.{Run, over, call, EndsIn, ListsInParts}
 use Rattle.journal_records.specs.Listing.{refused_line}
 use Rattle.journal_records.specs.Parts.{Piece, stopped, ahead, step_of, part_of, told, Lists, list_cause, text_from, goes_on, crowded, due_after, needed}
 use Rattle.types.specs.Codes.{pick}
-use Rattle.journal_records.specs.declared.listing.ListAnswer.{ListAnswer}
-use Rattle.journal_records.specs.declared.listing.ListAnswer.TheVariants.{More, Full, End, BufferTooShort, NotAJournal, UnknownVersion, RecordInvalid}
+use Rattle.journal_records.specs.declared.listing.ListError.TheVariants.{BufferTooShort, NotAJournal, UnknownVersion, RecordInvalid}
+use Rattle.journal_records.specs.declared.listing.Stop.TheVariants.{More, Full, End}
 use Rattle.journal_records.specs.declared.listing.Part.{Part}
 use Rattle.journal_records.specs.declared.listing.Phase.{Phase}
 use Rattle.journal_records.proofs.Answers.{after_on, after_room, after_more, after_end, after_refused, after_never}
 use Rattle.journal_records.proofs.PartLaws.{fewer, part_stops, part_goes_on}
 use Rattle.journal_records.proofs.Steps.{Bounded, step_due, step_bounded}
 use Rattle.journal_records.proofs.Views.{Lined, View, view, waits, ends, full, lined, head_cut, unmarked, other_version, head_good, short, fault, good}
+use Rattle.journal_records.specs.declared.listing.Stop.{Stop}
+use Rattle.journal_records.specs.declared.listing.ListError.{ListError}
 
 some_sum : (c d : ℕ) → (c ≡ 0 → ⊥) → 0 < c + d
 some_sum zero d f = absurd (f refl)
@@ -35,7 +38,7 @@ never e = omega arith
 not_both : {A : Type 0} {b : Bool} → b ≡ true → b ≡ false → A
 not_both t f = let z : ◌≡◌ {A = ℕ} 0 1 = cc in let y : ⊥ = omega arith in absurd y
 
-lined_line : {p : Phase} {s : List ℕ} {last : Bool} {q : Piece} → Lined p s last q → (q.consumed ≡ 0 → ⊥) → q.answer ≡ More
+lined_line : {p : Phase} {s : List ℕ} {last : Bool} {q : Piece} → Lined p s last q → (q.consumed ≡ 0 → ⊥) → q.answer ≡ Ok More
 lined_line (head_cut h) f = absurd (f refl)
 lined_line (unmarked h m) f = absurd (f refl)
 lined_line (other_version h m v) f = absurd (f refl)
@@ -46,7 +49,7 @@ lined_line (good h e) f = refl
 
 -- a line is written for octets that it consumes, or for a refusal
 lined_room : {p : Phase} {s : List ℕ} {last : Bool} {q : Piece} → Lined p s last q
-    → (crowded q.answer ≡ false) × ((q.consumed ≡ 0 → q.answer ≡ More → ⊥) × (q.answer ≡ End → ⊥))
+    → (crowded q.answer ≡ false) × ((q.consumed ≡ 0 → q.answer ≡ Ok More → ⊥) × (q.answer ≡ Ok End → ⊥))
 lined_room (head_cut h) = (refl, (λ z e. never (cc), λ e. never (cc)))
 lined_room (unmarked h m) = (refl, (λ z e. never (cc), λ e. never (cc)))
 lined_room (other_version h m v) = (refl, (λ z e. never (cc), λ e. never (cc)))
@@ -55,20 +58,20 @@ lined_room (short h n) = (refl, (λ z e. never (cc), λ e. never (cc)))
 lined_room (fault h k) = (refl, (λ z e. never (cc), λ e. never (cc)))
 lined_room (good h k) = (refl, (λ z e. omega arith, λ e. never (cc)))
 
-view_line : {p : Phase} {s : List ℕ} {last : Bool} {room : ℕ} {q : Piece} → View p s last room q → (q.consumed ≡ 0 → ⊥) → q.answer ≡ More
+view_line : {p : Phase} {s : List ℕ} {last : Bool} {room : ℕ} {q : Piece} → View p s last room q → (q.consumed ≡ 0 → ⊥) → q.answer ≡ Ok More
 view_line (waits h) f = refl
 view_line (ends h) f = absurd (f refl)
 view_line (full h) f = absurd (f refl)
 view_line (lined r l) f = lined_line l f
 
-view_more : {p : Phase} {s : List ℕ} {last : Bool} {room : ℕ} {q : Piece} → View p s last room q → q.consumed ≡ 0 → q.answer ≡ More
+view_more : {p : Phase} {s : List ℕ} {last : Bool} {room : ℕ} {q : Piece} → View p s last room q → q.consumed ≡ 0 → q.answer ≡ Ok More
     → (last ≡ false) × (length s < q.consumed + needed q.phase)
 view_more (waits h) z e = (refl, omega arith)
 view_more (ends h) z e = absurd (never (cc))
 view_more (full h) z e = absurd (never (cc))
 view_more (lined r l) z e = absurd ((lined_room l).1.0 z e)
 
-view_end : {p : Phase} {s : List ℕ} {last : Bool} {room : ℕ} {q : Piece} → View p s last room q → q.answer ≡ End → (last ≡ true) × (q.consumed ≡ length s)
+view_end : {p : Phase} {s : List ℕ} {last : Bool} {room : ℕ} {q : Piece} → View p s last room q → q.answer ≡ Ok End → (last ≡ true) × (q.consumed ≡ length s)
 view_end (waits h) e = absurd (never (cc))
 view_end (ends h) e = (refl, sym h)
 view_end (full h) e = absurd (never (cc))
@@ -103,7 +106,7 @@ refused_ahead c t q f k =
 
 -- what a step answers where there is no room
 view_crowded : {p : Phase} {s : List ℕ} {last : Bool} {room : ℕ} {q : Piece} → View p s last room q → crowded q.answer ≡ true
-    → (room < 55) × (q ≡ stopped BufferTooShort p)
+    → (room < 55) × (q ≡ stopped (Err BufferTooShort) p)
 view_crowded (waits h) e = not_both e refl
 view_crowded (ends h) e = not_both e refl
 view_crowded (full h) e = (h, refl)
@@ -112,13 +115,13 @@ view_crowded (lined r l) e = not_both e (lined_room l).0
 view_full : {p : Phase} {s : List ℕ} {last : Bool} {room : ℕ} {q : Piece} → View p s last room q → crowded q.answer ≡ true → room < 55
 view_full v e = (view_crowded v e).0
 
-view_short : {p : Phase} {s : List ℕ} {last : Bool} {room : ℕ} {q : Piece} → View p s last room q → q.answer ≡ BufferTooShort → q ≡ stopped BufferTooShort p
+view_short : {p : Phase} {s : List ℕ} {last : Bool} {room : ℕ} {q : Piece} → View p s last room q → q.answer ≡ Err BufferTooShort → q ≡ stopped (Err BufferTooShort) p
 view_short v e = (view_crowded v (ap crowded e)).1
 
-view_never : {p : Phase} {s : List ℕ} {last : Bool} {room : ℕ} {q : Piece} → View p s last room q → q.answer ≡ Full → ⊥
+view_never : {p : Phase} {s : List ℕ} {last : Bool} {room : ℕ} {q : Piece} → View p s last room q → q.answer ≡ Ok Full → ⊥
 view_never v e = let s = ap (λ (q : Piece). q.answer) (view_crowded v (ap crowded e)).1 in never (cc)
 
-line_more : (p : Phase) (s : List ℕ) (last : Bool) (room : ℕ) → ((step_of p s last room).consumed ≡ 0 → ⊥) → (step_of p s last room).answer ≡ More
+line_more : (p : Phase) (s : List ℕ) (last : Bool) (room : ℕ) → ((step_of p s last room).consumed ≡ 0 → ⊥) → (step_of p s last room).answer ≡ Ok More
 line_more p s last room f = view_line (view p s last room) f
 
 -- what holds of the steps' piece, for octets of which there are fewer than n
@@ -156,7 +159,7 @@ module _ (last : Bool) where
       of_part (Due rest) (λ p s room e. step_due rest p s last room l)
       (λ p s room q f e.
       step_due rest p s last room l
-      ∙ ap (λ (a : ListAnswer). (step_of p s last room).text ++ due_after a (step_of p s last room).phase (drop (step_of p s last room).consumed s ++ rest)) (line_more p s last room f)
+      ∙ ap (λ (a : Result Stop ListError). (step_of p s last room).text ++ due_after a (step_of p s last room).phase (drop (step_of p s last room).consumed s ++ rest)) (line_more p s last room f)
       ∙ ap (λ (t : List ℕ). (step_of p s last room).text ++ t) e
       ∙ joins (step_of p s last room).text q.text q.answer q.phase (step_of p s last room).consumed q.consumed s rest
       ∙ ap
@@ -164,7 +167,7 @@ module _ (last : Bool) where
       ((step_of p s last room).text ++ q.text) ++ pick b (text_from q.phase (drop ((step_of p s last room).consumed + q.consumed) s ++ rest)) [])
       (sym (after_on (step_of p s last room).consumed q.answer)))
     where
-      joins : (t u : List ℕ) (a : ListAnswer) (q : Phase) (c d : ℕ) (s rest : List ℕ) → t ++ (u ++ due_after a q (drop d (drop c s) ++ rest)) ≡ (t ++ u) ++ due_after a q (drop (c + d) s ++ rest)
+      joins : (t u : List ℕ) (a : Result Stop ListError) (q : Phase) (c d : ℕ) (s rest : List ℕ) → t ++ (u ++ due_after a q (drop d (drop c s) ++ rest)) ≡ (t ++ u) ++ due_after a q (drop (c + d) s ++ rest)
       joins t u a q c d s rest = rw (append_assoc, drop-drop d c s)
 
   -- ---- bounds
@@ -183,10 +186,10 @@ module _ (last : Bool) where
 
   -- ---- answers
 
-  pub part_more : (p : Phase) (s : List ℕ) (room : ℕ) → (part_of p s last room).answer ≡ More
+  pub part_more : (p : Phase) (s : List ℕ) (room : ℕ) → (part_of p s last room).answer ≡ Ok More
       → (last ≡ false) × (length s < (part_of p s last room).consumed + needed (part_of p s last room).phase)
   part_more =
-      of_part (λ p s room q. q.answer ≡ More → (last ≡ false) × (length s < q.consumed + needed q.phase))
+      of_part (λ p s room q. q.answer ≡ Ok More → (last ≡ false) × (length s < q.consumed + needed q.phase))
       (λ p s room z. view_more (view p s last room) z)
       (λ p s room q f h e.
       let m = h (after_more (step_of p s last room).consumed q.answer e) in
@@ -200,9 +203,9 @@ module _ (last : Bool) where
       (λ p s room q f h e.
       rw length-append (omega (arith, h (sym (after_room (step_of p s last room).consumed q.answer) ∙ e), (step_bounded p s last room).fits)))
 
-  pub part_end : (p : Phase) (s : List ℕ) (room : ℕ) → (part_of p s last room).answer ≡ End → (last ≡ true) × ((part_of p s last room).consumed ≡ length s)
+  pub part_end : (p : Phase) (s : List ℕ) (room : ℕ) → (part_of p s last room).answer ≡ Ok End → (last ≡ true) × ((part_of p s last room).consumed ≡ length s)
   part_end =
-      of_part (λ p s room q. q.answer ≡ End → (last ≡ true) × (q.consumed ≡ length s)) (λ p s room z. view_end (view p s last room))
+      of_part (λ p s room q. q.answer ≡ Ok End → (last ≡ true) × (q.consumed ≡ length s)) (λ p s room z. view_end (view p s last room))
       (λ p s room q f h e.
       let m = h (after_end (step_of p s last room).consumed q.answer e) in
       let k = m.1 in
@@ -226,14 +229,14 @@ module _ (p : Phase) (s : List ℕ) (last : Bool) (room : ℕ) where
       split true z = rw (part_stops p s last room (eqb-true (step_of p s last room).consumed 0 z)) f
       split false z = let h = eqb-false (step_of p s last room).consumed 0 z in rw (part_goes_on p s last room h) (g h _)
 
-  part_progress : (part_of p s last room).answer ≡ Full → 0 < (part_of p s last room).consumed
+  part_progress : (part_of p s last room).answer ≡ Ok Full → 0 < (part_of p s last room).consumed
   part_progress =
-      by_first (λ q. q.answer ≡ Full → 0 < q.consumed) (λ e. absurd (view_never (view p s last room) e))
+      by_first (λ q. q.answer ≡ Ok Full → 0 < q.consumed) (λ e. absurd (view_never (view p s last room) e))
       (λ h q e. some_sum (step_of p s last room).consumed q.consumed h)
 
-  part_short : (part_of p s last room).answer ≡ BufferTooShort → part_of p s last room ≡ stopped BufferTooShort p
+  part_short : (part_of p s last room).answer ≡ Err BufferTooShort → part_of p s last room ≡ stopped (Err BufferTooShort) p
   part_short =
-      by_first (λ q. q.answer ≡ BufferTooShort → q ≡ stopped BufferTooShort p) (λ e. view_short (view p s last room) e)
+      by_first (λ q. q.answer ≡ Err BufferTooShort → q ≡ stopped (Err BufferTooShort) p) (λ e. view_short (view p s last room) e)
       (λ h q e. absurd (after_never (step_of p s last room).consumed q.answer h e))
 
 -- ---- calls
@@ -256,24 +259,24 @@ module _ {p : Phase} {s : List ℕ} {last : Bool} {r : Part} {out after : List �
       kept : (t : List ℕ) → length t ≤ length out → length (t ++ drop (length t) out) ≡ length out
       kept t h = rw (length-append, length-drop) (omega arith)
 
-  answered : {a : ListAnswer} → r.answer ≡ a → (part_of p s last (length out)).answer ≡ a
+  answered : {a : (Result Stop ListError)} → r.answer ≡ a → (part_of p s last (length out)).answer ≡ a
   answered e = sym (ap (λ (x : Part). x.answer) L.answer) ∙ e
 
-  call_more : r.answer ≡ More → (last ≡ false) × (length s < r.consumed + needed r.phase)
+  call_more : r.answer ≡ Ok More → (last ≡ false) × (length s < r.consumed + needed r.phase)
   call_more e = rw L.answer (part_more last p s (length out) (answered e))
 
-  call_full : r.answer ≡ Full → (0 < r.consumed) × (length out < r.written + 55)
+  call_full : r.answer ≡ Ok Full → (0 < r.consumed) × (length out < r.written + 55)
   call_full e = rw L.answer (part_progress p s last (length out) (answered e), part_full last p s (length out) (ap crowded (answered e)))
 
-  call_short : r.answer ≡ BufferTooShort → (length out < 55) × ((r.consumed ≡ 0) × ((r.phase ≡ p) × (after ≡ out)))
+  call_short : r.answer ≡ Err BufferTooShort → (length out < 55) × ((r.consumed ≡ 0) × ((r.phase ≡ p) × (after ≡ out)))
   call_short e =
       let q = part_short p s last (length out) (answered e) in
-      let t : r ≡ told (stopped BufferTooShort p) = L.answer ∙ ap told q in
+      let t : r ≡ told (stopped (Err BufferTooShort) p) = L.answer ∙ ap told q in
       let k = part_full last p s (length out) (ap crowded (answered e)) in
       let n : length (part_of p s last (length out)).text ≡ 0 = ap (λ (x : Piece). length x.text) q in
       (omega arith, (ap (λ (x : Part). x.consumed) t, (ap (λ (x : Part). x.phase) t, L.holds ∙ ap (λ (x : Piece). x.text ++ drop (length x.text) out) q)))
 
-  call_end : r.answer ≡ End → (last ≡ true) × (r.consumed ≡ length s)
+  call_end : r.answer ≡ Ok End → (last ≡ true) × (r.consumed ≡ length s)
   call_end e = rw L.answer (part_end last p s (length out) (answered e))
 
   call_refused : 17 ≤ (list_cause r.answer).number → EndsIn (refused_line (list_cause r.answer).number) (take r.written after)
@@ -331,17 +334,17 @@ module _ (room : ℕ) (line : 55 ≤ room) where
   runs zero p s h = absurd (not-suc-le-zero h)
   runs (suc n) p s h = by_answer (last_call p s).answer refl (runs n)
     where
-      by_answer : (a : ListAnswer) → (last_call p s).answer ≡ a → ((p : Phase) (s : List ℕ) → length s < n → Run room p s (text_from p s)) → Run room p s (text_from p s)
-      by_answer More e ih = let f = (call_more (made p s) e).0 in let z : ◌≡◌ {A = ℕ} 0 1 = cc in let y : ⊥ = omega arith in absurd y
-      by_answer Full e ih =
+      by_answer : (a : Result Stop ListError) → (last_call p s).answer ≡ a → ((p : Phase) (s : List ℕ) → length s < n → Run room p s (text_from p s)) → Run room p s (text_from p s)
+      by_answer (Ok More) e ih = let f = (call_more (made p s) e).0 in let z : ◌≡◌ {A = ℕ} 0 1 = cc in let y : ⊥ = omega arith in absurd y
+      by_answer (Ok Full) e ih =
           one_call p s (ap goes_on e)
           (ih (last_call p s).phase (left_of p s)
           (rw (append-nil, length-drop) (omega (arith, (part_bounded true p s (length out)).most, (call_full (made p s) e).0))))
-      by_answer BufferTooShort e ih = let y : ⊥ = omega (arith, all_room, (call_short (made p s) e).0) in absurd y
-      by_answer End e ih = last_one p s (ap goes_on e)
-      by_answer NotAJournal e ih = last_one p s (ap goes_on e)
-      by_answer UnknownVersion e ih = last_one p s (ap goes_on e)
-      by_answer RecordInvalid e ih = last_one p s (ap goes_on e)
+      by_answer (Err BufferTooShort) e ih = let y : ⊥ = omega (arith, all_room, (call_short (made p s) e).0) in absurd y
+      by_answer (Ok End) e ih = last_one p s (ap goes_on e)
+      by_answer (Err NotAJournal) e ih = last_one p s (ap goes_on e)
+      by_answer (Err UnknownVersion) e ih = last_one p s (ap goes_on e)
+      by_answer (Err RecordInvalid) e ih = last_one p s (ap goes_on e)
 
 pub lists_in_parts : ListsInParts
 lists_in_parts =

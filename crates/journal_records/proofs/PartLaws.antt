@@ -11,13 +11,15 @@ use lib.ListN.{length, take, drop, length-append, length-drop}
 use lib.Seq.{sets, sets-eq, length-sets, length-take-le, take_at, drop_at, drop-drop}
 use borrow.Author.Tests.{eqb-false, eq-eqb, ne_eqb}
 use borrow.Rule.Slice.PartMut.{mid_of, put_mid, mid_len}
+use Rattle.std.specs.Prelude.{Result}
 use Rattle.records.proofs.PutLaws.{sets_rest}
 use Rattle.journal_records.specs.Parts.{Piece, answer_after, ahead, step_of, steps_of, part_of, told, Prints, Lists}
-use Rattle.journal_records.specs.declared.listing.ListAnswer.{ListAnswer}
 use Rattle.journal_records.specs.declared.listing.Part.{Part}
 use Rattle.journal_records.specs.declared.listing.Phase.{Phase}
 use Rattle.journal_records.proofs.Answers.{after_none, after_after}
 use Rattle.journal_records.proofs.Steps.{Bounded, step_bounded}
+use Rattle.journal_records.specs.declared.listing.Stop.{Stop}
+use Rattle.journal_records.specs.declared.listing.ListError.{ListError}
 
 -- ---- as many steps as are needed
 
@@ -193,6 +195,6 @@ module _ {p : Phase} {s : List ℕ} {last : Bool} {out₀ out : List ℕ} {q : P
     pub turn_on : (r.consumed ≡ 0 → ⊥) → Held p s last out₀ (put_mid w (length out - w) out part) r.phase (c + r.consumed) (w + r.written)
     turn_on f = rw (left, told_so) (on taken refl (λ e. f (ap (λ (j : Part). j.consumed) told_so ∙ e)))
 
-    pub turn_stop : {a : ListAnswer} → a ≡ answer_after (c + r.consumed) r.answer → r.consumed ≡ 0
+    pub turn_stop : {a : (Result Stop ListError)} → a ≡ answer_after (c + r.consumed) r.answer → r.consumed ≡ 0
         → Lists p s last (record { answer = a; phase = r.phase; consumed = c + r.consumed; written = w + r.written }) out₀ (put_mid w (length out - w) out part)
     turn_stop ea e = rw (ea, left, told_so) (stop taken refl (ap (λ (j : Part). j.consumed) (sym told_so) ∙ e))

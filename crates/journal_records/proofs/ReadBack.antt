@@ -9,6 +9,7 @@ use native.Mathlib.Omega.{arith}
 use lib.Dec.{leb}
 use lib.ListN.{length, take, drop, length-append}
 use lib.Seq.{take_at, drop_at}
+use Rattle.std.specs.Prelude.{Result, Ok, Err}
 use Rattle.octets.specs.Mark.{is_marked}
 use Rattle.octets.specs.Numbers.{le_at}
 use Rattle.types.specs.Codes.{need}
@@ -20,12 +21,12 @@ use Rattle.error_entry.proofs.ReadBack.{entry_back_lem}
 use Rattle.journal_records.specs.Listing.{node_of, recorded_entry, version1, header_line, record_line, fields_line, good_record, lines_in, lines, marked, layout_of, listing}
 use Rattle.journal_records.specs.ReadBack.{Recorded, InWidth, Journaled, none, more, masked, fields_lines, journal_start, RecordsReadBack, example_octets, example_lines}
 use Rattle.journal_records.specs.Record.{record_bytes, valid_record, WritesRecord}
-use Rattle.journal_records.specs.declared.JournalAnswer.{JournalAnswer}
-use Rattle.journal_records.specs.declared.JournalAnswer.TheVariants.{Written, BufferTooShort, RecordInvalid}
+use Rattle.journal_records.specs.declared.JournalError.TheVariants.{BufferTooShort, RecordInvalid}
 use Rattle.journal_records.specs.Text.{digit, hex, decimal_in, decimal}
 use Rattle.journal_records.proofs.ListLaws.{lines_none, lines_good, listing_good}
 use Rattle.journal_records.proofs.RecordLaws.{record_length}
 use Rattle.journal_records.proofs.Start.{start_mark, version_octets}
+use Rattle.journal_records.specs.declared.JournalError.{JournalError}
 
 -- the mask takes nothing away that is written
 masked_bytes : (e : ErrorEntry) → entry_bytes e ≡ entry_bytes (masked e)
@@ -63,11 +64,11 @@ module _ (x : Recorded) (w : InWidth x) (v : valid_record x.node.0 x.entry ≡ t
       ∙ rw (record_node, record_entry, drop_at (record_bytes x.node.0 x.entry) rest 21 (record_length x.node.0 x.entry))
 
 -- a call that says a record is written has tested it, and put its octets to the front
-module _ {node : NodeId} {e : ErrorEntry} {r : JournalAnswer} {n : ℕ} {target after : List ℕ} (W : WritesRecord node e r target after) (w : r ≡ Written n) where
+module _ {node : NodeId} {e : ErrorEntry} {r : (Result ℕ JournalError)} {n : ℕ} {target after : List ℕ} (W : WritesRecord node e r target after) (w : r ≡ Ok n) where
   tested : (valid_record node.0 e ≡ true) × (n ≡ 21)
   tested = by_tests (leb 21 (length target)) (valid_record node.0 e) refl W.answer
     where
-      by_tests : (b v : Bool) → valid_record node.0 e ≡ v → r ≡ need b BufferTooShort (need v RecordInvalid (Written 21))
+      by_tests : (b v : Bool) → valid_record node.0 e ≡ v → r ≡ need b (Err BufferTooShort) (need v (Err RecordInvalid) (Ok 21))
           → (valid_record node.0 e ≡ true) × (n ≡ 21)
       by_tests true true h a = (h, (cc))
       by_tests true false h a = let z : ◌≡◌ {A = ℕ} 0 1 = cc in let y : ⊥ = omega arith in absurd y
@@ -79,7 +80,7 @@ module _ {node : NodeId} {e : ErrorEntry} {r : JournalAnswer} {n : ℕ} {target 
 records_lines : {xs : List Recorded} {octets : List ℕ} → Journaled xs octets → lines version1 octets ≡ fields_lines xs
 records_lines none = lines_none [] refl
 records_lines (more {x} {xs} {r} {n} {octets = octets} ranges W a j) =
-    let is_written : r ≡ Written n = cc in
+    let is_written : r ≡ Ok n = cc in
     ap (λ (l : List ℕ). lines version1 (l ++ octets)) (at_front W is_written)
     ∙ first_record x ranges (tested W is_written).0 octets
     ∙ ap (λ (l : List ℕ). fields_line x.node.0 (masked x.entry) ++ l) (records_lines j)

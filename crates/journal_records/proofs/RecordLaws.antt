@@ -10,19 +10,20 @@ use lib.ListN.{length, drop, set, length-drop}
 use lib.Seq.{sets, set_comm, length-take-le}
 use borrow.Rule.Slice.PartMut.{mid_of, put_mid}
 use borrow.Author.Tests.{le-leb, lt-leb, leb-true, leb-false}
+use Rattle.std.specs.Prelude.{Result, Ok, Err}
 use Rattle.octets.proofs.Sets.{sets_front}
 use Rattle.types.specs.Modes.{unless_terminator}
 use Rattle.types.specs.Nodes.{is_cn_node_id}
 use Rattle.types.specs.declared.NodeId.{NodeId}
 use Rattle.section.specs.Write.{Writes}
-use Rattle.section.specs.declared.WriteAnswer.{WriteAnswer}
 use Rattle.error_entry.specs.Entry.{entry_bytes}
 use Rattle.error_entry.specs.declared.ErrorEntry.{ErrorEntry}
 use Rattle.error_entry.proofs.Places.{writes_sets}
 use Rattle.records.proofs.PutLaws.{sets_rest}
 use Rattle.records.proofs.RecordLaws.{bytes_length}
 use Rattle.journal_records.specs.Record.{record_bytes, valid_record, WritesRecord}
-use Rattle.journal_records.specs.declared.JournalAnswer.TheVariants.{Written, BufferTooShort, RecordInvalid}
+use Rattle.journal_records.specs.declared.JournalError.TheVariants.{BufferTooShort, RecordInvalid}
+use Rattle.types.specs.declared.hal.PowerlinkError.{PowerlinkError}
 
 module _ (node : ℕ) (e : ErrorEntry) where
   pub id_bad : is_cn_node_id node ≡ false → false ≡ valid_record node e
@@ -54,16 +55,16 @@ set_sets l i j v [] h = refl
 set_sets l i j v (u ∷ us) h = set_sets (set l j u) i (suc j) v us (omega arith) ∙ rw (set_comm l j i u v (λ e. omega (arith, e)))
 
 module _ (node : NodeId) (e : ErrorEntry) (t : List ℕ) where
-  pub record_short : length t < 21 → WritesRecord node e BufferTooShort t t
+  pub record_short : length t < 21 → WritesRecord node e (Err BufferTooShort) t t
   record_short h = let f = lt-leb 21 (length t) h in record { answer = rw f; cause = rw f; holds = refl }
 
   module _ (long : 21 ≤ length t) where
-    pub record_bad : valid_record node.0 e ≡ false → WritesRecord node e RecordInvalid t t
+    pub record_bad : valid_record node.0 e ≡ false → WritesRecord node e (Err RecordInvalid) t t
     record_bad h =
         let f = le-leb 21 (length t) long in
         record { answer = rw (f, h); cause = rw (f, h); holds = refl }
 
-    pub record_written : valid_record node.0 e ≡ true → WritesRecord node e (Written 21) t (sets t 0 (record_bytes node.0 e))
+    pub record_written : valid_record node.0 e ≡ true → WritesRecord node e (Ok 21) t (sets t 0 (record_bytes node.0 e))
     record_written h =
         let f = le-leb 21 (length t) long in
         let k = record_length node.0 e in
@@ -74,8 +75,8 @@ module _ (node : NodeId) (e : ErrorEntry) (t : List ℕ) where
         }
 
     -- the entry is put behind the ID's place, and then the ID
-    pub record_put : (r : WriteAnswer) (part : List ℕ) → valid_record node.0 e ≡ true → Writes (entry_bytes e) r (mid_of 1 (length t - 1) t) part
-        → WritesRecord node e (Written 21) t (set (put_mid 1 (length t - 1) t part) 0 node.0)
+    pub record_put : (r : Result ℕ PowerlinkError) (part : List ℕ) → valid_record node.0 e ≡ true → Writes (entry_bytes e) r (mid_of 1 (length t - 1) t) part
+        → WritesRecord node e (Ok 21) t (set (put_mid 1 (length t - 1) t part) 0 node.0)
     unfolding record_bytes
     record_put r part h w =
         let l : length (mid_of 1 (length t - 1) t) ≡ length t - 1 = length-take-le (length t - 1) (drop 1 t) (simp length-drop (omega arith)) in

@@ -9,33 +9,36 @@ use native.Mathlib.Omega.{arith}
 use lib.Dec.{ltb}
 use lib.ListN.{length, drop}
 use borrow.Author.Tests.{le-leb, lt-leb, eq-eqb, ne_eqb}
+use Rattle.std.specs.Prelude.{Result, Ok, Err}
 use Rattle.octets.specs.Numbers.{le_at}
 use Rattle.error_entry.specs.Entry.{read_entry, or_terminator}
 use Rattle.error_entry.specs.declared.ErrorEntry.{ErrorEntry}
-use Rattle.error_entry.specs.declared.ErrorEntryAnswer.{ErrorEntryAnswer}
 use Rattle.records.specs.Records.{record_at}
 use Rattle.records.proofs.RecordLaws.{record_read}
 use Rattle.journal_records.specs.Listing.{node_of, recorded_entry, version1, layout_of, header_line, record_line, good_record, marked, fields_line}
 use Rattle.journal_records.specs.Parts.{Piece, stopped, refusal, one_line, header_step, record_step, phase_step, needed, awaits, ended, step_of, told, Prints}
 use Rattle.journal_records.specs.Record.{valid_record}
 use Rattle.journal_records.specs.Text.{Puts}
-use Rattle.journal_records.specs.declared.listing.ListAnswer.{ListAnswer}
-use Rattle.journal_records.specs.declared.listing.ListAnswer.TheVariants.{More, End, BufferTooShort, NotAJournal, UnknownVersion, RecordInvalid}
+use Rattle.journal_records.specs.declared.listing.ListError.TheVariants.{BufferTooShort, NotAJournal, UnknownVersion, RecordInvalid}
+use Rattle.journal_records.specs.declared.listing.Stop.TheVariants.{More, End}
 use Rattle.journal_records.specs.declared.listing.Part.{Part}
 use Rattle.journal_records.specs.declared.listing.Phase.{Phase}
 use Rattle.journal_records.specs.declared.listing.Phase.TheVariants.{Header, Records}
+use Rattle.types.specs.declared.hal.PowerlinkError.{PowerlinkError}
+use Rattle.journal_records.specs.declared.listing.Stop.{Stop}
+use Rattle.journal_records.specs.declared.listing.ListError.{ListError}
 
 module _ (s : List ℕ) where
-  pub header_cut : length s < 5 → header_step s ≡ refusal NotAJournal Header
+  pub header_cut : length s < 5 → header_step s ≡ refusal (Err NotAJournal) Header
   unfolding header_step
   header_cut h = rw (lt-leb 5 (length s) h)
 
   module _ (long : 5 ≤ length s) where
-    pub header_unmarked : marked s ≡ false → header_step s ≡ refusal NotAJournal Header
+    pub header_unmarked : marked s ≡ false → header_step s ≡ refusal (Err NotAJournal) Header
     unfolding header_step
     header_unmarked e = rw (le-leb 5 (length s) long, e)
 
-    pub header_version : marked s ≡ true → (le_at 2 3 s ≡ 1 → ⊥) → header_step s ≡ refusal UnknownVersion Header
+    pub header_version : marked s ≡ true → (le_at 2 3 s ≡ 1 → ⊥) → header_step s ≡ refusal (Err UnknownVersion) Header
     unfolding header_step layout_of
     header_version e f = rw (le-leb 5 (length s) long, e, ne_eqb (le_at 2 3 s) 1 f)
 
@@ -43,16 +46,16 @@ module _ (s : List ℕ) where
     unfolding header_step layout_of
     header_good e f = rw (le-leb 5 (length s) long, e, eq-eqb (le_at 2 3 s) 1 f)
 
-  pub record_cut : length s < 21 → record_step s ≡ refusal RecordInvalid Records
+  pub record_cut : length s < 21 → record_step s ≡ refusal (Err RecordInvalid) Records
   unfolding record_step version1 good_record
   record_cut h = rw (lt-leb 21 (length s) h)
 
   module _ (long : 21 ≤ length s) where
-    pub entry_read : (t : List ℕ) (a : ErrorEntryAnswer) (e : ErrorEntry) → t ≡ drop 1 s → a ≡ read_entry t → e ≡ or_terminator a → e ≡ recorded_entry s
+    pub entry_read : (t : List ℕ) (a : Result ErrorEntry PowerlinkError) (e : ErrorEntry) → t ≡ drop 1 s → a ≡ read_entry t → e ≡ or_terminator a → e ≡ recorded_entry s
     unfolding record_at
     entry_read t a e et ea ee = record_read s 1 a e (omega arith) (ea ∙ ap read_entry et) ee
 
-    pub record_fault : valid_record (node_of s) (recorded_entry s) ≡ false → record_step s ≡ refusal RecordInvalid Records
+    pub record_fault : valid_record (node_of s) (recorded_entry s) ≡ false → record_step s ≡ refusal (Err RecordInvalid) Records
     unfolding record_step version1 good_record
     record_fault e = rw (le-leb 21 (length s) long, e)
 
@@ -73,17 +76,17 @@ pub ended_by : (p : Phase) (n : ℕ) (q : Phase) → p ≡ q → ended q n ≡ e
 ended_by p n q e = rw e
 
 module _ (p : Phase) (s : List ℕ) (last : Bool) (room : ℕ) where
-  pub step_waits : awaits p (length s) last ≡ true → step_of p s last room ≡ stopped More p
+  pub step_waits : awaits p (length s) last ≡ true → step_of p s last room ≡ stopped (Ok More) p
   unfolding step_of
   step_waits e = rw e
 
   module _ (enough : awaits p (length s) last ≡ false) where
-    pub step_ends : ended p (length s) ≡ true → step_of p s last room ≡ stopped End p
+    pub step_ends : ended p (length s) ≡ true → step_of p s last room ≡ stopped (Ok End) p
     unfolding step_of
     step_ends e = rw (enough, e)
 
     module _ (some : ended p (length s) ≡ false) where
-      pub step_full : room < 55 → step_of p s last room ≡ stopped BufferTooShort p
+      pub step_full : room < 55 → step_of p s last room ≡ stopped (Err BufferTooShort) p
       unfolding step_of
       step_full h = rw (enough, some, lt-leb 55 room h)
 
@@ -96,7 +99,7 @@ module _ (p : Phase) (s : List ℕ) (last : Bool) (room : ℕ) where
 pub prints_as : {p q : Piece} {r : Part} {out after : List ℕ} → p ≡ q → Prints q r out after → Prints p r out after
 prints_as e h = rw e h
 
-pub prints_none : {a : ListAnswer} {q : Phase} {r : Part} {out : List ℕ} → r ≡ told (stopped a q) → Prints (stopped a q) r out out
+pub prints_none : {a : (Result Stop ListError)} {q : Phase} {r : Part} {out : List ℕ} → r ≡ told (stopped a q) → Prints (stopped a q) r out out
 prints_none e = record { answer = e; holds = refl }
 
 pub prints_text : {p : Piece} {r : ℕ} {out after : List ℕ} → Puts p.text 0 r out after

@@ -8,30 +8,32 @@ use lib.Dec.{leb, ltb, eqb}
 use lib.ListN.{length}
 use native.Mathlib.Omega.{arith}
 use borrow.Author.Tests.{leb-true, leb-false, ltb-true, ltb-false, eqb-true, eqb-false}
+use Rattle.std.specs.Prelude.{Ok, Err}
 use Rattle.octets.specs.Numbers.{le_at}
 use Rattle.journal_records.specs.Listing.{node_of, recorded_entry, version1, header_line, fields_line, marked}
 use Rattle.journal_records.specs.Parts.{Piece, stopped, refusal, one_line, header_step, record_step, phase_step, needed, awaits, ended, step_of}
 use Rattle.journal_records.specs.Record.{valid_record}
-use Rattle.journal_records.specs.declared.listing.ListAnswer.TheVariants.{More, End, BufferTooShort, NotAJournal, UnknownVersion, RecordInvalid}
+use Rattle.journal_records.specs.declared.listing.ListError.TheVariants.{BufferTooShort, NotAJournal, UnknownVersion, RecordInvalid}
+use Rattle.journal_records.specs.declared.listing.Stop.TheVariants.{More, End}
 use Rattle.journal_records.specs.declared.listing.Phase.{Phase}
 use Rattle.journal_records.specs.declared.listing.Phase.TheVariants.{Header, Records}
 use Rattle.journal_records.proofs.StepLaws.{header_cut, header_unmarked, header_version, header_good, record_cut, record_fault, record_good, step_waits, step_ends, step_full, step_by}
 
 -- a step that writes a line
 pub data Lined : Phase → List ℕ → Bool → Piece → Type 0 where
-  head_cut : {s : List ℕ} → length s < 5 → Lined Header s true (refusal NotAJournal Header)
-  unmarked : {s : List ℕ} {last : Bool} → 5 ≤ length s → marked s ≡ false → Lined Header s last (refusal NotAJournal Header)
-  other_version : {s : List ℕ} {last : Bool} → 5 ≤ length s → marked s ≡ true → (le_at 2 3 s ≡ 1 → ⊥) → Lined Header s last (refusal UnknownVersion Header)
+  head_cut : {s : List ℕ} → length s < 5 → Lined Header s true (refusal (Err NotAJournal) Header)
+  unmarked : {s : List ℕ} {last : Bool} → 5 ≤ length s → marked s ≡ false → Lined Header s last (refusal (Err NotAJournal) Header)
+  other_version : {s : List ℕ} {last : Bool} → 5 ≤ length s → marked s ≡ true → (le_at 2 3 s ≡ 1 → ⊥) → Lined Header s last (refusal (Err UnknownVersion) Header)
   head_good : {s : List ℕ} {last : Bool} → 5 ≤ length s → marked s ≡ true → le_at 2 3 s ≡ 1 → Lined Header s last (one_line 5 (header_line version1))
-  short : {s : List ℕ} → length s < 21 → (length s ≡ 0 → ⊥) → Lined Records s true (refusal RecordInvalid Records)
-  fault : {s : List ℕ} {last : Bool} → 21 ≤ length s → valid_record (node_of s) (recorded_entry s) ≡ false → Lined Records s last (refusal RecordInvalid Records)
+  short : {s : List ℕ} → length s < 21 → (length s ≡ 0 → ⊥) → Lined Records s true (refusal (Err RecordInvalid) Records)
+  fault : {s : List ℕ} {last : Bool} → 21 ≤ length s → valid_record (node_of s) (recorded_entry s) ≡ false → Lined Records s last (refusal (Err RecordInvalid) Records)
   good : {s : List ℕ} {last : Bool} → 21 ≤ length s → valid_record (node_of s) (recorded_entry s) ≡ true
       → Lined Records s last (one_line 21 (fields_line (node_of s) (recorded_entry s)))
 
 pub data View : Phase → List ℕ → Bool → ℕ → Piece → Type 0 where
-  waits : {p : Phase} {s : List ℕ} {room : ℕ} → length s < needed p → View p s false room (stopped More p)
-  ends : {s : List ℕ} {room : ℕ} → length s ≡ 0 → View Records s true room (stopped End Records)
-  full : {p : Phase} {s : List ℕ} {last : Bool} {room : ℕ} → room < 55 → View p s last room (stopped BufferTooShort p)
+  waits : {p : Phase} {s : List ℕ} {room : ℕ} → length s < needed p → View p s false room (stopped (Ok More) p)
+  ends : {s : List ℕ} {room : ℕ} → length s ≡ 0 → View Records s true room (stopped (Ok End) Records)
+  full : {p : Phase} {s : List ℕ} {last : Bool} {room : ℕ} → room < 55 → View p s last room (stopped (Err BufferTooShort) p)
   lined : {p : Phase} {s : List ℕ} {last : Bool} {room : ℕ} {q : Piece} → 55 ≤ room → Lined p s last q → View p s last room q
 
 few : {A : Type 0} {n m : ℕ} → m < n → n ≤ m → A
@@ -82,7 +84,7 @@ module _ (s : List ℕ) (last : Bool) (room : ℕ) where
   unfolding ended
   end_view a enough = by_end (eqb (length s) 0) refl
     where
-      at_end : (last' : Bool) → last ≡ last' → length s ≡ 0 → View Records s last room (stopped End Records)
+      at_end : (last' : Bool) → last ≡ last' → length s ≡ 0 → View Records s last room (stopped (Ok End) Records)
       at_end true l z = rw l (ends z)
       at_end false l z = let y : ⊥ = omega (arith, enough l) in absurd y
 

@@ -7,24 +7,24 @@ use native.Mathlib.Omega.{arith}
 use lib.ListN.{length, take, length-append}
 use lib.Seq.{take_at}
 use borrow.Author.Tests.{le-leb, lt-leb, eq-eqb, ne_eqb}
+use Rattle.std.specs.Prelude.{Ok, Err}
 use Rattle.journal_records.specs.Listing.{version1, header_line, layout_of, listing}
 use Rattle.journal_records.specs.ReadBack.{Recorded, Journaled, none, more, fields_lines, journal_start}
 use Rattle.journal_records.specs.Whole.{whole_len, TornReadsBack}
-use Rattle.journal_records.specs.declared.JournalAnswer.TheVariants.{Written}
-use Rattle.journal_records.specs.declared.WholeLenAnswer.TheVariants.{Whole, TooShort, UnknownVersion}
+use Rattle.journal_records.specs.declared.WholeLenError.TheVariants.{TooShort, UnknownVersion}
 use Rattle.journal_records.proofs.ReadBack.{at_front, records_read_back}
 use Rattle.journal_records.proofs.RecordLaws.{record_length}
 
 module _ (version len : ℕ) where
-  pub whole_cut : len < 5 → whole_len version len ≡ TooShort
+  pub whole_cut : len < 5 → whole_len version len ≡ Err TooShort
   unfolding whole_len
   whole_cut h = rw (lt-leb 5 len h)
 
-  pub whole_version : 5 ≤ len → (version ≡ 1 → ⊥) → whole_len version len ≡ UnknownVersion
+  pub whole_version : 5 ≤ len → (version ≡ 1 → ⊥) → whole_len version len ≡ Err UnknownVersion
   unfolding whole_len layout_of
   whole_version h f = rw (le-leb 5 len h, ne_eqb version 1 f)
 
-  pub whole_known : 5 ≤ len → version ≡ 1 → whole_len version len ≡ Whole (5 + 21 * ((len - 5) / 21))
+  pub whole_known : 5 ≤ len → version ≡ 1 → whole_len version len ≡ Ok (5 + 21 * ((len - 5) / 21))
   unfolding whole_len layout_of version1
   whole_known h e = rw (le-leb 5 len h, eq-eqb version 1 e)
 
@@ -33,7 +33,7 @@ module _ (version len : ℕ) where
 journaled_length : {xs : List Recorded} {octets : List ℕ} → Journaled xs octets → length octets ≡ 21 * length xs
 journaled_length none = refl
 journaled_length (more {x} {xs} {r} {n} {octets = octets} ranges W a j) =
-    let is_written : r ≡ Written n = cc in
+    let is_written : r ≡ Ok n = cc in
     rw (at_front W is_written, length-append) (omega (arith, record_length x.node.0 x.entry, journaled_length j))
 
 journaled_append : {xs ys : List Recorded} {octets behind : List ℕ} → Journaled xs octets → Journaled ys behind → Journaled (xs ++ ys) (octets ++ behind)
@@ -47,15 +47,15 @@ module _ {xs : List Recorded} {octets : List ℕ} (torn : List ℕ) (j : Journal
   unfolding version1
   whole_records = simp length-append (omega (arith, journaled_length j, short))
 
-  ends : whole_len 1 (length ((journal_start ++ octets) ++ torn)) ≡ Whole (length (journal_start ++ octets))
+  ends : whole_len 1 (length ((journal_start ++ octets) ++ torn)) ≡ Ok (length (journal_start ++ octets))
   ends =
       whole_known 1 (length ((journal_start ++ octets) ++ torn)) (simp length-append (omega arith)) refl
-      ∙ ap Whole (rw (whole_records, length-append) (omega (arith, journaled_length j)))
+      ∙ ap Ok (rw (whole_records, length-append) (omega (arith, journaled_length j)))
 
-  module _ {ys : List Recorded} {appended : List ℕ} (n : ℕ) (k : Journaled ys appended) (e : whole_len 1 (length ((journal_start ++ octets) ++ torn)) ≡ Whole n) where
+  module _ {ys : List Recorded} {appended : List ℕ} (n : ℕ) (k : Journaled ys appended) (e : whole_len 1 (length ((journal_start ++ octets) ++ torn)) ≡ Ok n) where
     listed : listing (take n ((journal_start ++ octets) ++ torn) ++ appended) ≡ header_line version1 ++ fields_lines (xs ++ ys)
     listed =
-        let w : Whole (length (journal_start ++ octets)) ≡ Whole n = sym ends ∙ e in
+        let w : Ok (length (journal_start ++ octets)) ≡ Ok n = sym ends ∙ e in
         let q : length (journal_start ++ octets) ≡ n = cc in
         rw (take_at (journal_start ++ octets) torn n q, append_assoc) (records_read_back.records (xs ++ ys) (octets ++ appended) (journaled_append j k))
 

@@ -1,9 +1,10 @@
 -- Calls one after the other print the listing, however the journal is cut into parts.
 -- Assumes nothing.
-use Rattle.std.specs.Prelude.{ℕ, ◌+◌, ◌≤◌, ◌<◌, Bool, true, false, ◌≡◌, List, [], ◌++◌, length, take, drop}
+use Rattle.std.specs.Prelude.{ℕ, ◌+◌, ◌≤◌, ◌<◌, Bool, true, false, ◌≡◌, List, [], ◌++◌, length, take, drop, Ok, Err}
 use Rattle.journal_records.specs.Listing.{line_most, refused_line, listing}
 use Rattle.journal_records.specs.Parts.{Lists, list_cause, text_from, needed, goes_on, due_after}
-use Rattle.journal_records.specs.declared.listing.ListAnswer.TheVariants.{More, Full, End, BufferTooShort}
+use Rattle.journal_records.specs.declared.listing.ListError.TheVariants.{BufferTooShort}
+use Rattle.journal_records.specs.declared.listing.Stop.TheVariants.{More, Full, End}
 use Rattle.journal_records.specs.declared.listing.Part.{Part}
 use Rattle.journal_records.specs.declared.listing.Phase.{Phase}
 use Rattle.journal_records.specs.declared.listing.Phase.TheVariants.{Header}
@@ -34,16 +35,16 @@ pub record ListsInParts : Type 0 where
   pub within : {p : Phase} {s : List ℕ} {last : Bool} {r : Part} {out after : List ℕ} → Lists p s last r out after
       → (r.consumed ≤ length s) × (r.written ≤ length out) × (length after ≡ length out)
   -- octets have to come only where they may, and fewer are left than a record has, or mark and version
-  pub more : {p : Phase} {s : List ℕ} {last : Bool} {r : Part} {out after : List ℕ} → Lists p s last r out after → r.answer ≡ More
+  pub more : {p : Phase} {s : List ℕ} {last : Bool} {r : Part} {out after : List ℕ} → Lists p s last r out after → r.answer ≡ Ok More
       → (last ≡ false) × (length s < r.consumed + needed r.phase)
   -- the room is used up only after something was listed, and where less is left than the longest line has
-  pub full : {p : Phase} {s : List ℕ} {last : Bool} {r : Part} {out after : List ℕ} → Lists p s last r out after → r.answer ≡ Full
+  pub full : {p : Phase} {s : List ℕ} {last : Bool} {r : Part} {out after : List ℕ} → Lists p s last r out after → r.answer ≡ Ok Full
       → (0 < r.consumed) × (length out < r.written + line_most)
   -- 1 is answered only where less is lent, and leaves all as it was
-  pub short : {p : Phase} {s : List ℕ} {last : Bool} {r : Part} {out after : List ℕ} → Lists p s last r out after → r.answer ≡ BufferTooShort
+  pub short : {p : Phase} {s : List ℕ} {last : Bool} {r : Part} {out after : List ℕ} → Lists p s last r out after → r.answer ≡ Err BufferTooShort
       → (length out < line_most) × ((r.consumed ≡ 0) × ((r.phase ≡ p) × (after ≡ out)))
   -- the end is answered where the last octets are dealt with
-  pub end : {p : Phase} {s : List ℕ} {last : Bool} {r : Part} {out after : List ℕ} → Lists p s last r out after → r.answer ≡ End
+  pub end : {p : Phase} {s : List ℕ} {last : Bool} {r : Part} {out after : List ℕ} → Lists p s last r out after → r.answer ≡ Ok End
       → (last ≡ true) × (r.consumed ≡ length s)
   -- where 17, 18 or 19 is answered, the line that says so is the last that was written
   pub refused : {p : Phase} {s : List ℕ} {last : Bool} {r : Part} {out after : List ℕ} → Lists p s last r out after → 17 ≤ (list_cause r.answer).number

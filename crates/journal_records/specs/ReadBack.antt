@@ -1,13 +1,12 @@
 -- Records that are written are listed with their fields.
 -- Assumes nothing.
-use Rattle.std.specs.Prelude.{ℕ, ◌%◌, ◌^◌, ◌<◌, true, ◌≡◌, List, [], ◌∷◌, ◌++◌, take}
+use Rattle.std.specs.Prelude.{ℕ, ◌%◌, ◌^◌, ◌<◌, true, ◌≡◌, List, [], ◌∷◌, ◌++◌, take, Result, Ok}
 use Rattle.octets.specs.Numbers.{le_at}
 use Rattle.types.specs.declared.NodeId.{NodeId}
 use Rattle.error_entry.specs.declared.ErrorEntry.{ErrorEntry}
 use Rattle.journal_records.specs.Listing.{known, version1, header_line, fields_line, layout_of, marked, listing}
 use Rattle.journal_records.specs.Record.{WritesRecord}
-use Rattle.journal_records.specs.declared.JournalAnswer.{JournalAnswer}
-use Rattle.journal_records.specs.declared.JournalAnswer.TheVariants.{Written}
+use Rattle.journal_records.specs.declared.JournalError.{JournalError}
 
 -- a node ID with an entry
 pub record Recorded : Type 0 where
@@ -24,8 +23,8 @@ pub record InWidth (x : Recorded) : Type 0 where
 -- octets of records, one behind the other: those that calls of `write` have put to the front of their targets
 pub data Journaled : List Recorded → List ℕ → Type 0 where
   none : Journaled [] []
-  more : {x : Recorded} {xs : List Recorded} {r : JournalAnswer} {n : ℕ} {target after octets : List ℕ} → InWidth x
-      → WritesRecord x.node x.entry r target after → r ≡ Written n → Journaled xs octets → Journaled (x ∷ xs) (take n after ++ octets)
+  more : {x : Recorded} {xs : List Recorded} {r : (Result ℕ JournalError)} {n : ℕ} {target after octets : List ℕ} → InWidth x
+      → WritesRecord x.node x.entry r target after → r ≡ Ok n → Journaled xs octets → Journaled (x ∷ xs) (take n after ++ octets)
 
 -- the entry as it is written: the profile masked to 12 bits
 abbrev pub masked : ErrorEntry → ErrorEntry

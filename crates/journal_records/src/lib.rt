@@ -20,6 +20,7 @@ pub const JOURNAL_START_LEN: usize = 5;
 // The octets of a record: the node ID, and the entry's 20.
 pub const JOURNAL_RECORD_LEN: usize = 1 + ENTRY_LEN;
 
+@@DECL JournalAnswer@@
 #[derive(Clone, Copy)]
 pub enum JournalAnswer {
     Written(usize),
@@ -28,6 +29,7 @@ pub enum JournalAnswer {
     RecordInvalid,
 }
 
+@@DECL WholeLenAnswer@@
 #[derive(Clone, Copy)]
 pub enum WholeLenAnswer {
     Whole(usize),
@@ -37,18 +39,18 @@ pub enum WholeLenAnswer {
 }
 
 // Writes one record, if it fits and is one that listing takes.
-pub fn write(node: NodeId, entry: ErrorEntry, target: &mut [u8]) -> JournalAnswer
+pub fn write(node: NodeId, entry: ErrorEntry, target: &mut [u8]) -> Result<usize, JournalError>
     ensures { WritesRecord node entry result target.old target.new }
 {
     if target.len() < JOURNAL_RECORD_LEN {
-        return JournalAnswer::BufferTooShort;
+        return Err(JournalError::BufferTooShort);
     }
     if !valid(node, entry) {
-        return JournalAnswer::RecordInvalid;
+        return Err(JournalError::RecordInvalid);
     }
     entry.serialize(&mut target[1..]);
     target[0] = node.0;
-    JournalAnswer::Written(JOURNAL_RECORD_LEN)
+    Ok(JOURNAL_RECORD_LEN)
 }
 
 // Whether a record holds an entry of a controlled node.
@@ -69,15 +71,15 @@ fn valid(node: NodeId, entry: ErrorEntry) -> bool
 // How many octets of a journal are its mark, its version and whole records. A writer that was stopped, by a power cut say, may
 // leave a record torn at the end: before anything is appended, the journal is cut to this length. Else the records behind the
 // torn one are read from a wrong place, and faults are listed that nobody raised.
-pub fn whole_len(version: u16, len: usize) -> WholeLenAnswer
+pub fn whole_len(version: u16, len: usize) -> Result<usize, WholeLenError>
     ensures { TellsWhole version len result }
 {
     if len < JOURNAL_START_LEN {
-        return WholeLenAnswer::TooShort;
+        return Err(WholeLenError::TooShort);
     }
     if version != VERSION {
-        return WholeLenAnswer::UnknownVersion;
+        return Err(WholeLenError::UnknownVersion);
     }
     let records = (len - JOURNAL_START_LEN) / JOURNAL_RECORD_LEN;
-    WholeLenAnswer::Whole(JOURNAL_START_LEN + JOURNAL_RECORD_LEN * records)
+    Ok(JOURNAL_START_LEN + JOURNAL_RECORD_LEN * records)
 }

@@ -28,6 +28,7 @@ pub enum Phase {
     Records,
 }
 
+@@DECL ListAnswer@@
 // Why a call listed no further.
 #[derive(Clone, Copy)]
 pub enum ListAnswer {
@@ -51,7 +52,7 @@ pub enum ListAnswer {
 // and what is to come if calls go on.
 #[derive(Clone, Copy)]
 pub struct Part {
-    pub answer: ListAnswer,
+    pub answer: Result<Stop, ListError>,
     pub phase: Phase,
     pub consumed: usize,
     pub written: usize,
@@ -83,7 +84,7 @@ pub fn list_part(phase: Phase, bytes: &[u8], last: bool, out: &mut [u8]) -> Part
 }
 
 // The answer in all, of a last step that consumed nothing.
-fn answer_after(consumed: usize, answer: ListAnswer) -> ListAnswer
+fn answer_after(consumed: usize, answer: Result<Stop, ListError>) -> Result<Stop, ListError>
     ensures { result ≡ answer_after consumed answer }
 {
     if consumed == 0 {
@@ -93,17 +94,17 @@ fn answer_after(consumed: usize, answer: ListAnswer) -> ListAnswer
 }
 
 // What an answer comes to where lines are written already: the room is used up, and was not too short.
-fn later(answer: ListAnswer) -> ListAnswer
+fn later(answer: Result<Stop, ListError>) -> Result<Stop, ListError>
     ensures { result ≡ Parts·later answer }
 {
     match answer {
-        ListAnswer::More => ListAnswer::More,
-        ListAnswer::Full => ListAnswer::Full,
-        ListAnswer::End => ListAnswer::End,
-        ListAnswer::BufferTooShort => ListAnswer::Full,
-        ListAnswer::NotAJournal => ListAnswer::NotAJournal,
-        ListAnswer::UnknownVersion => ListAnswer::UnknownVersion,
-        ListAnswer::RecordInvalid => ListAnswer::RecordInvalid,
+        Ok(Stop::More) => Ok(Stop::More),
+        Ok(Stop::Full) => Ok(Stop::Full),
+        Ok(Stop::End) => Ok(Stop::End),
+        Err(ListError::BufferTooShort) => Ok(Stop::Full),
+        Err(ListError::NotAJournal) => Err(ListError::NotAJournal),
+        Err(ListError::UnknownVersion) => Err(ListError::UnknownVersion),
+        Err(ListError::RecordInvalid) => Err(ListError::RecordInvalid),
     }
 }
 
@@ -113,13 +114,13 @@ fn step(phase: Phase, bytes: &[u8], last: bool, out: &mut [u8]) -> Part
 {
     let n = bytes.len();
     if awaits(phase, n, last) {
-        return stopped(ListAnswer::More, phase);
+        return stopped(Ok(Stop::More), phase);
     }
     if ended(phase, n) {
-        return stopped(ListAnswer::End, phase);
+        return stopped(Ok(Stop::End), phase);
     }
     if out.len() < LINE_MAX {
-        return stopped(ListAnswer::BufferTooShort, phase);
+        return stopped(Err(ListError::BufferTooShort), phase);
     }
     match phase {
         Phase::Header => header(bytes, out),
@@ -150,7 +151,7 @@ fn ended(phase: Phase, n: usize) -> bool
     }
 }
 
-fn stopped(answer: ListAnswer, phase: Phase) -> Part
+fn stopped(answer: Result<Stop, ListError>, phase: Phase) -> Part
     ensures { result ≡ told (Parts·stopped answer phase) }
 {
     Part {
@@ -166,19 +167,19 @@ fn header(bytes: &[u8], out: &mut [u8]) -> Part
     ensures { Prints (header_step bytes.now) result out.old out.new }
 {
     if bytes.len() < JOURNAL_START_LEN {
-        return refuse(ListAnswer::NotAJournal, Phase::Header, out);
+        return refuse(Err(ListError::NotAJournal), Phase::Header, out);
     }
     let mark = has_mark(bytes, *b"PLB");
     let known = get_u16_le(bytes, 3) == VERSION;
     if !mark {
-        return refuse(ListAnswer::NotAJournal, Phase::Header, out);
+        return refuse(Err(ListError::NotAJournal), Phase::Header, out);
     }
     if !known {
-        return refuse(ListAnswer::UnknownVersion, Phase::Header, out);
+        return refuse(Err(ListError::UnknownVersion), Phase::Header, out);
     }
     put(out, 0, b"node code mode profile sec nsec info\n");
     Part {
-        answer: ListAnswer::More,
+        answer: Ok(Stop::More),
         phase: Phase::Records,
         consumed: JOURNAL_START_LEN,
         written: HEADER_LINE_LEN,
@@ -190,16 +191,16 @@ fn record(bytes: &[u8], out: &mut [u8]) -> Part
     ensures { Prints (record_step bytes.now) result out.old out.new }
 {
     if bytes.len() < JOURNAL_RECORD_LEN {
-        return refuse(ListAnswer::RecordInvalid, Phase::Records, out);
+        return refuse(Err(ListError::RecordInvalid), Phase::Records, out);
     }
     let node = NodeId(bytes[0]);
     let entry = ErrorEntry::deserialize(tail(bytes, 1)).or_terminator();
     if !valid(node, entry) {
-        return refuse(ListAnswer::RecordInvalid, Phase::Records, out);
+        return refuse(Err(ListError::RecordInvalid), Phase::Records, out);
     }
     let written = put_line(node, entry, out);
     Part {
-        answer: ListAnswer::More,
+        answer: Ok(Stop::More),
         phase: Phase::Records,
         consumed: JOURNAL_RECORD_LEN,
         written,
@@ -207,7 +208,7 @@ fn record(bytes: &[u8], out: &mut [u8]) -> Part
 }
 
 // The line of a refusal, with its number.
-fn refuse(answer: ListAnswer, phase: Phase, out: &mut [u8]) -> Part
+fn refuse(answer: Result<Stop, ListError>, phase: Phase, out: &mut [u8]) -> Part
     ensures { Prints (refusal answer phase) result out.old out.new }
 {
     put(out, 0, b"refused ");
@@ -221,16 +222,16 @@ fn refuse(answer: ListAnswer, phase: Phase, out: &mut [u8]) -> Part
 }
 
 // 01's number.
-fn cause(answer: ListAnswer) -> u8
+fn cause(answer: Result<Stop, ListError>) -> u8
     ensures { result ≡ (list_cause answer).number }
 {
     match answer {
-        ListAnswer::More => NOT_REFUSED,
-        ListAnswer::Full => NOT_REFUSED,
-        ListAnswer::End => NOT_REFUSED,
-        ListAnswer::BufferTooShort => TOO_SHORT,
-        ListAnswer::NotAJournal => NOT_A_JOURNAL,
-        ListAnswer::UnknownVersion => UNKNOWN_VERSION,
-        ListAnswer::RecordInvalid => RECORD_INVALID,
+        Ok(Stop::More) => NOT_REFUSED,
+        Ok(Stop::Full) => NOT_REFUSED,
+        Ok(Stop::End) => NOT_REFUSED,
+        Err(ListError::BufferTooShort) => TOO_SHORT,
+        Err(ListError::NotAJournal) => NOT_A_JOURNAL,
+        Err(ListError::UnknownVersion) => UNKNOWN_VERSION,
+        Err(ListError::RecordInvalid) => RECORD_INVALID,
     }
 }

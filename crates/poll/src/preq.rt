@@ -6,11 +6,12 @@ ghost use Rattle.poll.specs.PReq.{new_preq, preq_bytes, preq_section};
 use crate::{FIELDS_LEN, MS, RD};
 use octets::little_endian::put_u16_le;
 use octets::slices::put;
-use section::{WriteAnswer, flag, write_section};
+use section::{flag, write_section};
 use types::basic::{EthernetHeader, MacAddress};
 use types::mapping::PDOVersion;
 use types::message_type::MessageType;
 use types::{C_ADR_MN_DEF_NODE_ID, NodeId};
+use types::hal::PowerlinkError;
 
 // The flags (EPSG DS 301, Table 18).
 #[derive(Clone, Copy)]
@@ -79,7 +80,7 @@ impl PReqFrame {
     }
 
     // Writes the section with its payload, if it fits.
-    pub fn serialize(self, payload: &[u8], target: &mut [u8]) -> WriteAnswer
+    pub fn serialize(self, payload: &[u8], target: &mut [u8]) -> Result<usize, PowerlinkError>
         ensures { Writes (preq_section self payload.now) result target.old target.new }
     {
         write_section(&self.to_bytes(), payload, target)

@@ -6,13 +6,14 @@ ghost use Rattle.poll.specs.PRes.{new_pres, pres_bytes, pres_section};
 use crate::{FIELDS_LEN, MS, RD};
 use octets::little_endian::put_u16_le;
 use octets::slices::put;
-use section::{WriteAnswer, flag, write_section};
+use section::{flag, write_section};
 use types::basic::{EthernetHeader, MacAddress};
 use types::mapping::PDOVersion;
 use types::message_type::MessageType;
 use types::poll_flags::{PRFlag, RSFlag, poll_octet};
 use types::states::NmtState;
 use types::{C_ADR_BROADCAST_NODE_ID, C_DLL_MULTICAST_PRES, NodeId};
+use types::hal::PowerlinkError;
 
 // The flags (EPSG DS 301, Table 20).
 #[derive(Clone, Copy)]
@@ -90,7 +91,7 @@ impl PResFrame {
     }
 
     // Writes the section with its payload, if it fits.
-    pub fn serialize(self, payload: &[u8], target: &mut [u8]) -> WriteAnswer
+    pub fn serialize(self, payload: &[u8], target: &mut [u8]) -> Result<usize, PowerlinkError>
         ensures { Writes (pres_section self payload.now) result target.old target.new }
     {
         write_section(&self.to_bytes(), payload, target)

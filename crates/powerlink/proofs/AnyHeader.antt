@@ -10,6 +10,7 @@ use lib.Dec.{leb, eqb}
 use lib.ListN.{length, take, drop, length-append, length-take, length-drop, take-append-drop}
 use lib.Seq.{drop_at, drop-drop, drop-append-le, length-take-le}
 use borrow.Author.Tests.{le-leb, lt-leb}
+use Rattle.std.specs.Prelude.{Result, Ok, Err}
 use Rattle.octets.proofs.Order.{le_or_lt}
 use Rattle.types.specs.Causes.{cause_number}
 use Rattle.types.specs.Codes.{pick, need}
@@ -20,14 +21,9 @@ use Rattle.types.specs.declared.basic.EthernetHeader.{EthernetHeader}
 use Rattle.types.specs.declared.hal.PowerlinkError.{PowerlinkError}
 use Rattle.types.specs.declared.hal.PowerlinkError.TheVariants.{BufferTooShort, InvalidEthernetFrame, InvalidPlFrame, InvalidMessageType, InvalidNmtState, InvalidServiceId, InvalidRequestedServiceId}
 use Rattle.types.specs.declared.requested_service.RequestedServiceId.{RequestedServiceId}
-use Rattle.types.specs.declared.requested_service.RequestedServiceIdAnswer.{RequestedServiceIdAnswer}
-use Rattle.types.specs.declared.requested_service.RequestedServiceIdAnswer.TheVariants as query
 use Rattle.types.specs.declared.states.NmtState.{NmtState}
-use Rattle.types.specs.declared.states.NmtStateAnswer.{NmtStateAnswer}
-use Rattle.types.specs.declared.states.NmtStateAnswer.TheVariants as state
 use Rattle.services.specs.Table.{holds}
 use Rattle.section.specs.Write.{write_answer, write_cause, overwritten, Coded, octets, unnamed}
-use Rattle.section.specs.declared.WriteAnswer.TheVariants.{Refused}
 use Rattle.frame.specs.Write.{frame_bytes}
 use Rattle.powerlink.specs.AnyHeader.{behind_header, after_section, after_header, target_left, length_told, TwoCalls, OneCall, AnyHeader, FiveBehindHeader}
 use Rattle.powerlink.specs.Writing.{stated, requested, WritesTo, WritesCoded}
@@ -129,7 +125,7 @@ some_cause (InvalidNmtState b) = refl
 some_cause (InvalidServiceId b) = refl
 some_cause (InvalidRequestedServiceId b) = refl
 
-refused_cause : (b : Bool) (e : PowerlinkError) → eqb (write_cause (need b (Refused BufferTooShort) (Refused e))).number 0 ≡ false
+refused_cause : (b : Bool) (e : PowerlinkError) → eqb (write_cause (need b (Err BufferTooShort) (Err e))).number 0 ≡ false
 refused_cause true e = some_cause e
 refused_cause false e = refl
 
@@ -174,14 +170,14 @@ no_room_lem h (unnamed j e) t n o short =
 
 -- a code that is named gives the frame, and one that is not the same error
 module _ (h : EthernetHeader) (n k : ℕ) (more : 14 + n ≡ k) where
-  by_state : (a : NmtStateAnswer) (f g : NmtState → Coded) → ((s : NmtState) → behind_header h (f s) ≡ g s) → behind_header h (stated n a f) ≡ stated k a g
-  by_state (state.Unknown b) f g e = ap (λ (i : ℕ). unnamed i (InvalidNmtState b)) more
-  by_state (state.Known s) f g e = e s
+  by_state : (a : Result NmtState PowerlinkError) (f g : NmtState → Coded) → ((s : NmtState) → behind_header h (f s) ≡ g s) → behind_header h (stated n a f) ≡ stated k a g
+  by_state (Err (InvalidNmtState b)) f g e = ap (λ (i : ℕ). unnamed i (InvalidNmtState b)) more
+  by_state (Ok s) f g e = e s
 
-  by_request : (a : RequestedServiceIdAnswer) (f g : RequestedServiceId → Coded) → ((s : RequestedServiceId) → behind_header h (f s) ≡ g s)
+  by_request : (a : Result RequestedServiceId PowerlinkError) (f g : RequestedServiceId → Coded) → ((s : RequestedServiceId) → behind_header h (f s) ≡ g s)
       → behind_header h (requested n a f) ≡ requested k a g
-  by_request (query.Unknown b) f g e = ap (λ (i : ℕ). unnamed i (InvalidRequestedServiceId b)) more
-  by_request (query.Known s) f g e = e s
+  by_request (Err (InvalidRequestedServiceId b)) f g e = ap (λ (i : ℕ). unnamed i (InvalidRequestedServiceId b)) more
+  by_request (Ok s) f g e = e s
 
 by_service : (h : EthernetHeader) (b : Bool) (bs : List ℕ) (e : PowerlinkError)
     → behind_header h (pick b (octets bs) (unnamed (length bs) e)) ≡ pick b (octets (eth_bytes h ++ bs)) (unnamed (length (eth_bytes h ++ bs)) e)

@@ -7,66 +7,67 @@ use mathlib.Core.List.{List}
 use mathlib.Core.Option.{Option, none, some}
 use lib.ListN.{length, get_or}
 use lib.Dec.{eqb, leb}
+use Rattle.std.specs.Prelude.{Result, Ok, Err}
 use Rattle.types.specs.Codes.{pick}
 use Rattle.types.specs.States.{state_of}
 use Rattle.types.specs.declared.hal.PowerlinkError.TheVariants.{BufferTooShort, InvalidNmtState}
 use Rattle.types.specs.declared.states.NmtState.{NmtState}
-use Rattle.types.specs.declared.states.NmtStateAnswer.TheVariants as state
 use Rattle.section.specs.Write.{min_frame, write_answer, write_cause, unnamed_answer}
-use Rattle.section.specs.declared.WriteAnswer.{WriteAnswer}
-use Rattle.section.specs.declared.WriteAnswer.TheVariants as write
 use Rattle.collector.specs.Calls.{Registers, Reads, Flags, Requests, Takes}
 use Rattle.collector.specs.Layout.{account_of}
 use Rattle.collector.specs.Rules.{Account, is_registered, register_cause, read_cause, flags_cause, request_frame, as_request, request_answer, request_cause, take_cause}
-use Rattle.collector.specs.declared.FlagsAnswer.{FlagsAnswer}
-use Rattle.collector.specs.declared.ReadAnswer.{ReadAnswer}
-use Rattle.collector.specs.declared.RegisterAnswer.{RegisterAnswer}
-use Rattle.collector.specs.declared.RequestAnswer.{RequestAnswer}
 use Rattle.collector.specs.declared.RequestFields.{RequestFields}
-use Rattle.collector.specs.declared.TakeAnswer.{TakeAnswer}
 use Rattle.c_values.specs.Answers.{octet_after, values_told, flag_told, octet_told, RowTold}
 use Rattle.powerlink.specs.Collecting.{CollectorRegisters, CollectorReads, CollectorFlags, unasked, CollectorRequests, CollectorTakes}
 use Rattle.powerlink.specs.Given.{node}
 use Rattle.powerlink.proofs.Told.{unnamed_told}
+use Rattle.types.specs.declared.hal.PowerlinkError.{PowerlinkError}
+use Rattle.collector.specs.declared.RegisterError.{RegisterError}
+use Rattle.collector.specs.declared.RequestError.{RequestError}
+use Rattle.error_entry.specs.declared.ErrorEntry.{ErrorEntry}
+use Rattle.collector.specs.declared.TakeError.{TakeError}
+use Rattle.control.specs.declared.soa.SoAFlags.{SoAFlags}
+use Rattle.collector.specs.declared.ReadOutcome.{ReadOutcome}
+use Rattle.collector.specs.declared.ReadError.{ReadError}
 
 module _ (s s' : List ℕ) where
-  pub registers_told : (i r : ℕ) (a : RegisterAnswer) → Registers (node i) a s s' → r ≡ (register_cause a).number → CollectorRegisters i r s s'
+  pub registers_told : (i r : ℕ) (a : Result Unit RegisterError) → Registers (node i) a s s' → r ≡ (register_cause a).number → CollectorRegisters i r s s'
   registers_told i r a w e =
-      record { cause = e ∙ ap (λ (x : RegisterAnswer). (register_cause x).number) w.answer; registers = rw w.answer at w }
+      record { cause = e ∙ ap (λ (x : Result Unit RegisterError). (register_cause x).number) w.answer; registers = rw w.answer at w }
 
-  pub reads_told : (services f : List ℕ) (a : ReadAnswer) (r k k' o o' : ℕ) → Reads services f a s s' → RowTold (read_cause a) r k k' o o'
+  pub reads_told : (services f : List ℕ) (a : Result ReadOutcome ReadError) (r k k' o o' : ℕ) → Reads services f a s s' → RowTold (read_cause a) r k k' o o'
       → CollectorReads services f r s s' k k' o o'
   reads_told services f a r k k' o o' w t = record { told = rw w.answer at t; reads = rw w.answer at w }
 
-  pub takes_told : (i r : ℕ) (v v' : List ℕ) (a : TakeAnswer) → Takes (node i) a s s' → r ≡ (take_cause a).number → v' ≡ values_told (take_cause a) v
+  pub takes_told : (i r : ℕ) (v v' : List ℕ) (a : Result ErrorEntry TakeError) → Takes (node i) a s s' → r ≡ (take_cause a).number → v' ≡ values_told (take_cause a) v
       → CollectorTakes i r s s' v v'
   takes_told i r v v' a w er ev =
       record {
-        cause = er ∙ ap (λ (x : TakeAnswer). (take_cause x).number) w.answer;
-        values = ev ∙ ap (λ (x : TakeAnswer). values_told (take_cause x) v) w.answer;
+        cause = er ∙ ap (λ (x : Result ErrorEntry TakeError). (take_cause x).number) w.answer;
+        values = ev ∙ ap (λ (x : Result ErrorEntry TakeError). values_told (take_cause x) v) w.answer;
         takes = rw w.answer at w;
       }
 
-pub flags_told_lem : (s : List ℕ) (i r : ℕ) (a a' e e' : Bool) (f : FlagsAnswer) → Flags (node i) f s → r ≡ (flags_cause f).number
+pub flags_told_lem : (s : List ℕ) (i r : ℕ) (a a' e e' : Bool) (f : Option SoAFlags) → Flags (node i) f s → r ≡ (flags_cause f).number
     → a' ≡ flag_told (flags_cause f) 0 a → e' ≡ flag_told (flags_cause f) 1 e → CollectorFlags i r s a a' e e'
 flags_told_lem s i r a a' e e' f w er ea ee =
     record {
-      cause = er ∙ ap (λ (x : FlagsAnswer). (flags_cause x).number) w.answer;
-      ea = ea ∙ ap (λ (x : FlagsAnswer). flag_told (flags_cause x) 0 a) w.answer;
-      er = ee ∙ ap (λ (x : FlagsAnswer). flag_told (flags_cause x) 1 e) w.answer;
+      cause = er ∙ ap (λ (x : Option SoAFlags). (flags_cause x).number) w.answer;
+      ea = ea ∙ ap (λ (x : Option SoAFlags). flag_told (flags_cause x) 0 a) w.answer;
+      er = ee ∙ ap (λ (x : Option SoAFlags). flag_told (flags_cause x) 1 e) w.answer;
       flags = rw w.answer at w;
     }
 
 -- ---- a request
 
 -- a writer's answer has the same row as a request's
-same_row : (a : WriteAnswer) → write_cause a ≡ request_cause (as_request a)
-same_row (write.Written n) = refl
-same_row (write.Refused e) = refl
+same_row : (a : Result ℕ PowerlinkError) → write_cause a ≡ request_cause (as_request a)
+same_row (Ok n) = refl
+same_row (Err e) = refl
 
 module _ (i : ℕ) (f : NmtState → RequestFields) (code : ℕ) where
   -- a state's code that names nothing, for a node without a place and for one with
-  module _ (s : List ℕ) (b : ℕ) (q : state_of code ≡ state.Unknown b) where
+  module _ (s : List ℕ) (b : ℕ) (q : state_of code ≡ Err (InvalidNmtState b)) where
     pub asks_nobody : (t : List ℕ) (n o : ℕ) → false ≡ is_registered (account_of s i) → CollectorRequests i f code 11 s t t n n o o
     asks_nobody t n o h =
         record { told = rw (q, no_place (account_of s i) h) (record { cause = refl; value = refl; octet = refl }); requests = rw q refl }
@@ -89,9 +90,9 @@ module _ (i : ℕ) (f : NmtState → RequestFields) (code : ℕ) where
       asks_none h u = record { told = rw q (unasked_told (account_of s i) h u); requests = rw q refl }
 
   -- a code that names the state k
-  module _ (k : NmtState) (q : state_of code ≡ state.Known k) (t : List ℕ) where
+  module _ (k : NmtState) (q : state_of code ≡ Ok k) (t : List ℕ) where
     -- a target that is too short tells no octet
-    octet_by : (fits : Bool) (n o : ℕ) → o ≡ octet_told (request_cause (as_request (pick fits (write.Written n) (write.Refused BufferTooShort)))) o
+    octet_by : (fits : Bool) (n o : ℕ) → o ≡ octet_told (request_cause (as_request (pick fits (Ok n) (Err BufferTooShort)))) o
     octet_by true n o = refl
     octet_by false n o = refl
 
@@ -102,14 +103,14 @@ module _ (i : ℕ) (f : NmtState → RequestFields) (code : ℕ) where
         let bs = request_frame i (f k) p.ea in
         octet_by (leb (length bs) (length t)) (length bs) o
 
-    pub asks_told : (s t' : List ℕ) (r n n' o : ℕ) (a : RequestAnswer) → Requests (node i) (f k) a s t t' → r ≡ (request_cause a).number
+    pub asks_told : (s t' : List ℕ) (r n n' o : ℕ) (a : Result ℕ RequestError) → Requests (node i) (f k) a s t t' → r ≡ (request_cause a).number
         → n' ≡ pick (eqb (request_cause a).number 0) (get_or (request_cause a).returned 0 n) n → CollectorRequests i f code r s t t' n n' o o
     asks_told s t' r n n' o a w er en =
         record {
           told = rw q
               (record {
-                cause = er ∙ ap (λ (x : RequestAnswer). (request_cause x).number) w.answer;
-                value = en ∙ ap (λ (x : RequestAnswer). pick (eqb (request_cause x).number 0) (get_or (request_cause x).returned 0 n) n) w.answer;
+                cause = er ∙ ap (λ (x : Result ℕ RequestError). (request_cause x).number) w.answer;
+                value = en ∙ ap (λ (x : Result ℕ RequestError). pick (eqb (request_cause x).number 0) (get_or (request_cause x).returned 0 n) n) w.answer;
                 octet = octet_known o (account_of s i);
               });
           requests = rw q (rw w.answer at w);

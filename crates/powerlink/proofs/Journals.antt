@@ -5,39 +5,39 @@ use mathlib.Core.Path.{◌≡◌, ap, ◌∙◌}
 use mathlib.Core.List.{List}
 use lib.ListN.{length}
 use borrow.Author.Tests.{le-leb, lt-leb}
+use Rattle.std.specs.Prelude.{Result, Ok, Err}
 use Rattle.types.specs.declared.error_mode.ErrorEntryMode.{ErrorEntryMode}
-use Rattle.types.specs.declared.error_mode.ErrorEntryModeAnswer.{ErrorEntryModeAnswer}
-use Rattle.types.specs.declared.error_mode.ErrorEntryModeAnswer.TheVariants as mode
 use Rattle.error_entry.specs.declared.ErrorEntry.{ErrorEntry}
 use Rattle.journal_records.specs.Record.{record_bytes, journal_cause, journal_holds, WritesRecord}
-use Rattle.journal_records.specs.declared.JournalAnswer.{JournalAnswer}
 use Rattle.journal_records.specs.Whole.{whole_len_cause, TellsWhole}
-use Rattle.journal_records.specs.declared.WholeLenAnswer.{WholeLenAnswer}
 use Rattle.powerlink.specs.Given.{node}
 use Rattle.powerlink.specs.Journal.{record_length_after, RecordsBy, whole_after, JournalWhole}
+use Rattle.types.specs.declared.error_mode.UnknownMode.{UnknownMode}
+use Rattle.journal_records.specs.declared.JournalError.{JournalError}
+use Rattle.journal_records.specs.declared.WholeLenError.{WholeLenError}
 
-module _ (i : ℕ) (e : ErrorEntryMode → ErrorEntry) (m : ErrorEntryModeAnswer) (t : List ℕ) (n : ℕ) where
+module _ (i : ℕ) (e : ErrorEntryMode → ErrorEntry) (m : Result ErrorEntryMode UnknownMode) (t : List ℕ) (n : ℕ) where
   -- a mode that is none
-  pub records_short : (b : ℕ) → m ≡ mode.Unknown b → length t < 21 → RecordsBy i e m 1 t t n n
+  pub records_short : (b : ℕ) → m ≡ Err (record { 0 = b }) → length t < 21 → RecordsBy i e m 1 t t n n
   records_short b q h = let l = lt-leb 21 (length t) h in record { cause = rw (q, l); target = rw q; written = rw (q, l) }
 
-  pub records_none : (b : ℕ) → m ≡ mode.Unknown b → 21 ≤ length t → RecordsBy i e m 19 t t n n
+  pub records_none : (b : ℕ) → m ≡ Err (record { 0 = b }) → 21 ≤ length t → RecordsBy i e m 19 t t n n
   records_none b q h = let l = le-leb 21 (length t) h in record { cause = rw (q, l); target = rw q; written = rw (q, l) }
 
-  pub records_told : (k : ErrorEntryMode) (x : ErrorEntry) (a : JournalAnswer) (r : ℕ) (t' : List ℕ) (n' : ℕ) → m ≡ mode.Known k → x ≡ e k
+  pub records_told : (k : ErrorEntryMode) (x : ErrorEntry) (a : Result ℕ JournalError) (r : ℕ) (t' : List ℕ) (n' : ℕ) → m ≡ Ok k → x ≡ e k
       → WritesRecord (node i) x a t t' → r ≡ (journal_cause a).number → n' ≡ record_length_after a n → RecordsBy i e m r t t' n n'
   records_told k x a r t' n' q given w er en =
       let v : WritesRecord (node i) (e k) a t t' = rw given at w in
       record {
-        cause = er ∙ ap (λ (x : JournalAnswer). (journal_cause x).number) v.answer ∙ rw q;
-        target = v.holds ∙ ap (λ (x : JournalAnswer). journal_holds x (record_bytes i (e k)) t) v.answer ∙ rw q;
-        written = en ∙ ap (λ (x : JournalAnswer). record_length_after x n) v.answer ∙ rw q;
+        cause = er ∙ ap (λ (x : Result ℕ JournalError). (journal_cause x).number) v.answer ∙ rw q;
+        target = v.holds ∙ ap (λ (x : Result ℕ JournalError). journal_holds x (record_bytes i (e k)) t) v.answer ∙ rw q;
+        written = en ∙ ap (λ (x : Result ℕ JournalError). record_length_after x n) v.answer ∙ rw q;
       }
 
-pub whole_told : (version len r n n' : ℕ) (a : WholeLenAnswer) → TellsWhole version len a → r ≡ (whole_len_cause a).number → n' ≡ whole_after a n
+pub whole_told : (version len r n n' : ℕ) (a : Result ℕ WholeLenError) → TellsWhole version len a → r ≡ (whole_len_cause a).number → n' ≡ whole_after a n
     → JournalWhole version len r n n'
 whole_told version len r n n' a w er en =
     record {
-      cause = er ∙ ap (λ (x : WholeLenAnswer). (whole_len_cause x).number) w.answer;
-      whole = en ∙ ap (λ (x : WholeLenAnswer). whole_after x n) w.answer;
+      cause = er ∙ ap (λ (x : Result ℕ WholeLenError). (whole_len_cause x).number) w.answer;
+      whole = en ∙ ap (λ (x : Result ℕ WholeLenError). whole_after x n) w.answer;
     }

@@ -4,30 +4,25 @@ use Prim.Native.Nat.{ℕ}
 use mathlib.Core.Path.{◌≡◌, refl, sym, ap, ◌∙◌}
 use mathlib.Core.List.{List, [], ◌∷◌}
 use lib.ListN.{drop}
+use Rattle.std.specs.Prelude.{Result, Ok, Err, Some, None}
 use Rattle.types.specs.Causes.{cause_number}
 use Rattle.types.specs.Messages.{message_code}
 use Rattle.types.specs.declared.hal.PowerlinkError.{PowerlinkError}
 use Rattle.frame.specs.declared.PowerlinkFrame.{PowerlinkFrame}
 use Rattle.codec.specs.Frame.{read_frame, deserialize_frame, place_in_frame}
 use Rattle.codec.specs.Headers.{deserialize_eth_header, deserialize_pl_header}
-use Rattle.codec.specs.declared.FrameAnswer.{FrameAnswer}
-use Rattle.codec.specs.declared.FrameAnswer.TheVariants.{Frame, Refused}
 use Rattle.codec.specs.declared.headers.DeserializedEthHeader.{DeserializedEthHeader}
 use Rattle.codec.specs.declared.headers.EthHeaderAnswer.TheVariants as eth
 use Rattle.codec.specs.declared.headers.PlHeader.{PlHeader}
-use Rattle.codec.specs.declared.headers.PlHeaderAnswer.TheVariants as pl
 use Rattle.error_entry.specs.Entry.{read_entry}
 use Rattle.error_entry.specs.declared.ErrorEntry.{ErrorEntry}
-use Rattle.error_entry.specs.declared.ErrorEntryAnswer.TheVariants as entry
 use Rattle.status_response.specs.BitField.{field_bytes, read_field}
 use Rattle.status_response.specs.Fields.{read_fields, read_status}
 use Rattle.status_response.specs.Steps.{step_at}
 use Rattle.status_response.specs.declared.bit_field.DeserializedErrorField.{DeserializedErrorField}
 use Rattle.status_response.specs.declared.bit_field.ErrorFieldAnswer.TheVariants as bits
 use Rattle.status_response.specs.declared.fields.DeserializedStatus.{DeserializedStatus}
-use Rattle.status_response.specs.declared.fields.StatusAnswer.TheVariants as status
 use Rattle.status_response.specs.declared.fields.StatusFields.{StatusFields}
-use Rattle.status_response.specs.declared.walk.EntryStep.TheVariants as step
 use Rattle.types.proofs.CausesTell.{not_0}
 use Rattle.c_values.specs.Answers.{error_octet}
 use Rattle.c_values.specs.Values.{frame_numbers, status_numbers, entry_numbers}
@@ -37,19 +32,19 @@ use Rattle.powerlink.specs.Reading.{FrameRead, SectionRead, EthRead, PlRead, Sta
 abbrev Told : PowerlinkError → ℕ → ℕ → ℕ → Type 0
 Told e r o o' = (r ≡ cause_number e) × (o' ≡ error_octet e o)
 
-module _ (a : FrameAnswer) (s v : List ℕ) where
-  pub section_refused : (r o o' : ℕ) (e : PowerlinkError) → Refused e ≡ a → Told e r o o' → SectionRead a s r v v o o'
+module _ (a : Result PowerlinkFrame PowerlinkError) (s v : List ℕ) where
+  pub section_refused : (r o o' : ℕ) (e : PowerlinkError) → Err e ≡ a → Told e r o o' → SectionRead a s r v v o o'
   section_refused r o o' e q t = record { cause = rw (← q) t.0; values = rw (← q); octet = rw (← q) t.1 }
 
-  pub section_frame : (v' : List ℕ) (o : ℕ) (x : PowerlinkFrame) → Frame x ≡ a → v' ≡ frame_numbers x (place_in_frame x s) → SectionRead a s 0 v v' o o
+  pub section_frame : (v' : List ℕ) (o : ℕ) (x : PowerlinkFrame) → Ok x ≡ a → v' ≡ frame_numbers x (place_in_frame x s) → SectionRead a s 0 v v' o o
   section_frame v' o x q ev = record { cause = rw (← q); values = rw (← q) ev; octet = rw (← q) }
 
 module _ (services f : List ℕ) where
-  pub frame_refused : (v : List ℕ) (r o o' : ℕ) (e : PowerlinkError) → Refused e ≡ read_frame services f → Told e r o o' → FrameRead services f r v v o o'
+  pub frame_refused : (v : List ℕ) (r o o' : ℕ) (e : PowerlinkError) → Err e ≡ read_frame services f → Told e r o o' → FrameRead services f r v v o o'
   frame_refused v r o o' e q t = record { cause = rw (← q) t.0; values = rw (← q); octet = rw (← q) t.1 }
 
   -- a frame is told as its section is
-  pub frame_section : (a : FrameAnswer) (s : List ℕ) → a ≡ read_frame services f → s ≡ drop 14 f → (r : ℕ) (v v' : List ℕ) (o o' : ℕ) → SectionRead a s r v v' o o'
+  pub frame_section : (a : Result PowerlinkFrame PowerlinkError) (s : List ℕ) → a ≡ read_frame services f → s ≡ drop 14 f → (r : ℕ) (v v' : List ℕ) (o o' : ℕ) → SectionRead a s r v v' o o'
       → FrameRead services f r v v' o o'
   unfolding deserialize_frame
   frame_section a s q es r v v' o o' w = record { cause = rw (← q) w.cause; values = rw (← q, ← es) w.values; octet = rw (← q) w.octet }
@@ -67,18 +62,18 @@ module _ (f : List ℕ) (d : DeserializedEthHeader) (w : d ≡ deserialize_eth_h
       record { cause = rw q; destination = rw (q, w); source = rw (q, w); ether_type = rw (q, w) }
 
 module _ (s : List ℕ) (v : List ℕ) where
-  pub pl_refused : (r o o' : ℕ) (e : PowerlinkError) → deserialize_pl_header s ≡ pl.Refused e → Told e r o o' → PlRead s r v v o o'
+  pub pl_refused : (r o o' : ℕ) (e : PowerlinkError) → deserialize_pl_header s ≡ Err e → Told e r o o' → PlRead s r v v o o'
   pl_refused r o o' e q t = record { cause = t.0 ∙ rw q; values = rw q; octet = t.1 ∙ sym (not_0 e o (error_octet e o)) ∙ rw q }
 
-  pub pl_read : (o m : ℕ) (h : PlHeader) → deserialize_pl_header s ≡ pl.Read h → m ≡ message_code h.message_type
+  pub pl_read : (o m : ℕ) (h : PlHeader) → deserialize_pl_header s ≡ Ok h → m ≡ message_code h.message_type
       → PlRead s 0 v (m ∷ h.destination.0 ∷ h.source.0 ∷ []) o o
   pl_read o m h q em = record { cause = rw q; values = rw (q, em); octet = rw q }
 
 module _ (s v g : List ℕ) where
-  pub status_refused : (r o o' : ℕ) (e : PowerlinkError) → status.Refused e ≡ read_fields s → Told e r o o' → StatusRead s r v v g g o o'
+  pub status_refused : (r o o' : ℕ) (e : PowerlinkError) → Err e ≡ read_fields s → Told e r o o' → StatusRead s r v v g g o o'
   status_refused r o o' e q t = record { cause = rw (← q) t.0; values = rw (← q); field = rw (← q); octet = rw (← q) t.1 }
 
-  pub status_read_lem : (v' g' : List ℕ) (o : ℕ) (f : StatusFields) (d : DeserializedStatus) → status.Status f ≡ read_fields s → d ≡ read_status s
+  pub status_read_lem : (v' g' : List ℕ) (o : ℕ) (f : StatusFields) (d : DeserializedStatus) → Ok f ≡ read_fields s → d ≡ read_status s
       → v' ≡ status_numbers f → g' ≡ field_bytes d.static_error_bit_field → StatusRead s 0 v v' g g' o o
   status_read_lem v' g' o f d q w ev eg =
       let b = ap (λ (x : DeserializedStatus). field_bytes x.static_error_bit_field) w in
@@ -97,15 +92,15 @@ module _ (s : List ℕ) (d : DeserializedErrorField) (w : d ≡ read_field s) (g
       record { cause = rw q; field = eg ∙ b ∙ rw q }
 
 module _ (s : List ℕ) (v : List ℕ) where
-  pub entry_refused : (r : ℕ) (e : PowerlinkError) → read_entry s ≡ entry.Refused e → r ≡ cause_number e → EntryRead s r v v
+  pub entry_refused : (r : ℕ) (e : PowerlinkError) → read_entry s ≡ Err e → r ≡ cause_number e → EntryRead s r v v
   entry_refused r e q er = record { cause = er ∙ rw q; values = rw q }
 
-  pub entry_read : (v' : List ℕ) (e : ErrorEntry) → read_entry s ≡ entry.Entry e → v' ≡ entry_numbers e → EntryRead s 0 v v'
+  pub entry_read : (v' : List ℕ) (e : ErrorEntry) → read_entry s ≡ Ok e → v' ≡ entry_numbers e → EntryRead s 0 v v'
   entry_read v' e q ev = record { cause = rw q; values = ev ∙ rw q }
 
-  pub step_end : (offset : ℕ) → step_at s offset ≡ step.End → StepRead s offset 0 v v 0
+  pub step_end : (offset : ℕ) → step_at s offset ≡ None → StepRead s offset 0 v v 0
   step_end offset q = record { cause = refl; values = rw q; next = rw q }
 
-  pub step_entry : (offset : ℕ) (v' : List ℕ) (e : ErrorEntry) (n : ℕ) → step_at s offset ≡ step.Entry e n → v' ≡ entry_numbers e
+  pub step_entry : (offset : ℕ) (v' : List ℕ) (e : ErrorEntry) (n : ℕ) → step_at s offset ≡ Some (e, n) → v' ≡ entry_numbers e
       → StepRead s offset 0 v v' n
   step_entry offset v' e n q ev = record { cause = refl; values = ev ∙ rw q; next = rw q }

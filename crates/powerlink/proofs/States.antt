@@ -8,18 +8,15 @@ use native.Mathlib.Omega.{arith}
 use lib.Dec.{eqb, leb}
 use lib.ListN.{length, get_or, set}
 use borrow.Author.Tests.{leb-true}
+use Rattle.std.specs.Prelude.{Result, Ok, Err}
 use Rattle.octets.specs.Numbers.{le_at}
 use Rattle.types.specs.Codes.{need}
 use Rattle.types.specs.Nodes.{broadcast_node}
 use Rattle.types.specs.RequestedServices.{requested_code, requested_of}
 use Rattle.types.specs.States.{state_code, state_of}
-use Rattle.types.specs.declared.hal.PowerlinkError.TheVariants.{BufferTooShort, InvalidPlFrame}
+use Rattle.types.specs.declared.hal.PowerlinkError.TheVariants.{BufferTooShort, InvalidPlFrame, InvalidNmtState, InvalidRequestedServiceId}
 use Rattle.types.specs.declared.requested_service.RequestedServiceId.{RequestedServiceId}
-use Rattle.types.specs.declared.requested_service.RequestedServiceIdAnswer.{RequestedServiceIdAnswer}
-use Rattle.types.specs.declared.requested_service.RequestedServiceIdAnswer.TheVariants as requested
 use Rattle.types.specs.declared.states.NmtState.{NmtState}
-use Rattle.types.specs.declared.states.NmtStateAnswer.{NmtStateAnswer}
-use Rattle.types.specs.declared.states.NmtStateAnswer.TheVariants as state
 use Rattle.types.proofs.CodeCauses.{state_code_lem, requested_code_lem}
 use Rattle.control.specs.declared.soa.SoAFrame.{SoAFrame}
 use Rattle.poll.specs.Poll.{poll_fields_length}
@@ -27,17 +24,16 @@ use Rattle.poll.specs.declared.pres.PResFrame.{PResFrame}
 use Rattle.frame.specs.declared.PowerlinkFrame.TheVariants.{PRes, SoA}
 use Rattle.codec.specs.PRes.{pres_of, pres_by_state, read_pres}
 use Rattle.codec.specs.SoA.{soa_of, soa_by_service, soa_by_state, read_soa}
-use Rattle.codec.specs.declared.FrameAnswer.TheVariants.{Frame, Refused}
 use Rattle.codec.specs.declared.PayloadPlace.{PayloadPlace}
 use Rattle.status_response.specs.Fields.{fields_of, read_fields, status_by_state}
-use Rattle.status_response.specs.declared.fields.StatusAnswer.TheVariants as status
 use Rattle.status_response.specs.declared.fields.StatusFields.{StatusFields}
 use Rattle.c_values.specs.Values.{pres_numbers, soa_numbers, status_numbers}
+use Rattle.types.specs.declared.hal.PowerlinkError.{PowerlinkError}
 
-module _ (s : List ℕ) (f : StatusFields) (read : status.Status f ≡ read_fields s) where
-  by_state : (a : NmtStateAnswer) → state_of (get_or s 2 0) ≡ a → status.Status f ≡ status_by_state s a → state_code f.nmt_state ≡ get_or s 2 0
-  by_state (state.Unknown b) e q = let z : ◌≡◌ {A = ℕ} 0 1 = cc in absurd (omega arith)
-  by_state (state.Known x) e q =
+module _ (s : List ℕ) (f : StatusFields) (read : Ok f ≡ read_fields s) where
+  by_state : (a : Result NmtState PowerlinkError) → state_of (get_or s 2 0) ≡ a → Ok f ≡ status_by_state s a → state_code f.nmt_state ≡ get_or s 2 0
+  by_state (Err (InvalidNmtState b)) e q = let z : ◌≡◌ {A = ℕ} 0 1 = cc in absurd (omega arith)
+  by_state (Ok x) e q =
       let same : f ≡ fields_of s x = cc in
       ap (λ (g : StatusFields). state_code g.nmt_state) same ∙ state_code_lem (get_or s 2 0) x e
 
@@ -45,7 +41,7 @@ module _ (s : List ℕ) (f : StatusFields) (read : status.Status f ≡ read_fiel
   unfolding read_fields
   front_there = split (leb 14 (length s)) refl read
     where
-      split : (t : Bool) → leb 14 (length s) ≡ t → status.Status f ≡ need t (status.Refused BufferTooShort) (status_by_state s (state_of (get_or s 2 0)))
+      split : (t : Bool) → leb 14 (length s) ≡ t → Ok f ≡ need t (Err BufferTooShort) (status_by_state s (state_of (get_or s 2 0)))
           → (14 ≤ length s) × (state_code f.nmt_state ≡ get_or s 2 0)
       split true q a = (leb-true 14 (length s) q, by_state (state_of (get_or s 2 0)) refl a)
       split false q a = let z : ◌≡◌ {A = ℕ} 0 1 = cc in absurd (omega arith)
@@ -54,12 +50,12 @@ module _ (s : List ℕ) (f : StatusFields) (read : status.Status f ≡ read_fiel
   pub state_told : (v : List ℕ) → v ≡ status_numbers f → set v 4 (get_or s 2 0) ≡ status_numbers f
   state_told v e = rw (e, ← front_there.1)
 
-module _ (s : List ℕ) (st : NmtState) (n : ℕ) (read : Frame (PRes (pres_of s st n)) ≡ read_pres s) where
-  pres_by : (a : NmtStateAnswer) → state_of (get_or s 3 0) ≡ a → Frame (PRes (pres_of s st n)) ≡ pres_by_state s a → state_code st ≡ get_or s 3 0
-  pres_by (state.Unknown b) e q = let z : ◌≡◌ {A = ℕ} 0 1 = cc in absurd (omega arith)
-  pres_by (state.Known x) e q = split (leb (le_at 2 8 s) (length s - poll_fields_length)) q
+module _ (s : List ℕ) (st : NmtState) (n : ℕ) (read : Ok (PRes (pres_of s st n)) ≡ read_pres s) where
+  pres_by : (a : Result NmtState PowerlinkError) → state_of (get_or s 3 0) ≡ a → Ok (PRes (pres_of s st n)) ≡ pres_by_state s a → state_code st ≡ get_or s 3 0
+  pres_by (Err (InvalidNmtState b)) e q = let z : ◌≡◌ {A = ℕ} 0 1 = cc in absurd (omega arith)
+  pres_by (Ok x) e q = split (leb (le_at 2 8 s) (length s - poll_fields_length)) q
     where
-      split : (t : Bool) → Frame (PRes (pres_of s st n)) ≡ need t (Refused BufferTooShort) (Frame (PRes (pres_of s x (le_at 2 8 s)))) → state_code st ≡ get_or s 3 0
+      split : (t : Bool) → Ok (PRes (pres_of s st n)) ≡ need t (Err BufferTooShort) (Ok (PRes (pres_of s x (le_at 2 8 s)))) → state_code st ≡ get_or s 3 0
       split true a = let same : pres_of s st n ≡ pres_of s x (le_at 2 8 s) = cc in ap (λ (f : PResFrame). state_code f.nmt_state) same ∙ state_code_lem (get_or s 3 0) x e
       split false a = let z : ◌≡◌ {A = ℕ} 0 1 = cc in absurd (omega arith)
 
@@ -67,7 +63,7 @@ module _ (s : List ℕ) (st : NmtState) (n : ℕ) (read : Frame (PRes (pres_of s
   unfolding read_pres
   pres_state = split (leb poll_fields_length (length s)) (eqb (get_or s 1 0) broadcast_node) read
     where
-      split : (t u : Bool) → Frame (PRes (pres_of s st n)) ≡ need t (Refused BufferTooShort) (need u (Refused InvalidPlFrame) (pres_by_state s (state_of (get_or s 3 0))))
+      split : (t u : Bool) → Ok (PRes (pres_of s st n)) ≡ need t (Err BufferTooShort) (need u (Err InvalidPlFrame) (pres_by_state s (state_of (get_or s 3 0))))
           → state_code st ≡ get_or s 3 0
       split true true a = pres_by (state_of (get_or s 3 0)) refl a
       split true false a = let z : ◌≡◌ {A = ℕ} 0 1 = cc in absurd (omega arith)
@@ -77,26 +73,26 @@ module _ (s : List ℕ) (st : NmtState) (n : ℕ) (read : Frame (PRes (pres_of s
   pub pres_told : (p : PayloadPlace) (v : List ℕ) → v ≡ pres_numbers (pres_of s st n) p → set v 10 (get_or s 3 0) ≡ pres_numbers (pres_of s st n) p
   pres_told p v e = rw (e, ← pres_state)
 
-module _ (s : List ℕ) (st : NmtState) (service : RequestedServiceId) (read : Frame (SoA (soa_of s st service)) ≡ read_soa s) where
-  soa_by_service_lem : (x : NmtState) (a : RequestedServiceIdAnswer) → requested_of (get_or s 6 0) ≡ a → state_of (get_or s 3 0) ≡ state.Known x
-      → Frame (SoA (soa_of s st service)) ≡ soa_by_service s x a → (state_code st ≡ get_or s 3 0) × (requested_code service ≡ get_or s 6 0)
-  soa_by_service_lem x (requested.Unknown b) e k q = let z : ◌≡◌ {A = ℕ} 0 1 = cc in absurd (omega arith)
-  soa_by_service_lem x (requested.Known y) e k q =
+module _ (s : List ℕ) (st : NmtState) (service : RequestedServiceId) (read : Ok (SoA (soa_of s st service)) ≡ read_soa s) where
+  soa_by_service_lem : (x : NmtState) (a : Result RequestedServiceId PowerlinkError) → requested_of (get_or s 6 0) ≡ a → state_of (get_or s 3 0) ≡ Ok x
+      → Ok (SoA (soa_of s st service)) ≡ soa_by_service s x a → (state_code st ≡ get_or s 3 0) × (requested_code service ≡ get_or s 6 0)
+  soa_by_service_lem x (Err (InvalidRequestedServiceId b)) e k q = let z : ◌≡◌ {A = ℕ} 0 1 = cc in absurd (omega arith)
+  soa_by_service_lem x (Ok y) e k q =
       let same : soa_of s st service ≡ soa_of s x y = cc in (
         ap (λ (f : SoAFrame). state_code f.nmt_state) same ∙ state_code_lem (get_or s 3 0) x k,
         ap (λ (f : SoAFrame). requested_code f.req_service_id) same ∙ requested_code_lem (get_or s 6 0) y e,
       )
 
-  soa_by_state_lem : (a : NmtStateAnswer) → state_of (get_or s 3 0) ≡ a → Frame (SoA (soa_of s st service)) ≡ soa_by_state s a
+  soa_by_state_lem : (a : Result NmtState PowerlinkError) → state_of (get_or s 3 0) ≡ a → Ok (SoA (soa_of s st service)) ≡ soa_by_state s a
       → (state_code st ≡ get_or s 3 0) × (requested_code service ≡ get_or s 6 0)
-  soa_by_state_lem (state.Unknown b) e q = let z : ◌≡◌ {A = ℕ} 0 1 = cc in absurd (omega arith)
-  soa_by_state_lem (state.Known x) e q = soa_by_service_lem x (requested_of (get_or s 6 0)) refl e q
+  soa_by_state_lem (Err (InvalidNmtState b)) e q = let z : ◌≡◌ {A = ℕ} 0 1 = cc in absurd (omega arith)
+  soa_by_state_lem (Ok x) e q = soa_by_service_lem x (requested_of (get_or s 6 0)) refl e q
 
   soa_codes : (state_code st ≡ get_or s 3 0) × (requested_code service ≡ get_or s 6 0)
   unfolding read_soa
   soa_codes = split (leb 9 (length s)) read
     where
-      split : (t : Bool) → Frame (SoA (soa_of s st service)) ≡ need t (Refused BufferTooShort) (soa_by_state s (state_of (get_or s 3 0)))
+      split : (t : Bool) → Ok (SoA (soa_of s st service)) ≡ need t (Err BufferTooShort) (soa_by_state s (state_of (get_or s 3 0)))
           → (state_code st ≡ get_or s 3 0) × (requested_code service ≡ get_or s 6 0)
       split true a = soa_by_state_lem (state_of (get_or s 3 0)) refl a
       split false a = let z : ◌≡◌ {A = ℕ} 0 1 = cc in absurd (omega arith)

@@ -8,37 +8,35 @@ use lib.ListN.{length}
 use lib.Dec.{eqb, leb}
 use native.Mathlib.Omega.{arith}
 use borrow.Author.Tests.{le-leb, lt-leb}
+use Rattle.std.specs.Prelude.{Result, Ok, Err}
 use Rattle.types.specs.Causes.{cause_number}
 use Rattle.types.specs.Codes.{pick, need}
 use Rattle.types.specs.declared.error_mode.ErrorEntryMode.{ErrorEntryMode}
-use Rattle.types.specs.declared.error_mode.ErrorEntryModeAnswer.{ErrorEntryModeAnswer}
-use Rattle.types.specs.declared.error_mode.ErrorEntryModeAnswer.TheVariants as mode
 use Rattle.types.specs.declared.hal.PowerlinkError.{PowerlinkError}
 use Rattle.types.specs.declared.hal.PowerlinkError.TheVariants.{BufferTooShort}
 use Rattle.section.specs.Write.{write_answer, write_cause, Writes, Serializes, Coded, octets, unnamed, unnamed_answer}
-use Rattle.section.specs.declared.WriteAnswer.{WriteAnswer}
-use Rattle.section.specs.declared.WriteAnswer.TheVariants.{Written, Refused}
 use Rattle.error_entry.specs.Entry.{entry_bytes, entry_length}
 use Rattle.error_entry.specs.declared.ErrorEntry.{ErrorEntry}
 use Rattle.status_response.specs.Given.{WritesWhole, given_fit}
 use Rattle.status_response.specs.Steps.{status_length}
 use Rattle.c_values.specs.Answers.{length_after, error_octet, octet_after}
 use Rattle.powerlink.specs.Writing.{WritesTo, WritesEntry, WritesCoded}
+use Rattle.types.specs.declared.error_mode.UnknownMode.{UnknownMode}
 
 -- what `written_or` tells of an answer
-abbrev Told : WriteAnswer → ℕ → ℕ → ℕ → Type 0
+abbrev Told : Result ℕ PowerlinkError → ℕ → ℕ → ℕ → Type 0
 Told a r n n' = (r ≡ (write_cause a).number) × (n' ≡ length_after a n)
 
-pub writes_to : (bs : List ℕ) (a : WriteAnswer) (t t' : List ℕ) (r n n' : ℕ) → Writes bs a t t' → Told a r n n' → WritesTo bs r t t' n n'
+pub writes_to : (bs : List ℕ) (a : Result ℕ PowerlinkError) (t t' : List ℕ) (r n n' : ℕ) → Writes bs a t t' → Told a r n n' → WritesTo bs r t t' n n'
 writes_to bs a t t' r n n' w e =
     record {
-      cause = e.0 ∙ ap (λ (x : WriteAnswer). (write_cause x).number) w.answer;
+      cause = e.0 ∙ ap (λ (x : Result ℕ PowerlinkError). (write_cause x).number) w.answer;
       target = w.holds;
-      written = e.1 ∙ ap (λ (x : WriteAnswer). length_after x n) w.answer;
+      written = e.1 ∙ ap (λ (x : Result ℕ PowerlinkError). length_after x n) w.answer;
     }
 
 -- a writer's own refusal is cause 1, which returns no octet
-fit_octet : (b : Bool) (n o : ℕ) → o ≡ octet_after (pick b (Written n) (Refused BufferTooShort)) o
+fit_octet : (b : Bool) (n o : ℕ) → o ≡ octet_after (pick b (Ok n) (Err BufferTooShort)) o
 fit_octet true n o = refl
 fit_octet false n o = refl
 
@@ -47,7 +45,7 @@ unfolding write_answer
 kept_octet bs t o = fit_octet (leb (length bs) (length t)) (length bs) o
 
 -- and a code that names nothing tells no length
-kept_length : (b : Bool) (e : PowerlinkError) (n : ℕ) → n ≡ length_after (need b (Refused BufferTooShort) (Refused e)) n
+kept_length : (b : Bool) (e : PowerlinkError) (n : ℕ) → n ≡ length_after (need b (Err BufferTooShort) (Err e)) n
 kept_length true e n = refl
 kept_length false e n = refl
 
@@ -55,18 +53,18 @@ module _ (w : Coded) (t t' : List ℕ) (r n n' o : ℕ) where
   pub writes_named : (bs : List ℕ) → w ≡ octets bs → WritesTo bs r t t' n n' → WritesCoded w r t t' n n' o o
   writes_named bs ew h = record { cause = h.cause ∙ rw ew; target = h.target ∙ rw ew; written = h.written ∙ rw ew; octet = kept_octet bs t o ∙ rw ew }
 
-  pub writes_coded : (bs : List ℕ) (a : WriteAnswer) → w ≡ octets bs → Writes bs a t t' → Told a r n n' → WritesCoded w r t t' n n' o o
+  pub writes_coded : (bs : List ℕ) (a : Result ℕ PowerlinkError) → w ≡ octets bs → Writes bs a t t' → Told a r n n' → WritesCoded w r t t' n n' o o
   writes_coded bs a ew w' e = writes_named bs ew (writes_to bs a t t' r n n' w' e)
 
   -- what `told` tells of an answer
-  pub serializes_coded : (o' : ℕ) (a : WriteAnswer) → Serializes w a t t'
+  pub serializes_coded : (o' : ℕ) (a : Result ℕ PowerlinkError) → Serializes w a t t'
       → (r ≡ (write_cause a).number) × ((n' ≡ length_after a n) × (o' ≡ octet_after a o)) → WritesCoded w r t t' n n' o o'
   serializes_coded o' a h e =
       record {
-        cause = e.0 ∙ ap (λ (x : WriteAnswer). (write_cause x).number) h.answer;
+        cause = e.0 ∙ ap (λ (x : Result ℕ PowerlinkError). (write_cause x).number) h.answer;
         target = h.holds;
-        written = e.1.0 ∙ ap (λ (x : WriteAnswer). length_after x n) h.answer;
-        octet = e.1.1 ∙ ap (λ (x : WriteAnswer). octet_after x o) h.answer;
+        written = e.1.0 ∙ ap (λ (x : Result ℕ PowerlinkError). length_after x n) h.answer;
+        octet = e.1.1 ∙ ap (λ (x : Result ℕ PowerlinkError). octet_after x o) h.answer;
       }
 
 -- what `unnamed` tells, where k octets would be needed
@@ -81,7 +79,7 @@ refuses_coded w t r n o o' k e ew h =
     }
 
 -- cause 1 is the same whether the target is too short or the input
-short_either : (b : Bool) (o : ℕ) → (◌≡◌ {A = ℕ} 1 (write_cause (need b (Refused BufferTooShort) (Refused BufferTooShort))).number) × (o ≡ octet_after (need b (Refused BufferTooShort) (Refused BufferTooShort)) o)
+short_either : (b : Bool) (o : ℕ) → (◌≡◌ {A = ℕ} 1 (write_cause (need b (Err BufferTooShort) (Err BufferTooShort))).number) × (o ≡ octet_after (need b (Err BufferTooShort) (Err BufferTooShort)) o)
 short_either true o = (refl, refl)
 short_either false o = (refl, refl)
 
@@ -118,7 +116,7 @@ module _ (w : Coded) (t : List ℕ) (n o : ℕ) (s : List ℕ) where
       → (r ≡ cause_number e) × (o' ≡ error_octet e o) → WritesCoded w r t t n n o o'
   given_refused = refused are_whole
 
-  told : (b : Bool) (bs t' : List ℕ) (a : WriteAnswer) (r n' : ℕ) → Next b (octets bs) → WritesWhole b bs a t t' → Told a r n n'
+  told : (b : Bool) (bs t' : List ℕ) (a : Result ℕ PowerlinkError) (r n' : ℕ) → Next b (octets bs) → WritesWhole b bs a t t' → Told a r n n'
       → WritesCoded w r t t' n n' o o
   told true bs t' a r n' q v e = writes_coded w t t' r n n' o bs a q v e
   told false bs t' a r n' q v e =
@@ -127,19 +125,19 @@ module _ (w : Coded) (t : List ℕ) (n o : ℕ) (s : List ℕ) where
       rw (er, en, v.2) (refuses_short w t n o needed q)
 
   -- what the writer answers is told
-  pub given_told : (bs t' : List ℕ) (a : WriteAnswer) (r n' : ℕ) → Next are_whole (octets bs) → WritesWhole are_whole bs a t t' → Told a r n n'
+  pub given_told : (bs t' : List ℕ) (a : Result ℕ PowerlinkError) (r n' : ℕ) → Next are_whole (octets bs) → WritesWhole are_whole bs a t t' → Told a r n n'
       → WritesCoded w r t t' n n' o o
   given_told = told are_whole
 
 -- an entry, by its mode
-module _ (e : ErrorEntryMode → ErrorEntry) (m : ErrorEntryModeAnswer) (t : List ℕ) (n : ℕ) where
-  pub entry_short : (b : ℕ) → m ≡ mode.Unknown b → length t < 20 → WritesEntry e m 1 t t n n
+module _ (e : ErrorEntryMode → ErrorEntry) (m : Result ErrorEntryMode UnknownMode) (t : List ℕ) (n : ℕ) where
+  pub entry_short : (b : ℕ) → m ≡ Err (record { 0 = b }) → length t < 20 → WritesEntry e m 1 t t n n
   entry_short b q h = record { cause = rw (q, lt-leb 20 (length t) h); target = rw q; written = rw q }
 
-  pub entry_none : (b : ℕ) → m ≡ mode.Unknown b → 20 ≤ length t → WritesEntry e m 8 t t n n
+  pub entry_none : (b : ℕ) → m ≡ Err (record { 0 = b }) → 20 ≤ length t → WritesEntry e m 8 t t n n
   entry_none b q h = record { cause = rw (q, le-leb 20 (length t) h); target = rw q; written = rw q }
 
-  pub entry_told_lem : (k : ErrorEntryMode) (x : ErrorEntry) (r : ℕ) (t' : List ℕ) (n' : ℕ) → m ≡ mode.Known k → x ≡ e k
+  pub entry_told_lem : (k : ErrorEntryMode) (x : ErrorEntry) (r : ℕ) (t' : List ℕ) (n' : ℕ) → m ≡ Ok k → x ≡ e k
       → WritesTo (entry_bytes x) r t t' n n' → WritesEntry e m r t t' n n'
   entry_told_lem k x r t' n' q given w =
       let v : WritesTo (entry_bytes (e k)) r t t' n n' = rw given at w in

@@ -1,22 +1,21 @@
 -- What the calls of a collector leave to a caller in C: all that the call below promises, with the rule's answer; that answer's number; and
 -- the out-parameters, off its row. Where a code names nothing, no call is made below: the target stays, and nothing is sent.
 -- Assumes nothing.
-use Rattle.std.specs.Prelude.{ℕ, Bool, ◌≡◌, List, length}
+use Rattle.std.specs.Prelude.{ℕ, Bool, ◌≡◌, List, length, Result, Ok, Err}
 use Rattle.std.proofs.Math.Option.{Option, none, some}
 use Rattle.types.specs.States.{state_of}
 use Rattle.types.specs.declared.hal.PowerlinkError.TheVariants.{InvalidNmtState}
 use Rattle.types.specs.declared.states.NmtState.{NmtState}
-use Rattle.types.specs.declared.states.NmtStateAnswer.{NmtStateAnswer}
-use Rattle.types.specs.declared.states.NmtStateAnswer.TheVariants as state
 use Rattle.section.specs.Write.{min_frame, unnamed_answer}
 use Rattle.collector.specs.Calls.{Fresh, Registers, Reads, Flags, Requests, Takes}
 use Rattle.collector.specs.Layout.{box_of, account_of}
 use Rattle.collector.specs.Rules.{Account, register_answer, register_cause, read_answer, read_cause, flags_answer, flags_cause, as_request, request_answer, request_cause, take_answer, take_cause}
-use Rattle.collector.specs.declared.RequestAnswer.{RequestAnswer}
-use Rattle.collector.specs.declared.RequestAnswer.TheVariants as requesting
+use Rattle.collector.specs.declared.RequestError.TheVariants as requesting
 use Rattle.collector.specs.declared.RequestFields.{RequestFields}
 use Rattle.c_values.specs.Answers.{values_told, flag_told, RowTold}
 use Rattle.powerlink.specs.Given.{node, mac}
+use Rattle.types.specs.declared.hal.PowerlinkError.{PowerlinkError}
+use Rattle.collector.specs.declared.RequestError.{RequestError}
 
 pub record CollectorMakes (r : ℕ) (s' : List ℕ) : Type 0 where
   pub cause : r ≡ 0
@@ -42,18 +41,18 @@ request_fields from version state =
     record { source_mac = mac from; nmt_state = state; epl_version = record { 0 = version } }
 
 -- a code that names no state: 11, then 1, then 5
-abbrev pub unasked : ℕ → List ℕ → Option Account → RequestAnswer
-unasked b t none = requesting.NotRegistered
+abbrev pub unasked : ℕ → List ℕ → Option Account → Result ℕ RequestError
+unasked b t none = Err requesting.NotRegistered
 unasked b t (some p) = as_request (unnamed_answer min_frame (InvalidNmtState b) (length t))
 
-abbrev pub request_by : ℕ → (NmtState → RequestFields) → NmtStateAnswer → List ℕ → Option Account → RequestAnswer
-request_by i f (state.Unknown b) t p = unasked b t p
-request_by i f (state.Known k) t p = request_answer i (f k) t p
+abbrev pub request_by : ℕ → (NmtState → RequestFields) → Result NmtState PowerlinkError → List ℕ → Option Account → Result ℕ RequestError
+request_by i f (Err (InvalidNmtState b)) t p = unasked b t p
+request_by i f (Ok k) t p = request_answer i (f k) t p
 
 -- what becomes of the target: what `request` promises, or it stays
-abbrev pub RequestsBy : ℕ → (NmtState → RequestFields) → NmtStateAnswer → List ℕ → List ℕ → List ℕ → Type 0
-RequestsBy i f (state.Unknown b) s t t' = t' ≡ t
-RequestsBy i f (state.Known k) s t t' = Requests (node i) (f k) (request_answer i (f k) t (account_of s i)) s t t'
+abbrev pub RequestsBy : ℕ → (NmtState → RequestFields) → Result NmtState PowerlinkError → List ℕ → List ℕ → List ℕ → Type 0
+RequestsBy i f (Err (InvalidNmtState b)) s t t' = t' ≡ t
+RequestsBy i f (Ok k) s t t' = Requests (node i) (f k) (request_answer i (f k) t (account_of s i)) s t t'
 
 pub record CollectorRequests (i : ℕ) (f : NmtState → RequestFields) (code r : ℕ) (s t t' : List ℕ) (n n' o o' : ℕ) : Type 0 where
   pub told : RowTold (request_cause (request_by i f (state_of code) t (account_of s i))) r n n' o o'

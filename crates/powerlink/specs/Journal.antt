@@ -1,37 +1,36 @@
 -- What the calls of the journal leave to a caller in C: 01's number, the target of a record, and the lengths.
 -- Assumes nothing.
-use Rattle.std.specs.Prelude.{ℕ, Bool, ◌≡◌, List, length, leb}
+use Rattle.std.specs.Prelude.{ℕ, Bool, ◌≡◌, List, length, leb, Result, Ok, Err}
 use Rattle.types.specs.Codes.{need}
 use Rattle.types.specs.Modes.{mode_of}
 use Rattle.types.specs.declared.common.NetTime.{NetTime}
 use Rattle.types.specs.declared.error_mode.ErrorEntryMode.{ErrorEntryMode}
-use Rattle.types.specs.declared.error_mode.ErrorEntryModeAnswer.{ErrorEntryModeAnswer}
-use Rattle.types.specs.declared.error_mode.ErrorEntryModeAnswer.TheVariants as mode
 use Rattle.error_entry.specs.declared.ErrorEntry.{ErrorEntry}
 use Rattle.journal_records.specs.Record.{journal_record_length, record_bytes, journal_answer, journal_cause, journal_holds}
-use Rattle.journal_records.specs.declared.JournalAnswer.{JournalAnswer}
-use Rattle.journal_records.specs.declared.JournalAnswer.TheVariants.{Written, BufferTooShort, RecordInvalid}
+use Rattle.journal_records.specs.declared.JournalError.TheVariants.{BufferTooShort, RecordInvalid}
 use Rattle.journal_records.specs.Whole.{whole_len, whole_len_cause}
-use Rattle.journal_records.specs.declared.WholeLenAnswer.{WholeLenAnswer}
-use Rattle.journal_records.specs.declared.WholeLenAnswer.TheVariants.{Whole, TooShort, UnknownVersion}
+use Rattle.journal_records.specs.declared.WholeLenError.TheVariants.{TooShort, UnknownVersion}
 use Rattle.powerlink.specs.Given.{entry_with}
+use Rattle.types.specs.declared.error_mode.UnknownMode.{UnknownMode}
+use Rattle.journal_records.specs.declared.JournalError.{JournalError}
+use Rattle.journal_records.specs.declared.WholeLenError.{WholeLenError}
 
 -- 1, then 19: a mode that is none is refused as mode 0 is
-abbrev pub record_by : ℕ → (ErrorEntryMode → ErrorEntry) → ErrorEntryModeAnswer → ℕ → JournalAnswer
-record_by node e (mode.Unknown b) room = need (leb journal_record_length room) BufferTooShort RecordInvalid
-record_by node e (mode.Known m) room = journal_answer node (e m) room
+abbrev pub record_by : ℕ → (ErrorEntryMode → ErrorEntry) → Result ErrorEntryMode UnknownMode → ℕ → Result ℕ JournalError
+record_by node e (Err (record { 0 = b })) room = need (leb journal_record_length room) (Err BufferTooShort) (Err RecordInvalid)
+record_by node e (Ok m) room = journal_answer node (e m) room
 
-abbrev pub target_by : ℕ → (ErrorEntryMode → ErrorEntry) → ErrorEntryModeAnswer → List ℕ → List ℕ
-target_by node e (mode.Unknown b) t = t
-target_by node e (mode.Known m) t = journal_holds (journal_answer node (e m) (length t)) (record_bytes node (e m)) t
+abbrev pub target_by : ℕ → (ErrorEntryMode → ErrorEntry) → Result ErrorEntryMode UnknownMode → List ℕ → List ℕ
+target_by node e (Err (record { 0 = b })) t = t
+target_by node e (Ok m) t = journal_holds (journal_answer node (e m) (length t)) (record_bytes node (e m)) t
 
 -- the length that is told: how many octets were written, or what stood there before
-abbrev pub record_length_after : JournalAnswer → ℕ → ℕ
-record_length_after (Written n) before = n
-record_length_after BufferTooShort before = before
-record_length_after RecordInvalid before = before
+abbrev pub record_length_after : Result ℕ JournalError → ℕ → ℕ
+record_length_after (Ok n) before = n
+record_length_after (Err BufferTooShort) before = before
+record_length_after (Err RecordInvalid) before = before
 
-pub record RecordsBy (node : ℕ) (e : ErrorEntryMode → ErrorEntry) (m : ErrorEntryModeAnswer) (r : ℕ) (t t' : List ℕ) (n n' : ℕ) : Type 0 where
+pub record RecordsBy (node : ℕ) (e : ErrorEntryMode → ErrorEntry) (m : Result ErrorEntryMode UnknownMode) (r : ℕ) (t t' : List ℕ) (n n' : ℕ) : Type 0 where
   pub cause : r ≡ (journal_cause (record_by node e m (length t))).number
   pub target : t' ≡ target_by node e m t
   pub written : n' ≡ record_length_after (record_by node e m (length t)) n
@@ -40,10 +39,10 @@ abbrev pub JournalRecords : ℕ → Bool → Bool → ℕ → ℕ → ℕ → Ne
 JournalRecords node status queue mode profile code stamp information r t t' n n' =
     RecordsBy node (λ m. entry_with status queue m profile code stamp information) (mode_of mode) r t t' n n'
 
-abbrev pub whole_after : WholeLenAnswer → ℕ → ℕ
-whole_after (Whole n) before = n
-whole_after TooShort before = before
-whole_after UnknownVersion before = before
+abbrev pub whole_after : Result ℕ WholeLenError → ℕ → ℕ
+whole_after (Ok n) before = n
+whole_after (Err TooShort) before = before
+whole_after (Err UnknownVersion) before = before
 
 pub record JournalWhole (version len r n n' : ℕ) : Type 0 where
   pub cause : r ≡ (whole_len_cause (whole_len version len)).number

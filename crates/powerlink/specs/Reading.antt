@@ -1,36 +1,31 @@
 -- What a reader leaves to a caller in C: the numbers of what was read, or what stood there before.
 -- Assumes nothing.
-use Rattle.std.specs.Prelude.{ℕ, ◌≡◌, List, [], ◌∷◌, get_or, drop}
+use Rattle.std.specs.Prelude.{ℕ, ◌≡◌, List, [], ◌∷◌, get_or, drop, Result, Ok, Err, Option, Some, None}
 use Rattle.types.specs.Header.{eth_header_of}
 use Rattle.types.specs.Messages.{message_code}
 use Rattle.codec.specs.Frame.{read_frame, deserialize_frame, place_of, frame_cause}
 use Rattle.codec.specs.Headers.{deserialize_eth_header, eth_header_cause, deserialize_pl_header, pl_header_cause}
-use Rattle.codec.specs.declared.FrameAnswer.{FrameAnswer}
-use Rattle.codec.specs.declared.FrameAnswer.TheVariants.{Frame, Refused}
 use Rattle.codec.specs.declared.PayloadPlace.{PayloadPlace}
 use Rattle.codec.specs.declared.headers.EthHeaderAnswer.{EthHeaderAnswer}
 use Rattle.codec.specs.declared.headers.EthHeaderAnswer.TheVariants as eth
-use Rattle.codec.specs.declared.headers.PlHeaderAnswer.{PlHeaderAnswer}
-use Rattle.codec.specs.declared.headers.PlHeaderAnswer.TheVariants as pl
 use Rattle.error_entry.specs.Entry.{read_entry, entry_cause}
-use Rattle.error_entry.specs.declared.ErrorEntryAnswer.{ErrorEntryAnswer}
-use Rattle.error_entry.specs.declared.ErrorEntryAnswer.TheVariants as entry
 use Rattle.status_response.specs.BitField.{field_of, field_bytes, read_field, field_cause}
 use Rattle.status_response.specs.Fields.{read_fields, status_cause}
 use Rattle.status_response.specs.Steps.{step_at}
 use Rattle.status_response.specs.declared.bit_field.ErrorFieldAnswer.{ErrorFieldAnswer}
 use Rattle.status_response.specs.declared.bit_field.ErrorFieldAnswer.TheVariants as bits
 use Rattle.status_response.specs.declared.bit_field.StaticErrorBitField.{StaticErrorBitField}
-use Rattle.status_response.specs.declared.fields.StatusAnswer.{StatusAnswer}
-use Rattle.status_response.specs.declared.fields.StatusAnswer.TheVariants as status
-use Rattle.status_response.specs.declared.walk.EntryStep.{EntryStep}
-use Rattle.status_response.specs.declared.walk.EntryStep.TheVariants as step
 use Rattle.c_values.specs.Answers.{octet_told}
 use Rattle.c_values.specs.Values.{frame_numbers, status_numbers, entry_numbers}
+use Rattle.frame.specs.declared.PowerlinkFrame.{PowerlinkFrame}
+use Rattle.types.specs.declared.hal.PowerlinkError.{PowerlinkError}
+use Rattle.codec.specs.declared.headers.PlHeader.{PlHeader}
+use Rattle.error_entry.specs.declared.ErrorEntry.{ErrorEntry}
+use Rattle.status_response.specs.declared.fields.StatusFields.{StatusFields}
 
-abbrev pub frame_after : FrameAnswer → PayloadPlace → List ℕ → List ℕ
-frame_after (Refused e) p before = before
-frame_after (Frame f) p before = frame_numbers f p
+abbrev pub frame_after : Result PowerlinkFrame PowerlinkError → PayloadPlace → List ℕ → List ℕ
+frame_after (Err e) p before = before
+frame_after (Ok f) p before = frame_numbers f p
 
 -- ---- headers
 
@@ -38,37 +33,37 @@ abbrev pub eth_after : {A : Type 0} → EthHeaderAnswer → A → A → A
 eth_after eth.Read read before = read
 eth_after (eth.Refused e) read before = before
 
-abbrev pub pl_after : PlHeaderAnswer → List ℕ → List ℕ
-pl_after (pl.Read h) before = message_code h.message_type ∷ h.destination.0 ∷ h.source.0 ∷ []
-pl_after (pl.Refused e) before = before
+abbrev pub pl_after : Result PlHeader PowerlinkError → List ℕ → List ℕ
+pl_after (Ok h) before = message_code h.message_type ∷ h.destination.0 ∷ h.source.0 ∷ []
+pl_after (Err e) before = before
 
 -- ---- StatusResponse
 
-abbrev pub status_after : StatusAnswer → List ℕ → List ℕ
-status_after (status.Status f) before = status_numbers f
-status_after (status.Refused e) before = before
+abbrev pub status_after : Result StatusFields PowerlinkError → List ℕ → List ℕ
+status_after (Ok f) before = status_numbers f
+status_after (Err e) before = before
 
 -- the 8 octets of the error field beside the answer
-abbrev pub status_field_after : StatusAnswer → StaticErrorBitField → List ℕ → List ℕ
-status_field_after (status.Status f) field before = field_bytes field
-status_field_after (status.Refused e) field before = before
+abbrev pub status_field_after : Result StatusFields PowerlinkError → StaticErrorBitField → List ℕ → List ℕ
+status_field_after (Ok f) field before = field_bytes field
+status_field_after (Err e) field before = before
 
 abbrev pub field_after : ErrorFieldAnswer → StaticErrorBitField → List ℕ → List ℕ
 field_after bits.Read f before = field_bytes f
 field_after (bits.Refused e) f before = before
 
-abbrev pub entry_after : ErrorEntryAnswer → List ℕ → List ℕ
-entry_after (entry.Entry e) before = entry_numbers e
-entry_after (entry.Refused e) before = before
+abbrev pub entry_after : Result ErrorEntry PowerlinkError → List ℕ → List ℕ
+entry_after (Ok e) before = entry_numbers e
+entry_after (Err e) before = before
 
 -- a step: the entry, and the offset after it; at the end the values as they were, and the offset 0
-abbrev pub step_after : EntryStep → List ℕ → List ℕ
-step_after (step.Entry e next) before = entry_numbers e
-step_after step.End before = before
+abbrev pub step_after : Option (ErrorEntry × ℕ) → List ℕ → List ℕ
+step_after (Some (e, next)) before = entry_numbers e
+step_after None before = before
 
-abbrev pub next_after : EntryStep → ℕ
-next_after (step.Entry e next) = next
-next_after step.End = 0
+abbrev pub next_after : Option (ErrorEntry × ℕ) → ℕ
+next_after (Some (e, next)) = next
+next_after None = 0
 
 -- ---- the calls: v, d, o and the like stand before, and v', d', o' after
 
@@ -78,7 +73,7 @@ pub record FrameRead (services f : List ℕ) (r : ℕ) (v v' : List ℕ) (o o' :
   pub octet : o' ≡ get_or (frame_cause (read_frame services f)).returned 0 o
 
 -- the same of the section s, to which the rules answer a
-pub record SectionRead (a : FrameAnswer) (s : List ℕ) (r : ℕ) (v v' : List ℕ) (o o' : ℕ) : Type 0 where
+pub record SectionRead (a : Result PowerlinkFrame PowerlinkError) (s : List ℕ) (r : ℕ) (v v' : List ℕ) (o o' : ℕ) : Type 0 where
   pub cause : r ≡ (frame_cause a).number
   pub values : v' ≡ frame_after a (place_of a s) v
   pub octet : o' ≡ get_or (frame_cause a).returned 0 o

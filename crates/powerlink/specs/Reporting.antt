@@ -1,17 +1,13 @@
 -- What the calls of a reporter leave to a caller in C: all that the call below promises, with the rule's answer; that answer's number; and the
 -- out-parameters, off its row. Where a code names nothing, no call is made below: the state stays, and nothing is sent.
 -- Assumes nothing.
-use Rattle.std.specs.Prelude.{ℕ, Bool, ◌≡◌, List, length}
+use Rattle.std.specs.Prelude.{ℕ, Bool, ◌≡◌, List, length, Result, Ok, Err}
 use Rattle.types.specs.Modes.{mode_of}
 use Rattle.types.specs.PollFlags.{priority_in}
 use Rattle.types.specs.States.{state_of}
 use Rattle.types.specs.declared.common.NetTime.{NetTime}
 use Rattle.types.specs.declared.error_mode.ErrorEntryMode.{ErrorEntryMode}
-use Rattle.types.specs.declared.error_mode.ErrorEntryModeAnswer.{ErrorEntryModeAnswer}
-use Rattle.types.specs.declared.error_mode.ErrorEntryModeAnswer.TheVariants as mode
 use Rattle.types.specs.declared.states.NmtState.{NmtState}
-use Rattle.types.specs.declared.states.NmtStateAnswer.{NmtStateAnswer}
-use Rattle.types.specs.declared.states.NmtStateAnswer.TheVariants as state
 use Rattle.section.specs.Write.{Coded, coded_answer}
 use Rattle.error_entry.specs.declared.ErrorEntry.{ErrorEntry}
 use Rattle.status_response.specs.BitField.{field_of}
@@ -19,11 +15,14 @@ use Rattle.reporter.specs.Calls.{Makes, Raises, Answers, Reads}
 use Rattle.reporter.specs.Layout.{head_of}
 use Rattle.reporter.specs.Rules.{Head, new_answer, new_cause, raise_answer, raise_cause, opened, answer_writing, answer_length, acknowledge_answer, read_cause, ea_told}
 use Rattle.reporter.specs.declared.AnswerFields.{AnswerFields}
-use Rattle.reporter.specs.declared.RaiseAnswer.TheVariants.{EntryInvalid}
-use Rattle.reporter.specs.declared.ReadAnswer.{ReadAnswer}
+use Rattle.reporter.specs.declared.RaiseError.TheVariants.{EntryInvalid}
 use Rattle.c_values.specs.Answers.{RowTold}
 use Rattle.powerlink.specs.Given.{node, mac, entry_with}
 use Rattle.powerlink.specs.Writing.{stated, WritesCoded}
+use Rattle.types.specs.declared.hal.PowerlinkError.{PowerlinkError}
+use Rattle.types.specs.declared.hal.PowerlinkError.TheVariants.{InvalidNmtState}
+use Rattle.types.specs.declared.error_mode.UnknownMode.{UnknownMode}
+use Rattle.reporter.specs.declared.ReadOutcome.{ReadOutcome}
 
 pub record ReporterMakes (i r : ℕ) (state after : List ℕ) : Type 0 where
   pub cause : r ≡ (new_cause (new_answer i)).number
@@ -36,12 +35,12 @@ pub record RaisesEntry (e : ErrorEntry) (r : ℕ) (state after : List ℕ) : Typ
 
 -- a mode that is none is refused as mode 0 is
 pub record RaisesNone (r : ℕ) (state after : List ℕ) : Type 0 where
-  pub cause : r ≡ (raise_cause EntryInvalid).number
+  pub cause : r ≡ (raise_cause (Err EntryInvalid)).number
   pub stays : after ≡ state
 
-abbrev pub RaisesBy : (ErrorEntryMode → ErrorEntry) → ErrorEntryModeAnswer → ℕ → List ℕ → List ℕ → Type 0
-RaisesBy e (mode.Unknown b) r state after = RaisesNone r state after
-RaisesBy e (mode.Known m) r state after = RaisesEntry (e m) r state after
+abbrev pub RaisesBy : (ErrorEntryMode → ErrorEntry) → Result ErrorEntryMode UnknownMode → ℕ → List ℕ → List ℕ → Type 0
+RaisesBy e (Err (record { 0 = b })) r state after = RaisesNone r state after
+RaisesBy e (Ok m) r state after = RaisesEntry (e m) r state after
 
 abbrev pub ReporterRaises : Bool → Bool → ℕ → ℕ → ℕ → NetTime → ℕ → ℕ → List ℕ → List ℕ → Type 0
 ReporterRaises status queue mode profile code stamp information r state after =
@@ -66,9 +65,9 @@ answer_given services f state h =
     stated (answer_length (length (opened h).batch)) (state_of state) (λ s. answer_writing services (f s) (opened h))
 
 -- what becomes of the state: what `answer` promises, or it stays
-abbrev pub AnswersBy : List ℕ → (NmtState → AnswerFields) → NmtStateAnswer → List ℕ → List ℕ → List ℕ → List ℕ → Type 0
-AnswersBy services f (state.Unknown b) s s' t t' = s' ≡ s
-AnswersBy services f (state.Known k) s s' t t' =
+abbrev pub AnswersBy : List ℕ → (NmtState → AnswerFields) → Result NmtState PowerlinkError → List ℕ → List ℕ → List ℕ → List ℕ → Type 0
+AnswersBy services f (Err (InvalidNmtState b)) s s' t t' = s' ≡ s
+AnswersBy services f (Ok k) s s' t t' =
     Answers services (f k) (coded_answer (answer_writing services (f k) (opened (head_of s))) t) s s' t t'
 
 pub record ReporterAnswers (services : List ℕ) (f : NmtState → AnswerFields) (code r : ℕ) (s s' t t' : List ℕ) (n n' o o' : ℕ) : Type 0 where
@@ -81,7 +80,7 @@ pub record ReporterEn (r : ℕ) (s : List ℕ) (e' : Bool) : Type 0 where
   pub en : e' ≡ (head_of s).en
 
 -- what reading a frame answers
-abbrev pub reporter_reading : List ℕ → List ℕ → List ℕ → ReadAnswer
+abbrev pub reporter_reading : List ℕ → List ℕ → List ℕ → Result ReadOutcome PowerlinkError
 reporter_reading services frame state = acknowledge_answer (ea_told services (head_of state).id frame) (head_of state)
 
 pub record ReporterReads (services frame : List ℕ) (r : ℕ) (s s' : List ℕ) (k k' o o' : ℕ) : Type 0 where

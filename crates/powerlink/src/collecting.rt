@@ -4,7 +4,7 @@ ghost use Rattle.powerlink.specs.Collecting.{CollectorMakes, CollectorRegisters,
 use c_values::answers::{refusal, unnamed};
 use c_values::values::entry_values;
 use collector::{
-    Collector, FlagsAnswer, ReadAnswer, RegisterAnswer, RequestAnswer, RequestFields, TakeAnswer,
+    Collector, ReadError, ReadOutcome, RegisterError, RequestError, RequestFields, TakeError,
     flags, is_registered, new, read, register, request, take,
 };
 use section::MIN_FRAME;
@@ -15,7 +15,7 @@ use types::causes::{
     NOT_STATUS_RESPONSE, NOTHING_BOOKED,
 };
 use types::hal::PowerlinkError;
-use types::states::{NmtState, NmtStateAnswer};
+use types::states::NmtState;
 use types::{EPLVersion, NodeId};
 
 // Makes a fresh state: no node is registered. The name carries the interface's version, as include/powerlink.h tells.
@@ -31,10 +31,10 @@ pub fn powerlink_collector_register(state: &mut Collector, id: u8) -> u8
     ensures { CollectorRegisters id result state.old state.new }
 {
     match register(state, NodeId(id)) {
-        RegisterAnswer::Registered => 0,
-        RegisterAnswer::IdOutOfRange => ID_OUT_OF_RANGE,
-        RegisterAnswer::IdRegistered => ID_REGISTERED,
-        RegisterAnswer::Full => FOUR_REGISTERED,
+        Ok(()) => 0,
+        Err(RegisterError::IdOutOfRange) => ID_OUT_OF_RANGE,
+        Err(RegisterError::IdRegistered) => ID_REGISTERED,
+        Err(RegisterError::Full) => FOUR_REGISTERED,
     }
 }
 
@@ -49,15 +49,15 @@ pub fn powerlink_collector_read_v2(
     ensures { CollectorReads services.now buffer.now result state.old state.new outcome.old outcome.new octet.old octet.new }
 {
     match read(state, services, buffer) {
-        ReadAnswer::Refused(e) => refusal(e, octet),
-        ReadAnswer::NotStatusResponse => NOT_STATUS_RESPONSE,
-        ReadAnswer::NotRegistered => NOT_REGISTERED,
-        ReadAnswer::BookFull => BOOK_FULL,
-        ReadAnswer::Known => {
+        Err(ReadError::Frame(e)) => refusal(e, octet),
+        Err(ReadError::NotStatusResponse) => NOT_STATUS_RESPONSE,
+        Err(ReadError::NotRegistered) => NOT_REGISTERED,
+        Err(ReadError::BookFull) => BOOK_FULL,
+        Ok(ReadOutcome::Known) => {
             *outcome = 0;
             0
         }
-        ReadAnswer::Booked => {
+        Ok(ReadOutcome::Booked) => {
             *outcome = 1;
             0
         }
@@ -70,8 +70,8 @@ pub fn powerlink_collector_flags(state: &Collector, id: u8, ea: &mut bool, er: &
     ensures { CollectorFlags id result state.now ea.old ea.new er.old er.new }
 {
     match flags(state, NodeId(id)) {
-        FlagsAnswer::NotRegistered => NOT_REGISTERED,
-        FlagsAnswer::Flags(f) => {
+        None => NOT_REGISTERED,
+        Some(f) => {
             *ea = f.ea;
             *er = f.er;
             0
@@ -93,7 +93,7 @@ pub fn powerlink_collector_request(
     ensures { CollectorRequests id (request_fields source_mac.now epl_version) nmt_state result state.now target.old target.new written.old written.new octet.old octet.new }
 {
     match NmtState::from_u8(nmt_state) {
-        NmtStateAnswer::Unknown(b) => {
+        Err(PowerlinkError::InvalidNmtState(b)) => {
             if !is_registered(state, NodeId(id)) {
                 return NOT_REGISTERED;
             }
@@ -104,19 +104,19 @@ pub fn powerlink_collector_request(
                 octet,
             )
         }
-        NmtStateAnswer::Known(nmt_state) => {
+        Ok(nmt_state) => {
             let fields = RequestFields {
                 source_mac: MacAddress(*source_mac),
                 nmt_state,
                 epl_version: EPLVersion(epl_version),
             };
             match request(state, NodeId(id), fields, target) {
-                RequestAnswer::Written(n) => {
+                Ok(n) => {
                     *written = n;
                     0
                 }
-                RequestAnswer::NotRegistered => NOT_REGISTERED,
-                RequestAnswer::Refused(e) => e.number(),
+                Err(RequestError::NotRegistered) => NOT_REGISTERED,
+                Err(RequestError::Frame(e)) => e.number(),
             }
         }
     }
@@ -127,9 +127,9 @@ pub fn powerlink_collector_take(state: &mut Collector, id: u8, values: &mut [u64
     ensures { CollectorTakes id result state.old state.new values.old values.new }
 {
     match take(state, NodeId(id)) {
-        TakeAnswer::NotRegistered => NOT_REGISTERED,
-        TakeAnswer::NothingBooked => NOTHING_BOOKED,
-        TakeAnswer::Taken(e) => {
+        Err(TakeError::NotRegistered) => NOT_REGISTERED,
+        Err(TakeError::NothingBooked) => NOTHING_BOOKED,
+        Ok(e) => {
             *values = entry_values(e);
             0
         }

@@ -19,8 +19,8 @@ use types::common::{NetTime, RelativeTime};
 use types::hal::PowerlinkError;
 use types::mapping::PDOVersion;
 use types::poll_flags::{PRFlag, RSFlag};
-use types::requested_service::{RequestedServiceId, RequestedServiceIdAnswer};
-use types::states::{NmtState, NmtStateAnswer};
+use types::requested_service::RequestedServiceId;
+use types::states::NmtState;
 use types::{EPLVersion, NodeId};
 
 // Writes an Ethernet header and behind it a section of these fields and this payload, and tells the length.
@@ -109,7 +109,7 @@ pub fn powerlink_new_pres(
     ensures { WritesCoded (new_pres_writing source_mac.now source state (pres_flags_given ms en rd pr rs) pdo_version payload.now) result target.old target.new written.old written.new octet.old octet.new }
 {
     match NmtState::from_u8(state) {
-        NmtStateAnswer::Unknown(b) => {
+        Err(PowerlinkError::InvalidNmtState(b)) => {
             let needed = padded_len(MIN_FRAME, poll::PAYLOAD_AT + payload.len());
             unnamed(
                 PowerlinkError::InvalidNmtState(b),
@@ -118,7 +118,7 @@ pub fn powerlink_new_pres(
                 octet,
             )
         }
-        NmtStateAnswer::Known(nmt_state) => {
+        Ok(nmt_state) => {
             let new = PResFrame::new(
                 MacAddress(*source_mac),
                 NodeId(source),
@@ -158,7 +158,7 @@ pub fn powerlink_new_soa(
     ensures { WritesCoded (new_soa_writing source_mac.now state (soa_flags_given ea er) requested_service target_node epl_version) result target.old target.new written.old written.new octet.old octet.new }
 {
     match NmtState::from_u8(state) {
-        NmtStateAnswer::Unknown(b) => {
+        Err(PowerlinkError::InvalidNmtState(b)) => {
             unnamed(
                 PowerlinkError::InvalidNmtState(b),
                 MIN_FRAME,
@@ -166,14 +166,14 @@ pub fn powerlink_new_soa(
                 octet,
             )
         }
-        NmtStateAnswer::Known(nmt_state) => match RequestedServiceId::from_u8(requested_service) {
-            RequestedServiceIdAnswer::Unknown(b) => unnamed(
+        Ok(nmt_state) => match RequestedServiceId::from_u8(requested_service) {
+            Err(PowerlinkError::InvalidRequestedServiceId(b)) => unnamed(
                 PowerlinkError::InvalidRequestedServiceId(b),
                 MIN_FRAME,
                 target.len(),
                 octet,
             ),
-            RequestedServiceIdAnswer::Known(service) => {
+            Ok(service) => {
                 let new = SoAFrame::new(
                     MacAddress(*source_mac),
                     nmt_state,

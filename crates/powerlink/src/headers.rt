@@ -6,13 +6,13 @@ ghost use Rattle.powerlink.specs.Writing.{WritesTo, WritesCoded};
 
 use c_values::answers::{refusal, unnamed, written_or};
 use codec::headers::{
-    EthHeaderAnswer, PlHeaderAnswer, deserialize_eth_header, deserialize_pl_header,
+    EthHeaderAnswer, deserialize_eth_header, deserialize_pl_header,
 };
 use frame::write::{serialize_eth_header, serialize_pl_header};
 use types::NodeId;
 use types::basic::{EthernetHeader, MacAddress};
 use types::hal::PowerlinkError;
-use types::message_type::{MessageType, MessageTypeAnswer};
+use types::message_type::MessageType;
 
 // Reads an Ethernet header, whatever its EtherType.
 pub fn powerlink_deserialize_eth_header(
@@ -44,8 +44,8 @@ pub fn powerlink_deserialize_pl_header(buffer: &[u8], values: &mut [u64; 3], oct
     ensures { PlRead buffer.now result values.old values.new octet.old octet.new }
 {
     match deserialize_pl_header(buffer) {
-        PlHeaderAnswer::Refused(e) => refusal(e, octet),
-        PlHeaderAnswer::Read(h) => {
+        Err(e) => refusal(e, octet),
+        Ok(h) => {
             let message = h.message_type;
             *values = [
                 message.to_u8() as u64,
@@ -88,7 +88,7 @@ pub fn powerlink_serialize_pl_header(
     ensures { WritesCoded (pl_header_writing message_type destination source) result target.old target.new written.old written.new octet.old octet.new }
 {
     match MessageType::from_u8(message_type) {
-        MessageTypeAnswer::Unknown(b) => {
+        Err(PowerlinkError::InvalidMessageType(b)) => {
             unnamed(
                 PowerlinkError::InvalidMessageType(b),
                 3,
@@ -96,7 +96,7 @@ pub fn powerlink_serialize_pl_header(
                 octet,
             )
         }
-        MessageTypeAnswer::Known(message) => {
+        Ok(message) => {
             let answer = serialize_pl_header(message, NodeId(destination), NodeId(source), target);
             written_or(answer, written)
         }

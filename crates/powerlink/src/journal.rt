@@ -3,10 +3,10 @@ ghost use Rattle.powerlink.specs.Given.{time};
 ghost use Rattle.powerlink.specs.Journal.{JournalRecords, JournalWhole};
 
 use c_values::values::entry_given;
-use journal_records::{JOURNAL_RECORD_LEN, JournalAnswer, WholeLenAnswer, whole_len, write};
+use journal_records::{JOURNAL_RECORD_LEN, JournalError, WholeLenError, whole_len, write};
 use types::NodeId;
 use types::causes::{NOT_A_JOURNAL, RECORD_INVALID, TOO_SHORT, UNKNOWN_VERSION};
-use types::error_mode::{ErrorEntryMode, ErrorEntryModeAnswer};
+use types::error_mode::ErrorEntryMode;
 
 // Writes one record; mark and version are the caller's. A mode that is none is no record's: cause 19, after 1.
 pub fn powerlink_journal_record(
@@ -25,13 +25,13 @@ pub fn powerlink_journal_record(
     ensures { JournalRecords id status_entry send_to_queue mode profile code (time seconds nanoseconds) information result target.old target.new written.old written.new }
 {
     match ErrorEntryMode::from_u8(mode) {
-        ErrorEntryModeAnswer::Unknown(_) => {
+        Err(UnknownMode(_)) => {
             if target.len() < JOURNAL_RECORD_LEN {
                 return TOO_SHORT;
             }
             RECORD_INVALID
         }
-        ErrorEntryModeAnswer::Known(mode) => {
+        Ok(mode) => {
             let entry = entry_given(
                 status_entry,
                 send_to_queue,
@@ -43,12 +43,12 @@ pub fn powerlink_journal_record(
                 information,
             );
             match write(NodeId(id), entry, target) {
-                JournalAnswer::Written(n) => {
+                Ok(n) => {
                     *written = n;
                     0
                 }
-                JournalAnswer::BufferTooShort => TOO_SHORT,
-                JournalAnswer::RecordInvalid => RECORD_INVALID,
+                Err(JournalError::BufferTooShort) => TOO_SHORT,
+                Err(JournalError::RecordInvalid) => RECORD_INVALID,
             }
         }
     }
@@ -59,11 +59,11 @@ pub fn powerlink_journal_whole_len(version: u16, len: usize, whole: &mut usize) 
     ensures { JournalWhole version len result whole.old whole.new }
 {
     match whole_len(version, len) {
-        WholeLenAnswer::Whole(n) => {
+        Ok(n) => {
             *whole = n;
             0
         }
-        WholeLenAnswer::TooShort => NOT_A_JOURNAL,
-        WholeLenAnswer::UnknownVersion => UNKNOWN_VERSION,
+        Err(WholeLenError::TooShort) => NOT_A_JOURNAL,
+        Err(WholeLenError::UnknownVersion) => UNKNOWN_VERSION,
     }
 }

@@ -14,7 +14,7 @@ use codec::preq::PReqVerdict;
 use codec::pres::PResVerdict;
 use codec::soa::SoAVerdict;
 use codec::soc::SocVerdict;
-use codec::{KindAnswer, kind_of, payload_place};
+use codec::{kind_of, payload_place};
 use control::soa;
 use frame::PowerlinkFrame;
 use octets::slices::{byte_at, tail};
@@ -34,8 +34,8 @@ pub fn powerlink_deserialize_frame_v2(
     ensures { FrameRead services.now buffer.now result values.old values.new octet.old octet.new }
 {
     match kind_of(buffer) {
-        KindAnswer::Refused(e) => refusal(e, octet),
-        KindAnswer::Kind(kind) => read_kind(services, kind, tail(buffer, ETH_LEN), values, octet),
+        Err(e) => refusal(e, octet),
+        Ok(kind) => read_kind(services, kind, tail(buffer, ETH_LEN), values, octet),
     }
 }
 

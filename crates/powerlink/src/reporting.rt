@@ -5,7 +5,7 @@ ghost use Rattle.powerlink.specs.Reporting.{ReporterMakes, ReporterRaises, Repor
 use c_values::answers::{refusal, told, unnamed};
 use c_values::values::entry_given;
 use reporter::{
-    AnswerFields, NewAnswer, RaiseAnswer, ReadAnswer, Reporter, answer, answer_len, new, raise,
+    AnswerFields, NewError, RaiseError, ReadOutcome, Reporter, answer, answer_len, new, raise,
     read,
 };
 use services::table::Services;
@@ -13,18 +13,18 @@ use status_response::bit_field::StaticErrorBitField;
 use types::NodeId;
 use types::basic::MacAddress;
 use types::causes::{ENTRY_INVALID, ID_OUT_OF_RANGE, IS_STATUS_ENTRY, QUEUE_FULL};
-use types::error_mode::{ErrorEntryMode, ErrorEntryModeAnswer};
+use types::error_mode::ErrorEntryMode;
 use types::hal::PowerlinkError;
 use types::poll_flags::{PRFlag, RSFlag};
-use types::states::{NmtState, NmtStateAnswer};
+use types::states::NmtState;
 
 // Makes a fresh state for a node. The name carries the interface's version, as include/powerlink.h tells.
 pub fn powerlink_reporter_new_v2(state: &mut Reporter, id: u8) -> u8
     ensures { ReporterMakes id result state.old state.new }
 {
     match new(state, NodeId(id)) {
-        NewAnswer::Made => 0,
-        NewAnswer::IdOutOfRange => ID_OUT_OF_RANGE,
+        Ok(()) => 0,
+        Err(NewError::IdOutOfRange) => ID_OUT_OF_RANGE,
     }
 }
 
@@ -43,8 +43,8 @@ pub fn powerlink_reporter_raise(
     ensures { ReporterRaises status_entry send_to_queue mode profile code (time seconds nanoseconds) information result state.old state.new }
 {
     match ErrorEntryMode::from_u8(mode) {
-        ErrorEntryModeAnswer::Unknown(_) => ENTRY_INVALID,
-        ErrorEntryModeAnswer::Known(mode) => {
+        Err(UnknownMode(_)) => ENTRY_INVALID,
+        Ok(mode) => {
             let entry = entry_given(
                 status_entry,
                 send_to_queue,
@@ -56,10 +56,10 @@ pub fn powerlink_reporter_raise(
                 information,
             );
             match raise(state, entry) {
-                RaiseAnswer::Raised => 0,
-                RaiseAnswer::EntryInvalid => ENTRY_INVALID,
-                RaiseAnswer::StatusEntry => IS_STATUS_ENTRY,
-                RaiseAnswer::QueueFull => QUEUE_FULL,
+                Ok(()) => 0,
+                Err(RaiseError::EntryInvalid) => ENTRY_INVALID,
+                Err(RaiseError::StatusEntry) => IS_STATUS_ENTRY,
+                Err(RaiseError::QueueFull) => QUEUE_FULL,
             }
         }
     }
@@ -83,7 +83,7 @@ pub fn powerlink_reporter_answer_v2(
     ensures { ReporterAnswers services.now (answer_fields source_mac.now dest_mac.now ec pr rs field.now) nmt_state result state.old state.new target.old target.new written.old written.new octet.old octet.new }
 {
     match NmtState::from_u8(nmt_state) {
-        NmtStateAnswer::Unknown(b) => {
+        Err(PowerlinkError::InvalidNmtState(b)) => {
             let needed = answer_len(state);
             unnamed(
                 PowerlinkError::InvalidNmtState(b),
@@ -92,7 +92,7 @@ pub fn powerlink_reporter_answer_v2(
                 octet,
             )
         }
-        NmtStateAnswer::Known(nmt_state) => {
+        Ok(nmt_state) => {
             let fields = AnswerFields {
                 source_mac: MacAddress(*source_mac),
                 dest_mac: MacAddress(*dest_mac),
@@ -126,16 +126,16 @@ pub fn powerlink_reporter_read_v2(
     ensures { ReporterReads services.now buffer.now result state.old state.new outcome.old outcome.new octet.old octet.new }
 {
     match read(state, services, buffer) {
-        ReadAnswer::Refused(e) => refusal(e, octet),
-        ReadAnswer::Ignored => {
+        Err(e) => refusal(e, octet),
+        Ok(ReadOutcome::Ignored) => {
             *outcome = 0;
             0
         }
-        ReadAnswer::Kept => {
+        Ok(ReadOutcome::Kept) => {
             *outcome = 1;
             0
         }
-        ReadAnswer::Closed => {
+        Ok(ReadOutcome::Closed) => {
             *outcome = 2;
             0
         }

@@ -17,8 +17,8 @@ use types::common::{NetTime, RelativeTime};
 use types::hal::PowerlinkError;
 use types::mapping::PDOVersion;
 use types::poll_flags::{PRFlag, RSFlag};
-use types::requested_service::{RequestedServiceId, RequestedServiceIdAnswer};
-use types::states::{NmtState, NmtStateAnswer};
+use types::requested_service::RequestedServiceId;
+use types::states::NmtState;
 use types::{EPLVersion, NodeId};
 
 // Start of Cycle (EPSG DS 301, 4.6.1.1.2).
@@ -95,7 +95,7 @@ pub fn powerlink_serialize_pres(
     ensures { WritesCoded (pres_writing destination source state (pres_flags_given ms en rd pr rs) pdo_version payload_size payload.now) result target.old target.new written.old written.new octet.old octet.new }
 {
     match NmtState::from_u8(state) {
-        NmtStateAnswer::Unknown(b) => {
+        Err(PowerlinkError::InvalidNmtState(b)) => {
             let needed = padded_len(MIN_SECTION, poll::FIELDS_LEN + payload.len());
             unnamed(
                 PowerlinkError::InvalidNmtState(b),
@@ -104,7 +104,7 @@ pub fn powerlink_serialize_pres(
                 octet,
             )
         }
-        NmtStateAnswer::Known(nmt_state) => {
+        Ok(nmt_state) => {
             let frame = PResFrame {
                 destination: NodeId(destination),
                 source: NodeId(source),
@@ -142,7 +142,7 @@ pub fn powerlink_serialize_soa(
     ensures { WritesCoded (soa_writing destination source state (soa_flags_given ea er) requested_service target_node epl_version) result target.old target.new written.old written.new octet.old octet.new }
 {
     match NmtState::from_u8(state) {
-        NmtStateAnswer::Unknown(b) => {
+        Err(PowerlinkError::InvalidNmtState(b)) => {
             unnamed(
                 PowerlinkError::InvalidNmtState(b),
                 MIN_SECTION,
@@ -150,14 +150,14 @@ pub fn powerlink_serialize_soa(
                 octet,
             )
         }
-        NmtStateAnswer::Known(nmt_state) => match RequestedServiceId::from_u8(requested_service) {
-            RequestedServiceIdAnswer::Unknown(b) => unnamed(
+        Ok(nmt_state) => match RequestedServiceId::from_u8(requested_service) {
+            Err(PowerlinkError::InvalidRequestedServiceId(b)) => unnamed(
                 PowerlinkError::InvalidRequestedServiceId(b),
                 MIN_SECTION,
                 target.len(),
                 octet,
             ),
-            RequestedServiceIdAnswer::Known(req_service_id) => {
+            Ok(req_service_id) => {
                 let frame = SoAFrame {
                     destination: NodeId(destination),
                     source: NodeId(source),

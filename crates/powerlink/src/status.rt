@@ -7,16 +7,16 @@ ghost use Rattle.powerlink.specs.Writing.{WritesTo, WritesCoded};
 use crate::frame_values::status_values;
 use c_values::answers::{refusal, written_or};
 use c_values::values::{entry_given, entry_values};
-use error_entry::{ENTRY_LEN, ErrorEntry, ErrorEntryAnswer};
+use error_entry::{ENTRY_LEN, ErrorEntry};
 use status_response::bit_field::{ErrorFieldAnswer, StaticErrorBitField};
-use status_response::fields::{STATE_AT, StatusAnswer, StatusFields, deserialize, read_fields};
+use status_response::fields::{STATE_AT, StatusFields, deserialize, read_fields};
 use status_response::given;
-use status_response::walk::{EntryStep, step_from};
+use status_response::walk::step_from;
 use types::causes::{ENTRY_INVALID, TOO_SHORT};
-use types::error_mode::{ErrorEntryMode, ErrorEntryModeAnswer};
+use types::error_mode::ErrorEntryMode;
 use types::hal::PowerlinkError;
 use types::poll_flags::{PRFlag, RSFlag};
-use types::states::{NmtState, NmtStateAnswer};
+use types::states::NmtState;
 
 // Reads what stands in front of the entries: en, ec, pr, rs and state, and the error field.
 pub fn powerlink_deserialize_status(
@@ -29,8 +29,8 @@ pub fn powerlink_deserialize_status(
 {
     // The answer first: behind its tests the compiler drops those of the error field.
     match read_fields(payload) {
-        StatusAnswer::Refused(e) => refusal(e, octet),
-        StatusAnswer::Status(f) => {
+        Err(e) => refusal(e, octet),
+        Ok(f) => {
             let status = deserialize(payload);
             let bits = status.static_error_bit_field;
             let mut numbers = status_values(f);
@@ -64,8 +64,8 @@ pub fn powerlink_deserialize_entry(buffer: &[u8], values: &mut [u64; 8]) -> u8
     ensures { EntryRead buffer.now result values.old values.new }
 {
     match ErrorEntry::deserialize(buffer) {
-        ErrorEntryAnswer::Refused(e) => e.number(),
-        ErrorEntryAnswer::Entry(e) => {
+        Err(e) => e.number(),
+        Ok(e) => {
             *values = entry_values(e);
             0
         }
@@ -82,8 +82,8 @@ pub fn powerlink_entry_step(
     ensures { StepRead payload.now offset result values.old values.new next.new }
 {
     match step_from(payload, offset) {
-        EntryStep::End => *next = 0,
-        EntryStep::Entry(e, after) => {
+        None => *next = 0,
+        Some((e, after)) => {
             *values = entry_values(e);
             *next = after;
         }
@@ -107,13 +107,13 @@ pub fn powerlink_serialize_entry(
     ensures { EntryWrites status_entry send_to_queue mode profile code (time seconds nanoseconds) information result target.old target.new written.old written.new }
 {
     match ErrorEntryMode::from_u8(mode) {
-        ErrorEntryModeAnswer::Unknown(_) => {
+        Err(UnknownMode(_)) => {
             if target.len() < ENTRY_LEN {
                 return TOO_SHORT;
             }
             ENTRY_INVALID
         }
-        ErrorEntryModeAnswer::Known(mode) => {
+        Ok(mode) => {
             let entry = entry_given(
                 status_entry,
                 send_to_queue,
@@ -161,13 +161,13 @@ pub fn powerlink_serialize_status(
 {
     match NmtState::from_u8(state) {
         // Cause 1 comes first; where the code is a state's, the writer tests for it.
-        NmtStateAnswer::Unknown(b) => {
+        Err(PowerlinkError::InvalidNmtState(b)) => {
             if !given::fits(entries, target.len()) {
                 return TOO_SHORT;
             }
             refusal(PowerlinkError::InvalidNmtState(b), octet)
         }
-        NmtStateAnswer::Known(nmt_state) => {
+        Ok(nmt_state) => {
             let fields = StatusFields {
                 en_flag: en,
                 ec_flag: ec,

@@ -1,7 +1,7 @@
 // Tables of services: which IDs of an ASnd are known to the calls that are lent one.
 ghost use Rattle.powerlink.specs.Tables.{ServicesLoad, ServicesContain};
 
-use services::load::{LoadAnswer, load};
+use services::load::{LoadError, load};
 use services::table::{Services, contains};
 use types::causes::{NOT_A_TABLE, NOT_ASCENDING, WITHOUT_STATUS_RESPONSE};
 
@@ -10,10 +10,10 @@ pub fn powerlink_services_load(file: &[u8], services: &mut Services) -> u8
     ensures { ServicesLoad file.now result services.old services.new }
 {
     match load(file, services) {
-        LoadAnswer::Loaded => 0,
-        LoadAnswer::NotATable => NOT_A_TABLE,
-        LoadAnswer::NotAscending => NOT_ASCENDING,
-        LoadAnswer::WithoutStatusResponse => WITHOUT_STATUS_RESPONSE,
+        Ok(()) => 0,
+        Err(LoadError::NotATable) => NOT_A_TABLE,
+        Err(LoadError::NotAscending) => NOT_ASCENDING,
+        Err(LoadError::WithoutStatusResponse) => WITHOUT_STATUS_RESPONSE,
     }
 }
 

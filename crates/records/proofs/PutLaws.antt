@@ -11,26 +11,26 @@ use lib.ListN.{length, drop, length-drop}
 use lib.Seq.{sets, length-take-le}
 use borrow.Author.Tests.{leb-true, leb-false, le-leb, lt-leb}
 use borrow.Rule.Slice.PartMut.{mid_of, put_mid, put_same}
+use Rattle.std.specs.Prelude.{Result, Err}
 use Rattle.types.specs.declared.hal.PowerlinkError.TheVariants.{BufferTooShort}
 use Rattle.section.specs.Write.{write_answer, overwritten, Writes}
-use Rattle.section.specs.declared.WriteAnswer.{WriteAnswer}
-use Rattle.section.specs.declared.WriteAnswer.TheVariants.{Refused}
 use Rattle.error_entry.specs.Entry.{entry_bytes}
 use Rattle.error_entry.specs.declared.ErrorEntry.{ErrorEntry}
 use Rattle.records.specs.Records.{entry_length, with_record, PutsRecord}
 use Rattle.records.proofs.RecordLaws.{bytes_length}
 use Rattle.error_entry.proofs.Places as places
+use Rattle.types.specs.declared.hal.PowerlinkError.{PowerlinkError}
 
 pub sets_rest : (at : ℕ) (t vs : List ℕ) → at ≤ length t → put_mid at (length t - at) t (sets (mid_of at (length t - at) t) 0 vs) ≡ sets t at vs
 sets_rest at t vs h = places.sets_rest at 0 t vs h ∙ ap (λ (k : ℕ). sets t k vs) (add-zero at)
 
 -- what a writer of an entry's octets leaves of the rest of a store is what putting its record leaves of the store
 module _ (s : List ℕ) (at : ℕ) (e : ErrorEntry) where
-  pub put_none : length s < at → PutsRecord at e (Refused BufferTooShort) s s
+  pub put_none : length s < at → PutsRecord at e (Err BufferTooShort) s s
   unfolding with_record
   put_none h = let f = lt-leb (at + entry_length) (length s) (omega arith) in record { answer = rw f; cause = rw f; holds = rw f }
 
-  pub put_rest : (r : WriteAnswer) (u : List ℕ) → at ≤ length s → Writes (entry_bytes e) r (mid_of at (length s - at) s) u
+  pub put_rest : (r : Result ℕ PowerlinkError) (u : List ℕ) → at ≤ length s → Writes (entry_bytes e) r (mid_of at (length s - at) s) u
       → PutsRecord at e r s (put_mid at (length s - at) s u)
   unfolding with_record write_answer overwritten
   put_rest r u h w = split (leb (at + entry_length) (length s)) refl

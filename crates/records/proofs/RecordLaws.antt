@@ -11,6 +11,7 @@ use lib.Dec.{leb}
 use lib.ListN.{length, take, drop, get_or, set, length-drop}
 use borrow.Author.Tests.{le-leb}
 use lib.Seq.{sets, length-sets, get_or-drop, get_or-set_other}
+use Rattle.std.specs.Prelude.{Result}
 use Rattle.octets.specs.Numbers.{le, le_at}
 use Rattle.octets.proofs.NumberBack.{Octets, number_small}
 use Rattle.octets.proofs.Order.{le_or_lt}
@@ -19,9 +20,9 @@ use Rattle.types.specs.Codes.{pick}
 use Rattle.error_entry.specs.Entry.{entry_type_of, entry_of, entry_bytes, read_entry, or_terminator}
 use Rattle.error_entry.specs.ReadBack.{InRange}
 use Rattle.error_entry.specs.declared.ErrorEntry.{ErrorEntry}
-use Rattle.error_entry.specs.declared.ErrorEntryAnswer.{ErrorEntryAnswer}
 use Rattle.error_entry.proofs.ReadBack.{entry_back_lem}
 use Rattle.records.specs.Records.{entry_length, record_at, with_record}
+use Rattle.types.specs.declared.hal.PowerlinkError.{PowerlinkError}
 
 -- ---- a record is known by its octets
 
@@ -151,7 +152,7 @@ in_range s o =
     }
 
 -- the entry of a record that is there whole
-pub record_read : (s : List ℕ) (at : ℕ) (a : ErrorEntryAnswer) (e : ErrorEntry) → at + entry_length ≤ length s → a ≡ read_entry (drop at s) → e ≡ or_terminator a
+pub record_read : (s : List ℕ) (at : ℕ) (a : Result ErrorEntry PowerlinkError) (e : ErrorEntry) → at + entry_length ≤ length s → a ≡ read_entry (drop at s) → e ≡ or_terminator a
     → e ≡ record_at s at
 unfolding record_at read_entry
 record_read s at a e fits ea ee =

@@ -6,24 +6,23 @@ ghost use Rattle.error_entry.specs.Entry.{ReadsEntry};
 ghost use Rattle.records.specs.Records.{PutsRecord};
 
 pub use error_entry::ENTRY_LEN;
-use error_entry::{ErrorEntry, ErrorEntryAnswer};
+use error_entry::ErrorEntry;
 use octets::slices::tail;
-use section::WriteAnswer;
 use types::hal::PowerlinkError;
 
 // The entry whose record begins at an octet, if it is there whole.
-pub fn get(s: &[u8], at: usize) -> ErrorEntryAnswer
+pub fn get(s: &[u8], at: usize) -> Result<ErrorEntry, PowerlinkError>
     ensures { ReadsEntry (drop at s.now) result }
 {
     ErrorEntry::deserialize(tail(s, at))
 }
 
 // Puts the record of an entry at an octet, if it fits there whole.
-pub fn put(s: &mut [u8], at: usize, e: ErrorEntry) -> WriteAnswer
+pub fn put(s: &mut [u8], at: usize, e: ErrorEntry) -> Result<usize, PowerlinkError>
     ensures { PutsRecord at e result s.old s.new }
 {
     if s.len() < at {
-        return WriteAnswer::Refused(PowerlinkError::BufferTooShort);
+        return Err(PowerlinkError::BufferTooShort);
     }
     e.serialize(&mut s[at..])
 }

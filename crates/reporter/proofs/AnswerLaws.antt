@@ -9,14 +9,13 @@ use lib.Dec.{leb}
 use lib.ListN.{length, take, replicate, length-append, length-replicate}
 use lib.Seq.{sets}
 use borrow.Author.Tests.{le-leb}
+use Rattle.std.specs.Prelude.{Result, Ok, Err}
 use Rattle.octets.proofs.Sets.{sets_append, sets_front}
 use Rattle.types.specs.Header.{eth_bytes}
 use Rattle.types.specs.declared.hal.PowerlinkError.{PowerlinkError}
 use Rattle.types.specs.declared.hal.PowerlinkError.TheVariants.{BufferTooShort}
 use Rattle.section.specs.Write.{padded, Writes}
 use Rattle.section.proofs.Coded.{serializes}
-use Rattle.section.specs.declared.WriteAnswer.{WriteAnswer}
-use Rattle.section.specs.declared.WriteAnswer.TheVariants.{Written, Refused}
 use Rattle.section.proofs.Behind.{refused, written}
 use Rattle.section.proofs.Sections.{refuses, writes}
 use Rattle.control.specs.ASnd.{asnd_bytes, asnd_section}
@@ -44,16 +43,16 @@ module _ (bs t : List ℕ) (m : ℕ) where
   filled_length = simp (length-append, length-replicate)
 
   -- not even the smallest fits
-  pub filled_short : length t < m → Writes filled (Refused BufferTooShort) t t
+  pub filled_short : length t < m → Writes filled (Err BufferTooShort) t t
   filled_short h = refuses filled t (omega (arith, filled_length))
 
-  pub filled_refused : (r : WriteAnswer) (e : PowerlinkError) (after : List ℕ) → Writes bs r t after → r ≡ Refused e → Writes filled (Refused e) t after
+  pub filled_refused : (r : Result ℕ PowerlinkError) (e : PowerlinkError) (after : List ℕ) → Writes bs r t after → r ≡ Err e → Writes filled (Err e) t after
   filled_refused r e after w q =
       let p = refused bs t r e after w q in
       rw (p.1.0, p.1.1) (refuses filled t (omega (arith, p.0, filled_length)))
 
-  pub filled_written : (r : WriteAnswer) (n : ℕ) (after t₂ : List ℕ) → Writes bs r t after → r ≡ Written n → m ≤ length t
-      → t₂ ≡ sets after n (replicate (m - n) 0) → Writes filled (Written (n + (m - n))) t t₂
+  pub filled_written : (r : Result ℕ PowerlinkError) (n : ℕ) (after t₂ : List ℕ) → Writes bs r t after → r ≡ Ok n → m ≤ length t
+      → t₂ ≡ sets after n (replicate (m - n) 0) → Writes filled (Ok (n + (m - n))) t t₂
   filled_written r n after t₂ w q least e =
       let p = written bs t r n after w q in
       let b : n ≡ length bs = p.1.0 in
@@ -97,14 +96,14 @@ module _ (f : AnswerFields) (s : List ℕ) where
   unfolding answer_payload
   payload_is front four n e₁ e₂ e₃ = rw (e₁, e₂, e₃, carried_batch s)
 
-  pub payload_writes : (front : StatusFields) (four : List ErrorEntry) (n : ℕ) (t after : List ℕ) (r : WriteAnswer)
+  pub payload_writes : (front : StatusFields) (four : List ErrorEntry) (n : ℕ) (t after : List ℕ) (r : Result ℕ PowerlinkError)
       → front ≡ status_fields f (opened (head_of s)).en → four ≡ first_four s → (n ≡ carried_in s) × (n ≤ batch_length)
       → WritesWhole (leb n batch_length) (status_bytes (head_bytes front f.static_error_bit_field) (take n four)) r t after → Writes payload r t after
   payload_writes front four n t after r e₁ e₂ e₃ w =
       let p : Writes (status_bytes (head_bytes front f.static_error_bit_field) (take n four)) r t after = rw (le-leb n batch_length e₃.1) at w in
       rw (payload_is front four n e₁ e₂ e₃.0) at p
 
-  pub answers : (services : List ℕ) → AnswerSizes f → (r r' : WriteAnswer) (after t written : List ℕ) → r ≡ r'
+  pub answers : (services : List ℕ) → AnswerSizes f → (r r' : Result ℕ PowerlinkError) (after t written : List ℕ) → r ≡ r'
       → Writes (answer_frame f (opened (head_of s))) r t written → head_of after ≡ after_answer r' (head_of s) → after ≡ answer_bytes r' s
       → Answers services f r' s after t written
   answers services sizes r r' after t written er w h b =

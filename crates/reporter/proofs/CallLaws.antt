@@ -8,6 +8,7 @@ use native.Mathlib.Omega.{arith}
 use lib.Dec.{ltb}
 use lib.ListN.{length}
 use borrow.Author.Tests.{eq-eqb, ne_eqb, not-true, not-false}
+use Rattle.std.specs.Prelude.{Result, Ok, Err, Option}
 use Rattle.types.specs.Nodes.{is_cn_node_id}
 use Rattle.types.specs.declared.NodeId.{NodeId}
 use Rattle.error_entry.specs.declared.ErrorEntry.{ErrorEntry}
@@ -15,87 +16,87 @@ use Rattle.codec.specs.Frame.{read_frame}
 use Rattle.reporter.specs.Calls.{Makes, Numbers, Raises, Acknowledges, Reads}
 use Rattle.reporter.specs.Layout.{reporter_length, en_of, open_of, waiting_of, head_of, new_bytes, raise_bytes, acknowledge_bytes}
 use Rattle.reporter.specs.Rules.{queue_length, new_answer, new_cause, is_raisable, raise_answer, raise_cause, ea_answer, acknowledge_answer, read_cause, after_acknowledge, ea_told}
-use Rattle.reporter.specs.declared.NewAnswer.TheVariants.{Made, IdOutOfRange}
-use Rattle.reporter.specs.declared.RaiseAnswer.TheVariants.{Raised, EntryInvalid, StatusEntry, QueueFull}
-use Rattle.reporter.specs.declared.ReadAnswer.{ReadAnswer}
-use Rattle.reporter.specs.declared.ReadAnswer.TheVariants.{Closed, Kept}
-use Rattle.reporter.specs.declared.acknowledge.Heard.{Heard}
+use Rattle.reporter.specs.declared.NewError.TheVariants.{IdOutOfRange}
+use Rattle.reporter.specs.declared.RaiseError.TheVariants.{EntryInvalid, StatusEntry, QueueFull}
+use Rattle.reporter.specs.declared.ReadOutcome.TheVariants.{Closed, Kept}
 use Rattle.reporter.proofs.Meaning.{made, raises_means, reads_means}
 use Rattle.reporter.proofs.Ranges.{en_is, waiting_length, batch_empty}
 use Rattle.reporter.proofs.Rows.{read_row}
+use Rattle.reporter.specs.declared.ReadOutcome.{ReadOutcome}
+use Rattle.types.specs.declared.hal.PowerlinkError.{PowerlinkError}
 
 -- ---- a new head
 
 module _ (i : NodeId) (s : List ℕ) where
-  pub makes_not : IdOutOfRange ≡ new_answer i.0 → Makes i IdOutOfRange s s
+  pub makes_not : (Err IdOutOfRange) ≡ new_answer i.0 → Makes i (Err IdOutOfRange) s s
   makes_not e = record { answer = e; cause = ap new_cause e; head = λ r. let z : ◌≡◌ {A = ℕ} 0 1 = cc in absurd (omega arith); bytes = refl }
 
-  pub makes : Made ≡ new_answer i.0 → Makes i Made s (new_bytes Made i.0 s)
+  pub makes : (Ok tt) ≡ new_answer i.0 → Makes i (Ok tt) s (new_bytes (Ok tt) i.0 s)
   makes e = record { answer = e; cause = ap new_cause e; head = λ r. made i.0 s; bytes = refl }
 
-  pub id_bad : is_cn_node_id i.0 ≡ false → IdOutOfRange ≡ new_answer i.0
+  pub id_bad : is_cn_node_id i.0 ≡ false → (Err IdOutOfRange) ≡ new_answer i.0
   id_bad h = rw h
 
-  pub id_good : is_cn_node_id i.0 ≡ true → Made ≡ new_answer i.0
+  pub id_good : is_cn_node_id i.0 ≡ true → (Ok tt) ≡ new_answer i.0
   id_good h = rw h
 
 -- ---- Raise
 
 module _ (e : ErrorEntry) (s : List ℕ) where
   module _ (b : Bool) (eb : b ≡ is_raisable e) where
-    pub raise_invalid : b ≡ false → EntryInvalid ≡ raise_answer e (head_of s)
+    pub raise_invalid : b ≡ false → (Err EntryInvalid) ≡ raise_answer e (head_of s)
     unfolding raise_answer
     raise_invalid h = rw (sym eb ∙ h)
 
-    pub raise_status : b ≡ true → e.entry_type.is_status_entry ≡ true → StatusEntry ≡ raise_answer e (head_of s)
+    pub raise_status : b ≡ true → e.entry_type.is_status_entry ≡ true → (Err StatusEntry) ≡ raise_answer e (head_of s)
     unfolding raise_answer
     raise_status h st = rw (sym eb ∙ h, st)
 
     module _ (h : b ≡ true) (st : e.entry_type.is_status_entry ≡ false) where
-      pub raise_full : ltb (waiting_of s) queue_length ≡ false → QueueFull ≡ raise_answer e (head_of s)
+      pub raise_full : ltb (waiting_of s) queue_length ≡ false → (Err QueueFull) ≡ raise_answer e (head_of s)
       unfolding raise_answer
       raise_full l = rw (sym eb ∙ h, st, waiting_length s, l)
 
-      pub raise_good : ltb (waiting_of s) queue_length ≡ true → Raised ≡ raise_answer e (head_of s)
+      pub raise_good : ltb (waiting_of s) queue_length ≡ true → (Ok tt) ≡ raise_answer e (head_of s)
       unfolding raise_answer
       raise_good l = rw (sym eb ∙ h, st, waiting_length s, l)
 
   module _ (w : Numbers e) where
-    pub invalid : EntryInvalid ≡ raise_answer e (head_of s) → Raises e EntryInvalid s s
+    pub invalid : (Err EntryInvalid) ≡ raise_answer e (head_of s) → Raises e (Err EntryInvalid) s s
     invalid r = record { answer = r; cause = ap raise_cause r; numbers = w; head = refl; bytes = refl }
 
-    pub status : StatusEntry ≡ raise_answer e (head_of s) → Raises e StatusEntry s s
+    pub status : (Err StatusEntry) ≡ raise_answer e (head_of s) → Raises e (Err StatusEntry) s s
     status r = record { answer = r; cause = ap raise_cause r; numbers = w; head = refl; bytes = refl }
 
-    pub full : QueueFull ≡ raise_answer e (head_of s) → Raises e QueueFull s s
+    pub full : (Err QueueFull) ≡ raise_answer e (head_of s) → Raises e (Err QueueFull) s s
     full r = record { answer = r; cause = ap raise_cause r; numbers = w; head = refl; bytes = refl }
 
-    pub raised : (after : List ℕ) → length s ≡ reporter_length → Raised ≡ raise_answer e (head_of s) → after ≡ raise_bytes Raised e s → Raises e Raised s after
+    pub raised : (after : List ℕ) → length s ≡ reporter_length → (Ok tt) ≡ raise_answer e (head_of s) → after ≡ raise_bytes (Ok tt) e s → Raises e (Ok tt) s after
     raised after size r b =
         record { answer = r; cause = ap raise_cause r; numbers = w; head = ap head_of b ∙ rw (← r) at (raises_means e s size w); bytes = b }
 
 -- ---- reading
 
 module _ (ea : Bool) (s : List ℕ) where
-  pub acknowledges : length s ≡ reporter_length → (r : ReadAnswer) → r ≡ ea_answer ea (head_of s) → (after : List ℕ) → after ≡ acknowledge_bytes r s → Acknowledges ea r s after
+  pub acknowledges : length s ≡ reporter_length → (r : Result ReadOutcome PowerlinkError) → r ≡ ea_answer ea (head_of s) → (after : List ℕ) → after ≡ acknowledge_bytes r s → Acknowledges ea r s after
   acknowledges size r e after b = record { answer = e; head = ap head_of b ∙ reads_means s size r; bytes = b }
 
   module _ (n : ℕ) (eo : n ≡ open_of s) where
-    pub none_open : n ≡ 0 → Kept ≡ ea_answer ea (head_of s)
+    pub none_open : n ≡ 0 → (Ok Kept) ≡ ea_answer ea (head_of s)
     unfolding ea_answer
     none_open h = rw (batch_empty s, eq-eqb (open_of s) 0 (omega arith))
 
     module _ (h : n ≡ 0 → ⊥) (en : Bool) (ee : en ≡ en_of s) where
-      pub other_ea : not (beq en ea) ≡ true → Kept ≡ ea_answer ea (head_of s)
+      pub other_ea : not (beq en ea) ≡ true → (Ok Kept) ≡ ea_answer ea (head_of s)
       unfolding ea_answer
       other_ea t = rw (batch_empty s, ne_eqb (open_of s) 0 (λ z. h (eo ∙ z)), en_is s, ← ee, not-true (beq en ea) t)
 
-      pub same_ea : not (beq en ea) ≡ false → Closed ≡ ea_answer ea (head_of s)
+      pub same_ea : not (beq en ea) ≡ false → (Ok Closed) ≡ ea_answer ea (head_of s)
       unfolding ea_answer
       same_ea t = rw (batch_empty s, ne_eqb (open_of s) 0 (λ z. h (eo ∙ z)), en_is s, ← ee, not-false (beq en ea) t)
 
-module _ (services frame s after : List ℕ) (r : ReadAnswer) (x : Heard) (ex : x ≡ ea_told services (head_of s).id frame) where
+module _ (services frame s after : List ℕ) (r : Result ReadOutcome PowerlinkError) (x : Result (Option Bool) PowerlinkError) (ex : x ≡ ea_told services (head_of s).id frame) where
   pub reads : r ≡ acknowledge_answer x (head_of s) → head_of after ≡ after_acknowledge r (head_of s) → after ≡ acknowledge_bytes r s → Reads services frame r s after
   reads e h b =
-      let f : r ≡ acknowledge_answer (ea_told services (head_of s).id frame) (head_of s) = e ∙ ap (λ (y : Heard). acknowledge_answer y (head_of s)) ex in
-      record { answer = f; cause = ap (λ (x : ReadAnswer). (read_cause x).number) f ∙ read_row (head_of s).id (read_frame services frame) (head_of s); head = h; bytes = b }
+      let f : r ≡ acknowledge_answer (ea_told services (head_of s).id frame) (head_of s) = e ∙ ap (λ (y : Result (Option Bool) PowerlinkError). acknowledge_answer y (head_of s)) ex in
+      record { answer = f; cause = ap (λ (x : Result ReadOutcome PowerlinkError). (read_cause x).number) f ∙ read_row (head_of s).id (read_frame services frame) (head_of s); head = h; bytes = b }

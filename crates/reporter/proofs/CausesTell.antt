@@ -1,39 +1,39 @@
 -- Number and values of an answer tell which it is.
 -- Assumes nothing.
 use mathlib.Core.Path.{◌≡◌, refl, ap, ◌∙◌}
+use Rattle.std.specs.Prelude.{Result, Ok, Err}
 use Rattle.section.specs.Write.{write_cause}
-use Rattle.section.specs.declared.WriteAnswer.{WriteAnswer}
-use Rattle.section.specs.declared.WriteAnswer.TheVariants as write
 use Rattle.types.proofs.Apart.{apart}
 use Rattle.types.proofs.CausesTell.{not_0, error_told_lem}
 use Rattle.reporter.specs.CausesTell.{new_told, raise_told, write_told, read_told, CausesTell}
 use Rattle.reporter.specs.Rules.{new_cause, raise_cause, read_cause}
-use Rattle.reporter.specs.declared.NewAnswer.{NewAnswer}
-use Rattle.reporter.specs.declared.NewAnswer.TheVariants.{Made, IdOutOfRange}
-use Rattle.reporter.specs.declared.RaiseAnswer.{RaiseAnswer}
-use Rattle.reporter.specs.declared.RaiseAnswer.TheVariants.{Raised, EntryInvalid, StatusEntry, QueueFull}
-use Rattle.reporter.specs.declared.ReadAnswer.{ReadAnswer}
-use Rattle.reporter.specs.declared.ReadAnswer.TheVariants.{Closed, Kept, Ignored, Refused}
+use Rattle.reporter.specs.declared.NewError.TheVariants.{IdOutOfRange}
+use Rattle.reporter.specs.declared.RaiseError.TheVariants.{EntryInvalid, StatusEntry, QueueFull}
+use Rattle.reporter.specs.declared.ReadOutcome.TheVariants.{Closed, Kept, Ignored}
+use Rattle.types.specs.declared.hal.PowerlinkError.{PowerlinkError}
+use Rattle.reporter.specs.declared.RaiseError.{RaiseError}
+use Rattle.reporter.specs.declared.NewError.{NewError}
+use Rattle.reporter.specs.declared.ReadOutcome.{ReadOutcome}
 
-pub new_told_lem : (a : NewAnswer) → new_told (new_cause a) ≡ a
-new_told_lem Made = refl
-new_told_lem IdOutOfRange = refl
+pub new_told_lem : (a : Result Unit NewError) → new_told (new_cause a) ≡ a
+new_told_lem (Ok tt) = refl
+new_told_lem (Err IdOutOfRange) = refl
 
-pub raise_told_lem : (a : RaiseAnswer) → raise_told (raise_cause a) ≡ a
-raise_told_lem Raised = refl
-raise_told_lem EntryInvalid = refl
-raise_told_lem StatusEntry = refl
-raise_told_lem QueueFull = refl
+pub raise_told_lem : (a : Result Unit RaiseError) → raise_told (raise_cause a) ≡ a
+raise_told_lem (Ok tt) = refl
+raise_told_lem (Err EntryInvalid) = refl
+raise_told_lem (Err StatusEntry) = refl
+raise_told_lem (Err QueueFull) = refl
 
-pub write_told_lem : (a : WriteAnswer) → write_told (write_cause a) ≡ a
-write_told_lem (write.Written n) = refl
-write_told_lem (write.Refused e) = not_0 e _ _ ∙ ap write.Refused (error_told_lem e 0)
+pub write_told_lem : (a : Result ℕ PowerlinkError) → write_told (write_cause a) ≡ a
+write_told_lem (Ok n) = refl
+write_told_lem (Err e) = not_0 e _ _ ∙ ap Err (error_told_lem e 0)
 
-pub read_told_lem : (a : ReadAnswer) → read_told (read_cause a) ≡ a
-read_told_lem Closed = cc
-read_told_lem Kept = cc
-read_told_lem Ignored = cc
-read_told_lem (Refused e) = not_0 e _ _ ∙ ap Refused (error_told_lem e 0)
+pub read_told_lem : (a : Result ReadOutcome PowerlinkError) → read_told (read_cause a) ≡ a
+read_told_lem (Ok Closed) = cc
+read_told_lem (Ok Kept) = cc
+read_told_lem (Ok Ignored) = cc
+read_told_lem (Err e) = not_0 e _ _ ∙ ap Err (error_told_lem e 0)
 
 pub causes_tell : CausesTell
 causes_tell =

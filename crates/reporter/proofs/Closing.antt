@@ -8,11 +8,12 @@ use native.Mathlib.Omega.{arith}
 use lib.ListN.{length, get_or, set, length-set}
 use lib.Seq.{get_or-set_same, get_or-set_other}
 use lib.Dec.{eqb}
+use Rattle.std.specs.Prelude.{Ok}
 use Rattle.records.specs.Ring.{ring}
 use Rattle.records.proofs.RingLaws.{ring_shift}
 use Rattle.reporter.specs.Layout.{waiting_at, open_at, start_at, en_at, id_at, reporter_length, places, en_of, start_of, open_of, waiting_of, entry_in, head_of, acknowledge_bytes}
 use Rattle.reporter.specs.Rules.{queue_length, after_acknowledge}
-use Rattle.reporter.specs.declared.ReadAnswer.TheVariants.{Closed}
+use Rattle.reporter.specs.declared.ReadOutcome.TheVariants.{Closed}
 use Rattle.reporter.proofs.Entries.{entry_set, ring_kept}
 use Rattle.reporter.proofs.Ranges.{open_of_lem, head_same}
 
@@ -37,7 +38,7 @@ module _ (s : List ℕ) where
   unfolding waiting_of
   waiting_kept = ap (λ (x : ℕ). min x queue_length) (octet_kept waiting_at (omega arith) (omega arith))
 
-  pub closed_length : length (acknowledge_bytes Closed s) ≡ length s
+  pub closed_length : length (acknowledge_bytes (Ok Closed) s) ≡ length s
   closed_length = simp length-set
 
   module _ (size : length s ≡ reporter_length) where
@@ -52,7 +53,7 @@ module _ (s : List ℕ) where
         let l : length (set s start_at begin) ≡ reporter_length = length-set s start_at begin ∙ size in
         rw (open_of_lem octets, get_or-set_same (set s start_at begin) open_at 0 0 (omega arith)) (omega arith)
 
-    pub closed_means : head_of (acknowledge_bytes Closed s) ≡ after_acknowledge Closed (head_of s)
+    pub closed_means : head_of (acknowledge_bytes (Ok Closed) s) ≡ after_acknowledge (Ok Closed) (head_of s)
     unfolding head_of ring
     closed_means =
         head_same (octet_kept id_at (omega arith) (omega arith)) en_kept (rw open_is)

@@ -8,6 +8,7 @@ use native.Mathlib.Omega.{arith}
 use lib.ListN.{length, take}
 use lib.Dec.{ltb}
 use borrow.Author.Tests.{ltb-true}
+use Rattle.std.specs.Prelude.{Result, Ok, Err}
 use Rattle.octets.proofs.Cases.{either}
 use Rattle.types.specs.declared.error_mode.ErrorEntryMode.{ErrorEntryMode}
 use Rattle.types.specs.declared.error_mode.ErrorEntryMode.TheVariants.{Terminator, ErrorActive, ErrorCleared, EventOccurred}
@@ -20,16 +21,16 @@ use Rattle.reporter.specs.Calls.{Numbers}
 use Rattle.reporter.specs.Layout.{reporter_length, places, en_of, start_of, open_of, waiting_of, entry_in, head_of, new_bytes, raise_bytes, opens_in, carried_in, first_four, opened_bytes, acknowledge_bytes}
 use Rattle.reporter.specs.Rules.{queue_length, batch_length, Head, fresh_head, is_raisable, raise_by, raise_answer, after_raise, opened, answer_frame, answer_length, after_acknowledge}
 use Rattle.reporter.specs.declared.AnswerFields.{AnswerFields}
-use Rattle.reporter.specs.declared.NewAnswer.TheVariants.{Made}
-use Rattle.reporter.specs.declared.RaiseAnswer.{RaiseAnswer}
-use Rattle.reporter.specs.declared.RaiseAnswer.TheVariants.{Raised, EntryInvalid, StatusEntry, QueueFull}
-use Rattle.reporter.specs.declared.ReadAnswer.{ReadAnswer}
-use Rattle.reporter.specs.declared.ReadAnswer.TheVariants.{Closed, Kept, Ignored, Refused}
+use Rattle.reporter.specs.declared.RaiseError.TheVariants.{EntryInvalid, StatusEntry, QueueFull}
+use Rattle.reporter.specs.declared.ReadOutcome.TheVariants.{Closed, Kept, Ignored}
 use Rattle.reporter.proofs.Answering.{payload_length, answer_octets}
 use Rattle.reporter.proofs.Closing.{closed_length, closed_means}
 use Rattle.reporter.proofs.Opening.{carried_few, batch_opened, opened_length, opened_means, kept_length, kept_means, batch_kept, carried_open}
 use Rattle.reporter.proofs.Raising.{raised_length, raised_means}
 use Rattle.reporter.proofs.Ranges.{open_small, waiting_small, batch_length_lem, waiting_length}
+use Rattle.reporter.specs.declared.RaiseError.{RaiseError}
+use Rattle.reporter.specs.declared.ReadOutcome.{ReadOutcome}
+use Rattle.types.specs.declared.hal.PowerlinkError.{PowerlinkError}
 
 -- ---- the bounds of a head
 
@@ -41,11 +42,11 @@ waiting_few s = rw (waiting_length s) (waiting_small s)
 
 -- ---- a new head
 
-pub made : (i : ℕ) (s : List ℕ) → head_of (new_bytes Made i s) ≡ fresh_head i
+pub made : (i : ℕ) (s : List ℕ) → head_of (new_bytes (Ok tt) i s) ≡ fresh_head i
 unfolding head_of en_of start_of open_of waiting_of ring
 made i s = refl
 
-pub new_length : (i : ℕ) (s : List ℕ) → length (new_bytes Made i s) ≡ reporter_length
+pub new_length : (i : ℕ) (s : List ℕ) → length (new_bytes (Ok tt) i s) ≡ reporter_length
 new_length i s = refl
 
 -- ---- Raise
@@ -68,11 +69,11 @@ raisable_range e w h =
     }
 
 module _ (e : ErrorEntry) (s : List ℕ) where
-  pub raises_length : (r : RaiseAnswer) → length (raise_bytes r e s) ≡ length s
-  raises_length Raised = raised_length s e
-  raises_length EntryInvalid = refl
-  raises_length StatusEntry = refl
-  raises_length QueueFull = refl
+  pub raises_length : (r : Result Unit RaiseError) → length (raise_bytes r e s) ≡ length s
+  raises_length (Ok tt) = raised_length s e
+  raises_length (Err EntryInvalid) = refl
+  raises_length (Err StatusEntry) = refl
+  raises_length (Err QueueFull) = refl
 
   means_by : length s ≡ reporter_length → Numbers e → (raisable status room : Bool) → is_raisable e ≡ raisable
       → ltb (length (head_of s).waiting) queue_length ≡ room
@@ -120,14 +121,14 @@ answer_size f h = answer_octets f h (34 + 20 * length h.batch) (payload_length f
 -- ---- reading a frame
 
 module _ (s : List ℕ) where
-  pub reads_length : (r : ReadAnswer) → length (acknowledge_bytes r s) ≡ length s
-  reads_length Closed = closed_length s
-  reads_length Kept = refl
-  reads_length Ignored = refl
-  reads_length (Refused e) = refl
+  pub reads_length : (r : Result ReadOutcome PowerlinkError) → length (acknowledge_bytes r s) ≡ length s
+  reads_length (Ok Closed) = closed_length s
+  reads_length (Ok Kept) = refl
+  reads_length (Ok Ignored) = refl
+  reads_length (Err e) = refl
 
-  pub reads_means : length s ≡ reporter_length → (r : ReadAnswer) → head_of (acknowledge_bytes r s) ≡ after_acknowledge r (head_of s)
-  reads_means size Closed = closed_means s size
-  reads_means size Kept = refl
-  reads_means size Ignored = refl
-  reads_means size (Refused e) = refl
+  pub reads_means : length s ≡ reporter_length → (r : Result ReadOutcome PowerlinkError) → head_of (acknowledge_bytes r s) ≡ after_acknowledge r (head_of s)
+  reads_means size (Ok Closed) = closed_means s size
+  reads_means size (Ok Kept) = refl
+  reads_means size (Ok Ignored) = refl
+  reads_means size (Err e) = refl

@@ -7,6 +7,7 @@ use native.Mathlib.Omega.{arith}
 use lib.ListN.{length, get_or, set, length-set}
 use lib.Seq.{get_or-set_same, get_or-set_other}
 use lib.Dec.{eqb}
+use Rattle.std.specs.Prelude.{Ok}
 use Rattle.error_entry.specs.ReadBack.{InRange}
 use Rattle.error_entry.specs.declared.ErrorEntry.{ErrorEntry}
 use Rattle.records.specs.Records.{with_record}
@@ -15,7 +16,6 @@ use Rattle.records.proofs.RecordLaws.{octet_record, length_record}
 use Rattle.records.proofs.RingLaws.{ring_same, ring_snoc}
 use Rattle.reporter.specs.Layout.{waiting_at, open_at, start_at, en_at, id_at, reporter_length, places, control_length, en_of, start_of, open_of, waiting_of, record_place, entry_in, head_of, raised_bytes}
 use Rattle.reporter.specs.Rules.{queue_length, batch_length, after_raise}
-use Rattle.reporter.specs.declared.RaiseAnswer.TheVariants.{Raised}
 use Rattle.reporter.proofs.Entries.{entry_set, entry_other, entry_there}
 use Rattle.reporter.proofs.Ranges.{open_small, waiting_of_lem, head_same}
 
@@ -79,7 +79,7 @@ module _ (s : List ℕ) (e : ErrorEntry) where
     unfolding raised_bytes
     last_is range = entry_set put waiting_at (waiting_of s + 1) (place % places) (omega arith) ∙ entry_there s e place size range
 
-    pub raised_means : InRange e → head_of (raised_bytes e s) ≡ after_raise Raised e (head_of s)
+    pub raised_means : InRange e → head_of (raised_bytes e s) ≡ after_raise (Ok tt) e (head_of s)
     unfolding head_of
     raised_means range =
         head_same (octet_kept id_at (omega arith) (omega arith)) en_kept

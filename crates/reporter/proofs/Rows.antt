@@ -4,23 +4,22 @@ use Prim.Native.Nat.{ℕ}
 use mathlib.Core.Bool.{Bool, true, false, not, ◌&&◌, beq}
 use mathlib.Core.Path.{◌≡◌, refl}
 use lib.Dec.{eqb}
+use Rattle.std.specs.Prelude.{Result, Ok, Err, Some, None}
 use Rattle.types.specs.Codes.{need, pick}
 use Rattle.codec.specs.Frame.{frame_cause}
-use Rattle.codec.specs.declared.FrameAnswer.{FrameAnswer}
-use Rattle.codec.specs.declared.FrameAnswer.TheVariants as frame
 use Rattle.frame.specs.declared.PowerlinkFrame.{PowerlinkFrame}
 use Rattle.frame.specs.declared.PowerlinkFrame.TheVariants.{Soc, PReq, PRes, SoA, ASnd}
 use Rattle.reporter.specs.Rules.{Head, is_empty, ea_for, ea_in_frame, ea_in_answer, ea_answer, acknowledge_answer, read_cause}
-use Rattle.reporter.specs.declared.ReadAnswer.TheVariants.{Closed, Kept}
-use Rattle.reporter.specs.declared.acknowledge.Heard.TheVariants as heard
+use Rattle.reporter.specs.declared.ReadOutcome.TheVariants.{Closed, Kept}
+use Rattle.types.specs.declared.hal.PowerlinkError.{PowerlinkError}
 
 -- what can be read is refused by no head
 
-ea_by : (t : Bool) → (read_cause (pick t Closed Kept)).number ≡ 0
+ea_by : (t : Bool) → (read_cause (pick t (Ok Closed) (Ok Kept))).number ≡ 0
 ea_by true = refl
 ea_by false = refl
 
-for_by : (t u ea : Bool) (h : Head) → (read_cause (acknowledge_answer (need t heard.Nothing (need u heard.Nothing (heard.Ea ea))) h)).number ≡ 0
+for_by : (t u ea : Bool) (h : Head) → (read_cause (acknowledge_answer (need t (Ok None) (need u (Ok None) (Ok (Some ea)))) h)).number ≡ 0
 unfolding ea_answer
 for_by true true ea h = ea_by (not (is_empty h.batch) && beq h.en ea)
 for_by true false ea h = refl
@@ -34,6 +33,6 @@ frame_row i (PRes f) h = refl
 frame_row i (SoA f) h = for_by (eqb f.source.0 240) (eqb f.target_node_id.0 i) f.flags.ea h
 frame_row i (ASnd f) h = refl
 
-pub read_row : (i : ℕ) (a : FrameAnswer) (h : Head) → (read_cause (acknowledge_answer (ea_in_answer i a) h)).number ≡ (frame_cause a).number
-read_row i (frame.Refused e) h = refl
-read_row i (frame.Frame f) h = frame_row i f h
+pub read_row : (i : ℕ) (a : Result PowerlinkFrame PowerlinkError) (h : Head) → (read_cause (acknowledge_answer (ea_in_answer i a) h)).number ≡ (frame_cause a).number
+read_row i (Err e) h = refl
+read_row i (Ok f) h = frame_row i f h

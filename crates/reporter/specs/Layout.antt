@@ -1,17 +1,17 @@
 -- What the octets of a reporter's state mean, and what each call makes of them. The papers leave the layout to the program; every
 -- list of octets means a head: a start counts modulo `places`, a count above its bound is the bound, EN is the lowest bit.
 -- Assumes nothing.
-use Rattle.std.specs.Prelude.{ℕ, ◌+◌, ◌*◌, ◌-◌, ◌%◌, min, Bool, ◌&&◌, List, get_or, set, replicate, eqb, ltb}
+use Rattle.std.specs.Prelude.{ℕ, ◌+◌, ◌*◌, ◌-◌, ◌%◌, min, Bool, ◌&&◌, List, get_or, set, replicate, eqb, ltb, Result, Ok, Err}
 use Rattle.types.specs.Codes.{pick}
-use Rattle.section.specs.declared.WriteAnswer.{WriteAnswer}
 use Rattle.error_entry.specs.declared.ErrorEntry.{ErrorEntry}
 use Rattle.records.specs.Records.{entry_length, record_at, with_record}
 use Rattle.records.specs.Ring.{ring}
 use Rattle.reporter.specs.Rules.{batch_length, queue_length, Head, when_raised, when_written, when_closed}
-use Rattle.reporter.specs.declared.NewAnswer.{NewAnswer}
-use Rattle.reporter.specs.declared.NewAnswer.TheVariants.{Made, IdOutOfRange}
-use Rattle.reporter.specs.declared.RaiseAnswer.{RaiseAnswer}
-use Rattle.reporter.specs.declared.ReadAnswer.{ReadAnswer}
+use Rattle.reporter.specs.declared.NewError.TheVariants.{IdOutOfRange}
+use Rattle.types.specs.declared.hal.PowerlinkError.{PowerlinkError}
+use Rattle.reporter.specs.declared.RaiseError.{RaiseError}
+use Rattle.reporter.specs.declared.NewError.{NewError}
+use Rattle.reporter.specs.declared.ReadOutcome.{ReadOutcome}
 
 -- ---- where the octets stand: control octets, then the ring's records
 
@@ -76,15 +76,15 @@ head_of s =
 
 -- ---- what the calls leave
 
-abbrev pub new_bytes : NewAnswer → ℕ → List ℕ → List ℕ
-new_bytes Made i s = set (replicate reporter_length 0) id_at i
-new_bytes IdOutOfRange i s = s
+abbrev pub new_bytes : Result Unit NewError → ℕ → List ℕ → List ℕ
+new_bytes (Ok tt) i s = set (replicate reporter_length 0) id_at i
+new_bytes (Err IdOutOfRange) i s = s
 
 -- the entry's record behind the waiting ones
 unfoldable pub raised_bytes : ErrorEntry → List ℕ → List ℕ
 raised_bytes e s = set (with_record s (record_place (start_of s + open_of s + waiting_of s)) e) waiting_at (waiting_of s + 1)
 
-abbrev pub raise_bytes : RaiseAnswer → ErrorEntry → List ℕ → List ℕ
+abbrev pub raise_bytes : Result Unit RaiseError → ErrorEntry → List ℕ → List ℕ
 raise_bytes r e s = when_raised r (raised_bytes e s) s
 
 -- whether an answer opens a batch
@@ -106,12 +106,12 @@ opened_bytes s =
     (set (set (set s en_at (pick (en_of s) 0 1)) open_at (carried_in s)) waiting_at (waiting_of s - carried_in s))
     s
 
-abbrev pub answer_bytes : WriteAnswer → List ℕ → List ℕ
+abbrev pub answer_bytes : Result ℕ PowerlinkError → List ℕ → List ℕ
 answer_bytes r s = when_written r (opened_bytes s) s
 
 -- closing moves the ring's start past the batch
 abbrev pub closed_bytes : List ℕ → List ℕ
 closed_bytes s = set (set s start_at ((start_of s + open_of s) % places)) open_at 0
 
-abbrev pub acknowledge_bytes : ReadAnswer → List ℕ → List ℕ
+abbrev pub acknowledge_bytes : Result ReadOutcome PowerlinkError → List ℕ → List ℕ
 acknowledge_bytes r s = when_closed r (closed_bytes s) s

@@ -1,6 +1,6 @@
 -- The rules of 01, "The error exchange", for the head: a controlled node that reports errors (EPSG DS 301, 6.5).
 -- Assumes nothing.
-use Rattle.std.specs.Prelude.{ℕ, zero, suc, ◌+◌, ◌*◌, ◌-◌, Bool, true, false, not, ◌&&◌, List, [], ◌∷◌, ◌++◌, length, take, drop, replicate, ltb, eqb}
+use Rattle.std.specs.Prelude.{ℕ, zero, suc, ◌+◌, ◌*◌, ◌-◌, Bool, true, false, not, ◌&&◌, List, [], ◌∷◌, ◌++◌, length, take, drop, replicate, ltb, eqb, Result, Ok, Err, Option, Some, None}
 use Rattle.std.specs.Bool.{beq}
 use Rattle.types.specs.CauseNumbers as cause
 use Rattle.types.specs.Causes.{Cause, row, cause_of}
@@ -9,29 +9,24 @@ use Rattle.types.specs.Header.{eth_bytes}
 use Rattle.types.specs.Nodes.{is_cn_node_id, managing_node, broadcast_node}
 use Rattle.services.specs.Ids.{status_response}
 use Rattle.section.specs.Write.{min_frame, Coded}
-use Rattle.section.specs.declared.WriteAnswer.{WriteAnswer}
-use Rattle.section.specs.declared.WriteAnswer.TheVariants as write
 use Rattle.control.specs.ASnd.{new_asnd, asnd_bytes, asnd_payload_at}
 use Rattle.control.specs.declared.asnd.NewASndFrame.{NewASndFrame}
 use Rattle.frame.specs.Write.{frame_bytes, under_table}
 use Rattle.frame.specs.declared.PowerlinkFrame.{PowerlinkFrame}
 use Rattle.frame.specs.declared.PowerlinkFrame.TheVariants.{Soc, PReq, PRes, SoA, ASnd}
 use Rattle.codec.specs.Frame.{read_frame}
-use Rattle.codec.specs.declared.FrameAnswer.{FrameAnswer}
-use Rattle.codec.specs.declared.FrameAnswer.TheVariants as frame
 use Rattle.error_entry.specs.declared.ErrorEntry.{ErrorEntry}
 use Rattle.status_response.specs.Fields.{head_bytes}
 use Rattle.status_response.specs.Steps.{unless_terminator, status_bytes}
 use Rattle.status_response.specs.declared.fields.StatusFields.{StatusFields}
 use Rattle.reporter.specs.declared.AnswerFields.{AnswerFields}
-use Rattle.reporter.specs.declared.NewAnswer.{NewAnswer}
-use Rattle.reporter.specs.declared.NewAnswer.TheVariants.{Made, IdOutOfRange}
-use Rattle.reporter.specs.declared.RaiseAnswer.{RaiseAnswer}
-use Rattle.reporter.specs.declared.RaiseAnswer.TheVariants.{Raised, EntryInvalid, StatusEntry, QueueFull}
-use Rattle.reporter.specs.declared.ReadAnswer.{ReadAnswer}
-use Rattle.reporter.specs.declared.ReadAnswer.TheVariants.{Closed, Kept, Ignored, Refused}
-use Rattle.reporter.specs.declared.acknowledge.Heard.{Heard}
-use Rattle.reporter.specs.declared.acknowledge.Heard.TheVariants as heard
+use Rattle.reporter.specs.declared.NewError.TheVariants.{IdOutOfRange}
+use Rattle.reporter.specs.declared.RaiseError.TheVariants.{EntryInvalid, StatusEntry, QueueFull}
+use Rattle.reporter.specs.declared.ReadOutcome.TheVariants.{Closed, Kept, Ignored}
+use Rattle.types.specs.declared.hal.PowerlinkError.{PowerlinkError}
+use Rattle.reporter.specs.declared.RaiseError.{RaiseError}
+use Rattle.reporter.specs.declared.NewError.{NewError}
+use Rattle.reporter.specs.declared.ReadOutcome.{ReadOutcome}
 
 -- "at most one open batch (1 to 4 entries)"
 abbrev pub batch_length : ℕ
@@ -64,13 +59,13 @@ with_en b h = record { id = h.id; en = b; batch = h.batch; waiting = h.waiting }
 -- ---- a new head
 
 -- cause 13: the ID of a new head is not 1 to 239
-abbrev pub new_answer : ℕ → NewAnswer
-new_answer i = need (is_cn_node_id i) IdOutOfRange Made
+abbrev pub new_answer : ℕ → Result Unit NewError
+new_answer i = need (is_cn_node_id i) (Err IdOutOfRange) (Ok tt)
 
 -- 01's number for each case: 0 where nothing is refused
-abbrev pub new_cause : NewAnswer → Cause
-new_cause Made = row 0 []
-new_cause IdOutOfRange = row cause.id_out_of_range []
+abbrev pub new_cause : Result Unit NewError → Cause
+new_cause (Ok tt) = row 0 []
+new_cause (Err IdOutOfRange) = row cause.id_out_of_range []
 
 -- ---- Raise
 
@@ -79,26 +74,26 @@ unfoldable pub is_raisable : ErrorEntry → Bool
 is_raisable e = unless_terminator e.entry_type.mode (ltb e.entry_type.profile 4096) false
 
 -- 8, then 23 (02, CR 2), then 9: "16 already waiting"
-abbrev pub raise_by : Bool → Bool → Bool → RaiseAnswer
-raise_by raisable status room = need raisable EntryInvalid (pick status StatusEntry (need room QueueFull Raised))
+abbrev pub raise_by : Bool → Bool → Bool → Result Unit RaiseError
+raise_by raisable status room = need raisable (Err EntryInvalid) (pick status (Err StatusEntry) (need room (Err QueueFull) (Ok tt)))
 
-unfoldable pub raise_answer : ErrorEntry → Head → RaiseAnswer
+unfoldable pub raise_answer : ErrorEntry → Head → Result Unit RaiseError
 raise_answer e h = raise_by (is_raisable e) e.entry_type.is_status_entry (ltb (length h.waiting) queue_length)
 
-abbrev pub raise_cause : RaiseAnswer → Cause
-raise_cause Raised = row 0 []
-raise_cause EntryInvalid = row cause.entry_invalid []
-raise_cause StatusEntry = row cause.is_status_entry []
-raise_cause QueueFull = row cause.queue_full []
+abbrev pub raise_cause : Result Unit RaiseError → Cause
+raise_cause (Ok tt) = row 0 []
+raise_cause (Err EntryInvalid) = row cause.entry_invalid []
+raise_cause (Err StatusEntry) = row cause.is_status_entry []
+raise_cause (Err QueueFull) = row cause.queue_full []
 
-abbrev pub when_raised : {A : Type 0} → RaiseAnswer → A → A → A
-when_raised Raised a b = a
-when_raised EntryInvalid a b = b
-when_raised StatusEntry a b = b
-when_raised QueueFull a b = b
+abbrev pub when_raised : {A : Type 0} → Result Unit RaiseError → A → A → A
+when_raised (Ok tt) a b = a
+when_raised (Err EntryInvalid) a b = b
+when_raised (Err StatusEntry) a b = b
+when_raised (Err QueueFull) a b = b
 
 -- "the entry joins the waiting ones, last"
-abbrev pub after_raise : RaiseAnswer → ErrorEntry → Head → Head
+abbrev pub after_raise : Result Unit RaiseError → ErrorEntry → Head → Head
 after_raise r e h = when_raised r (with_waiting (h.waiting ++ (e ∷ [])) h) h
 
 -- ---- Answer
@@ -155,59 +150,59 @@ abbrev pub answer_length : ℕ → ℕ
 answer_length zero = 60
 answer_length (suc n) = 52 + 20 * suc n
 
-abbrev pub when_written : {A : Type 0} → WriteAnswer → A → A → A
-when_written (write.Written n) a b = a
-when_written (write.Refused e) a b = b
+abbrev pub when_written : {A : Type 0} → Result ℕ PowerlinkError → A → A → A
+when_written (Ok n) a b = a
+when_written (Err e) a b = b
 
 -- "A refused answer changes nothing"
-abbrev pub after_answer : WriteAnswer → Head → Head
+abbrev pub after_answer : Result ℕ PowerlinkError → Head → Head
 after_answer r h = when_written r (opened h) h
 
 -- ---- reading a frame
 
 -- EA, where the source is 240 and the frame is for node i
-unfoldable pub ea_for : ℕ → ℕ → ℕ → Bool → Heard
-ea_for i source target ea = need (eqb source managing_node) heard.Nothing (need (eqb target i) heard.Nothing (heard.Ea ea))
+unfoldable pub ea_for : ℕ → ℕ → ℕ → Bool → Result (Option Bool) PowerlinkError
+ea_for i source target ea = need (eqb source managing_node) (Ok None) (need (eqb target i) (Ok None) (Ok (Some ea)))
 
 -- "a PReq to its ID or an SoA with it as target gives EA"
-abbrev pub ea_in_frame : ℕ → PowerlinkFrame → Heard
-ea_in_frame i (Soc f) = heard.Nothing
+abbrev pub ea_in_frame : ℕ → PowerlinkFrame → Result (Option Bool) PowerlinkError
+ea_in_frame i (Soc f) = Ok None
 ea_in_frame i (PReq f) = ea_for i f.source.0 f.destination.0 f.flags.ea
-ea_in_frame i (PRes f) = heard.Nothing
+ea_in_frame i (PRes f) = Ok None
 ea_in_frame i (SoA f) = ea_for i f.source.0 f.target_node_id.0 f.flags.ea
-ea_in_frame i (ASnd f) = heard.Nothing
+ea_in_frame i (ASnd f) = Ok None
 
-abbrev pub ea_in_answer : ℕ → FrameAnswer → Heard
-ea_in_answer i (frame.Refused e) = heard.Refused e
-ea_in_answer i (frame.Frame f) = ea_in_frame i f
+abbrev pub ea_in_answer : ℕ → Result PowerlinkFrame PowerlinkError → Result (Option Bool) PowerlinkError
+ea_in_answer i (Err e) = Err e
+ea_in_answer i (Ok f) = ea_in_frame i f
 
 -- what node i wants in the octets of a frame: the EA (exception acknowledge) that the managing node tells it, nothing, or why they
 -- cannot be read, under a table
-abbrev pub ea_told : List ℕ → ℕ → List ℕ → Heard
+abbrev pub ea_told : List ℕ → ℕ → List ℕ → Result (Option Bool) PowerlinkError
 ea_told services i f = ea_in_answer i (read_frame services f)
 
 -- "If a batch is open and EA equals EN, it closes"
-unfoldable pub ea_answer : Bool → Head → ReadAnswer
-ea_answer ea h = pick (not (is_empty h.batch) && beq h.en ea) Closed Kept
+unfoldable pub ea_answer : Bool → Head → Result ReadOutcome PowerlinkError
+ea_answer ea h = pick (not (is_empty h.batch) && beq h.en ea) (Ok Closed) (Ok Kept)
 
 -- "Other readable frames are ignored"; frames that cannot be read give their cause
-abbrev pub acknowledge_answer : Heard → Head → ReadAnswer
-acknowledge_answer (heard.Refused e) h = Refused e
-acknowledge_answer heard.Nothing h = Ignored
-acknowledge_answer (heard.Ea ea) h = ea_answer ea h
+abbrev pub acknowledge_answer : Result (Option Bool) PowerlinkError → Head → Result ReadOutcome PowerlinkError
+acknowledge_answer (Err e) h = Err e
+acknowledge_answer (Ok None) h = Ok Ignored
+acknowledge_answer (Ok (Some ea)) h = ea_answer ea h
 
 -- 01's number for each case; behind 0 what C tells: 0 ignored, 1 kept, 2 closed
-abbrev pub read_cause : ReadAnswer → Cause
-read_cause Closed = row 0 (2 ∷ [])
-read_cause Kept = row 0 (1 ∷ [])
-read_cause Ignored = row 0 (0 ∷ [])
-read_cause (Refused e) = cause_of e
+abbrev pub read_cause : Result ReadOutcome PowerlinkError → Cause
+read_cause (Ok Closed) = row 0 (2 ∷ [])
+read_cause (Ok Kept) = row 0 (1 ∷ [])
+read_cause (Ok Ignored) = row 0 (0 ∷ [])
+read_cause (Err e) = cause_of e
 
-abbrev pub when_closed : {A : Type 0} → ReadAnswer → A → A → A
-when_closed Closed a b = a
-when_closed Kept a b = b
-when_closed Ignored a b = b
-when_closed (Refused e) a b = b
+abbrev pub when_closed : {A : Type 0} → Result ReadOutcome PowerlinkError → A → A → A
+when_closed (Ok Closed) a b = a
+when_closed (Ok Kept) a b = b
+when_closed (Ok Ignored) a b = b
+when_closed (Err e) a b = b
 
-abbrev pub after_acknowledge : ReadAnswer → Head → Head
+abbrev pub after_acknowledge : Result ReadOutcome PowerlinkError → Head → Head
 after_acknowledge r h = when_closed r (with_batch [] h) h

@@ -4,67 +4,59 @@ ghost use Rattle.reporter.specs.Calls.{Acknowledges};
 ghost use Rattle.reporter.specs.Rules.{ea_for, ea_in_frame, ea_told};
 
 use crate::state::{close, en, open};
-use crate::{ReadAnswer, Reporter};
-use codec::{FrameAnswer, read_frame};
+use crate::{ReadOutcome, Reporter};
+use codec::read_frame;
 use frame::PowerlinkFrame;
 use services::table::Services;
 use types::C_ADR_MN_DEF_NODE_ID;
 use types::hal::PowerlinkError;
 
-// What a frame tells a node.
-#[derive(Clone, Copy)]
-pub enum Heard {
-    Ea(bool),
-    Nothing,
-    Refused(PowerlinkError),
-}
-
 // EA, where the frame is from the managing node and for node `id`.
-fn ea_for(id: u8, source: u8, target: u8, ea: bool) -> Heard
+fn ea_for(id: u8, source: u8, target: u8, ea: bool) -> Result<Option<bool>, PowerlinkError>
     ensures { result ≡ ea_for id source target ea }
 {
     if source != C_ADR_MN_DEF_NODE_ID {
-        return Heard::Nothing;
+        return Ok(None);
     }
     if target != id {
-        return Heard::Nothing;
+        return Ok(None);
     }
-    Heard::Ea(ea)
+    Ok(Some(ea))
 }
 
 // What a frame that was read tells node `id`.
-fn hear_frame(id: u8, frame: PowerlinkFrame) -> Heard
+fn hear_frame(id: u8, frame: PowerlinkFrame) -> Result<Option<bool>, PowerlinkError>
     ensures { result ≡ ea_in_frame id frame }
 {
     match frame {
-        PowerlinkFrame::Soc(_) => Heard::Nothing,
+        PowerlinkFrame::Soc(_) => Ok(None),
         PowerlinkFrame::PReq(f) => ea_for(id, f.source.0, f.destination.0, f.flags.ea),
-        PowerlinkFrame::PRes(_) => Heard::Nothing,
+        PowerlinkFrame::PRes(_) => Ok(None),
         PowerlinkFrame::SoA(f) => ea_for(id, f.source.0, f.target_node_id.0, f.flags.ea),
-        PowerlinkFrame::ASnd(_) => Heard::Nothing,
+        PowerlinkFrame::ASnd(_) => Ok(None),
     }
 }
 
 // What octets tell node `id`.
-pub(crate) fn hear(services: &Services, id: u8, buffer: &[u8]) -> Heard
+pub(crate) fn hear(services: &Services, id: u8, buffer: &[u8]) -> Result<Option<bool>, PowerlinkError>
     ensures { result ≡ ea_told services.now id buffer.now }
 {
     match read_frame(services, buffer) {
-        FrameAnswer::Refused(e) => Heard::Refused(e),
-        FrameAnswer::Frame(frame) => hear_frame(id, frame),
+        Err(e) => Err(e),
+        Ok(frame) => hear_frame(id, frame),
     }
 }
 
 // Closes the open batch, if there is one and EA equals EN.
-pub(crate) fn acknowledge(state: &mut Reporter, ea: bool) -> ReadAnswer
+pub(crate) fn acknowledge(state: &mut Reporter, ea: bool) -> Result<ReadOutcome, PowerlinkError>
     ensures { Acknowledges ea result state.old state.new }
 {
     if open(state) == 0 {
-        return ReadAnswer::Kept;
+        return Ok(ReadOutcome::Kept);
     }
     if en(state) != ea {
-        return ReadAnswer::Kept;
+        return Ok(ReadOutcome::Kept);
     }
     close(state);
-    ReadAnswer::Closed
+    Ok(ReadOutcome::Closed)
 }

@@ -11,7 +11,7 @@ use control::asnd::{ASndFrame, PAYLOAD_AT};
 use error_entry::ErrorEntry;
 use octets::slices::put;
 use records::get;
-use section::{MIN_FRAME, WriteAnswer};
+use section::MIN_FRAME;
 use services::{STATUS_RESPONSE, ServiceId};
 use status_response::entries::serialize_batch;
 use status_response::fields::StatusFields;
@@ -98,18 +98,18 @@ fn fill(len: usize, target: &mut [u8]) -> usize
 }
 
 // Writes an answer's payload, and behind it the zeros up to the smallest frame, if both fit.
-fn write_payload(state: &Reporter, fields: AnswerFields, target: &mut [u8]) -> WriteAnswer
+fn write_payload(state: &Reporter, fields: AnswerFields, target: &mut [u8]) -> Result<usize, PowerlinkError>
     ensures { Writes (filled_payload fields (opened (head_of state.now))) result target.old target.new }
 {
     if target.len() < PAYLOAD_MIN {
-        return WriteAnswer::Refused(PowerlinkError::BufferTooShort);
+        return Err(PowerlinkError::BufferTooShort);
     }
     let front = status_fields(state, fields);
     let n = carried(state) as usize;
     let batch = first_four(state);
     match serialize_batch(front, fields.static_error_bit_field, batch, n, target) {
-        WriteAnswer::Refused(e) => WriteAnswer::Refused(e),
-        WriteAnswer::Written(len) => WriteAnswer::Written(fill(len, target)),
+        Err(e) => Err(e),
+        Ok(len) => Ok(fill(len, target)),
     }
 }
 
@@ -133,17 +133,17 @@ fn put_front(state: &Reporter, fields: AnswerFields, target: &mut [u8])
 }
 
 // Writes the frame of an answer, if it fits. Its payload goes first, straight to its place, since it alone can still be refused.
-pub(crate) fn answer_frame(state: &Reporter, fields: AnswerFields, target: &mut [u8]) -> WriteAnswer
+pub(crate) fn answer_frame(state: &Reporter, fields: AnswerFields, target: &mut [u8]) -> Result<usize, PowerlinkError>
     ensures { Writes (answer_frame fields (opened (head_of state.now))) result target.old target.new }
 {
     if target.len() < PAYLOAD_AT {
-        return WriteAnswer::Refused(PowerlinkError::BufferTooShort);
+        return Err(PowerlinkError::BufferTooShort);
     }
     match write_payload(state, fields, &mut target[PAYLOAD_AT..]) {
-        WriteAnswer::Refused(e) => WriteAnswer::Refused(e),
-        WriteAnswer::Written(n) => {
+        Err(e) => Err(e),
+        Ok(n) => {
             put_front(state, fields, target);
-            WriteAnswer::Written(PAYLOAD_AT + n)
+            Ok(PAYLOAD_AT + n)
         }
     }
 }

@@ -14,12 +14,12 @@ mod acknowledge;
 mod batch;
 mod state;
 
-use acknowledge::{Heard, acknowledge, hear};
+use acknowledge::{acknowledge, hear};
 use batch::{answer_frame, carried, open_batch};
 use control::asnd::PAYLOAD_AT;
 use error_entry::ErrorEntry;
 use records::ENTRY_LEN;
-use section::{MIN_FRAME, WriteAnswer};
+use section::MIN_FRAME;
 use services::table::Services;
 use state::{has_room, push, raisable};
 use status_response::bit_field::StaticErrorBitField;
@@ -70,12 +70,14 @@ const BARE_ANSWER_LEN: usize = PAYLOAD_AT + FRONT_LEN + ENTRY_LEN;
 // No other StatusResponse goes out under its ID, since each tells the box EN.
 pub type Reporter = [u8; REPORTER_LEN];
 
+@@DECL NewAnswer@@
 #[derive(Clone, Copy)]
 pub enum NewAnswer {
     Made,
     IdOutOfRange,
 }
 
+@@DECL RaiseAnswer@@
 #[derive(Clone, Copy)]
 pub enum RaiseAnswer {
     Raised,
@@ -99,6 +101,7 @@ pub struct AnswerFields {
     pub static_error_bit_field: StaticErrorBitField,
 }
 
+@@DECL ReadAnswer@@
 // What reading a frame comes to: the open batch is acknowledged and closed; EA was read and closes nothing; the frame
 // holds no EA for this node; or it cannot be read.
 #[derive(Clone, Copy)]
@@ -110,32 +113,32 @@ pub enum ReadAnswer {
 }
 
 // Makes a fresh state for a node.
-pub fn new(state: &mut Reporter, id: NodeId) -> NewAnswer
+pub fn new(state: &mut Reporter, id: NodeId) -> Result<(), NewError>
     ensures { Makes id result state.old state.new }
 {
     if !id.is_cn() {
-        return NewAnswer::IdOutOfRange;
+        return Err(NewError::IdOutOfRange);
     }
     *state = [0u8; REPORTER_LEN];
     state[ID_AT] = id.0;
-    NewAnswer::Made
+    Ok(())
 }
 
 // An entry joins the waiting ones, last.
-pub fn raise(state: &mut Reporter, entry: ErrorEntry) -> RaiseAnswer
+pub fn raise(state: &mut Reporter, entry: ErrorEntry) -> Result<(), RaiseError>
     ensures { Raises entry result state.old state.new }
 {
     if !raisable(entry) {
-        return RaiseAnswer::EntryInvalid;
+        return Err(RaiseError::EntryInvalid);
     }
     if entry.entry_type.is_status_entry {
-        return RaiseAnswer::StatusEntry;
+        return Err(RaiseError::StatusEntry);
     }
     if !has_room(state) {
-        return RaiseAnswer::QueueFull;
+        return Err(RaiseError::QueueFull);
     }
     push(state, entry);
-    RaiseAnswer::Raised
+    Ok(())
 }
 
 // Writes a StatusResponse with the open batch. Where none is open and entries wait, the first four, or all if fewer,
@@ -146,15 +149,15 @@ pub fn answer(
     services: &Services,
     fields: AnswerFields,
     target: &mut [u8],
-) -> WriteAnswer
+) -> Result<usize, PowerlinkError>
     ensures { Answers services.now fields result state.old state.new target.old target.new }
 {
     match answer_frame(state, fields, target) {
-        WriteAnswer::Written(n) => {
+        Ok(n) => {
             open_batch(state);
-            WriteAnswer::Written(n)
+            Ok(n)
         }
-        WriteAnswer::Refused(e) => WriteAnswer::Refused(e),
+        Err(e) => Err(e),
     }
 }
 
@@ -178,12 +181,12 @@ pub fn answer_len(state: &Reporter) -> usize
 }
 
 // Reads a frame: a PReq to this node or an SoA with it as target, from the managing node, gives EA.
-pub fn read(state: &mut Reporter, services: &Services, buffer: &[u8]) -> ReadAnswer
+pub fn read(state: &mut Reporter, services: &Services, buffer: &[u8]) -> Result<ReadOutcome, PowerlinkError>
     ensures { Reads services.now buffer.now result state.old state.new }
 {
     match hear(services, state[ID_AT], buffer) {
-        Heard::Refused(e) => ReadAnswer::Refused(e),
-        Heard::Nothing => ReadAnswer::Ignored,
-        Heard::Ea(ea) => acknowledge(state, ea),
+        Err(e) => Err(e),
+        Ok(None) => Ok(ReadOutcome::Ignored),
+        Ok(Some(ea)) => acknowledge(state, ea),
     }
 }

@@ -10,38 +10,37 @@ use lib.ListN.{length, take, drop, length-append, length-drop, drop_of_length-le
 use lib.Seq.{sets, drop_at, take_all, drop-drop, length-take-le}
 use borrow.Author.Tests.{leb-true, leb-false}
 use borrow.Rule.Slice.PartMut.{mid_of, put_mid, put_same}
+use Rattle.std.specs.Prelude.{Result, Ok, Err}
 use Rattle.octets.proofs.Sets.{sets_front}
 use Rattle.types.specs.Codes.{pick}
 use Rattle.types.specs.declared.hal.PowerlinkError.{PowerlinkError}
 use Rattle.types.specs.declared.hal.PowerlinkError.TheVariants.{BufferTooShort}
 use Rattle.section.specs.Write.{overwritten, write_answer, Writes}
-use Rattle.section.specs.declared.WriteAnswer.{WriteAnswer}
-use Rattle.section.specs.declared.WriteAnswer.TheVariants.{Written, Refused}
 use Rattle.section.proofs.Sections.{refuses, writes}
 
 module _ (bs t : List ℕ) where
   -- what an answer says of the lengths and of the target
-  pub refused : (r : WriteAnswer) (e : PowerlinkError) (after : List ℕ) → Writes bs r t after → r ≡ Refused e
+  pub refused : (r : Result ℕ PowerlinkError) (e : PowerlinkError) (after : List ℕ) → Writes bs r t after → r ≡ Err e
       → (length t < length bs) × ((e ≡ BufferTooShort) × (after ≡ t))
   unfolding write_answer overwritten
   refused r e after w q = split (leb (length bs) (length t)) refl (sym q ∙ w.answer) w.holds
     where
-      split : (b : Bool) → leb (length bs) (length t) ≡ b → Refused e ≡ pick b (Written (length bs)) (Refused BufferTooShort)
+      split : (b : Bool) → leb (length bs) (length t) ≡ b → Err e ≡ pick b (Ok (length bs)) (Err BufferTooShort)
           → after ≡ pick b (bs ++ drop (length bs) t) t → (length t < length bs) × ((e ≡ BufferTooShort) × (after ≡ t))
       split true k a h = let z : ◌≡◌ {A = ℕ} 0 1 = cc in absurd (omega arith)
       split false k a h = (leb-false (length bs) (length t) k, (cc, h))
 
-  pub written : (r : WriteAnswer) (n : ℕ) (after : List ℕ) → Writes bs r t after → r ≡ Written n
+  pub written : (r : Result ℕ PowerlinkError) (n : ℕ) (after : List ℕ) → Writes bs r t after → r ≡ Ok n
       → (length bs ≤ length t) × ((n ≡ length bs) × (after ≡ bs ++ drop (length bs) t))
   unfolding write_answer overwritten
   written r n after w q = split (leb (length bs) (length t)) refl (sym q ∙ w.answer) w.holds
     where
-      split : (b : Bool) → leb (length bs) (length t) ≡ b → Written n ≡ pick b (Written (length bs)) (Refused BufferTooShort)
+      split : (b : Bool) → leb (length bs) (length t) ≡ b → Ok n ≡ pick b (Ok (length bs)) (Err BufferTooShort)
           → after ≡ pick b (bs ++ drop (length bs) t) t → (length bs ≤ length t) × ((n ≡ length bs) × (after ≡ bs ++ drop (length bs) t))
       split true k a h = (leb-true (length bs) (length t) k, (cc, h))
       split false k a h = let z : ◌≡◌ {A = ℕ} 0 1 = cc in absurd (omega arith)
 
-module _ (front bs t : List ℕ) (k : ℕ) (ek : length front ≡ k) (h : k ≤ length t) (r : WriteAnswer) (after : List ℕ)
+module _ (front bs t : List ℕ) (k : ℕ) (ek : length front ≡ k) (h : k ≤ length t) (r : Result ℕ PowerlinkError) (after : List ℕ)
     (w : Writes bs r (mid_of k (length t - k) t) after) where
   rest : mid_of k (length t - k) t ≡ drop k t
   rest = take_all (length t - k) (drop k t) (simp length-drop (omega arith))
@@ -50,13 +49,13 @@ module _ (front bs t : List ℕ) (k : ℕ) (ek : length front ≡ k) (h : k ≤ 
   rest_length = ap length rest ∙ length-drop k t
 
   -- the rest is too short, and the target is as it was
-  pub behind_refused : (e : PowerlinkError) → r ≡ Refused e → Writes (front ++ bs) (Refused e) t (put_mid k (length t - k) t after)
+  pub behind_refused : (e : PowerlinkError) → r ≡ Err e → Writes (front ++ bs) (Err e) t (put_mid k (length t - k) t after)
   behind_refused e q =
       let p = refused bs (mid_of k (length t - k) t) r e after w q in
       let short : length t < length (front ++ bs) = simp length-append (omega (arith, p.0, rest_length)) in
       rw (p.1.0, p.1.1, put_same k (length t - k) t) (refuses (front ++ bs) t short)
 
-  module _ (n : ℕ) (q : r ≡ Written n) where
+  module _ (n : ℕ) (q : r ≡ Ok n) where
     pub behind_bound : k + n ≤ length t
     behind_bound =
         let p = written bs (mid_of k (length t - k) t) r n after w q in
@@ -75,7 +74,7 @@ module _ (front bs t : List ℕ) (k : ℕ) (ek : length front ≡ k) (h : k ≤ 
         )
 
     -- both fit, and the front is written last
-    pub behind_written : (t₂ : List ℕ) → t₂ ≡ sets (put_mid k (length t - k) t after) 0 front → Writes (front ++ bs) (Written (k + n)) t t₂
+    pub behind_written : (t₂ : List ℕ) → t₂ ≡ sets (put_mid k (length t - k) t after) 0 front → Writes (front ++ bs) (Ok (k + n)) t t₂
     behind_written t₂ e₂ =
         let p = written bs (mid_of k (length t - k) t) r n after w q in
         let t₁ : List ℕ = put_mid k (length t - k) t after in

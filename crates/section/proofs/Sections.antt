@@ -11,12 +11,12 @@ use lib.Dec.{leb, ltb}
 use lib.ListN.{length, drop, replicate, length-append, length-replicate}
 use lib.Seq.{sets, length-sets, drop-drop, drop-append-le}
 use borrow.Author.Tests.{le-leb, lt-leb, leb-true, leb-false, ltb-true, ltb-false}
+use Rattle.std.specs.Prelude.{Ok, Err}
 use Rattle.octets.proofs.ReadBack.{drop_sets}
 use Rattle.octets.proofs.Sets.{sets_append, sets_front}
 use Rattle.types.specs.Codes.{pick}
 use Rattle.types.specs.declared.hal.PowerlinkError.TheVariants.{BufferTooShort}
 use Rattle.section.specs.Write.{min_section, padded, write_answer, overwritten, Writes}
-use Rattle.section.specs.declared.WriteAnswer.TheVariants.{Written, Refused}
 
 drop_replicate : (k n a : ℕ) → drop k (replicate n a) ≡ replicate (n - k) a
 drop_replicate zero n a = simp unary_clauses
@@ -99,14 +99,14 @@ module _ (f h p : List ℕ) (len : ℕ) where
 
 module _ (bs t : List ℕ) where
   -- a target that is too short stays as it was
-  pub refuses : length t < length bs → Writes bs (Refused BufferTooShort) t t
+  pub refuses : length t < length bs → Writes bs (Err BufferTooShort) t t
   unfolding write_answer overwritten
   refuses h =
       let e = lt-leb (length bs) (length t) h in
       record { answer = rw e; cause = rw e; holds = rw e }
 
   -- any other holds the bytes at its front
-  pub writes : (n : ℕ) → length bs ≡ n → n ≤ length t → Writes bs (Written n) t (sets t 0 bs)
+  pub writes : (n : ℕ) → length bs ≡ n → n ≤ length t → Writes bs (Ok n) t (sets t 0 bs)
   unfolding write_answer overwritten
   writes n e h =
       let k : length bs ≤ length t = omega arith in

@@ -1,14 +1,12 @@
 -- What a writer gives: all of its octets at the front of the target, or a refusal that leaves the target as it was.
 -- Assumes nothing.
-use Rattle.std.specs.Prelude.{ℕ, ◌+◌, ◌-◌, ◌^◌, Bool, ◌≡◌, List, [], ◌∷◌, ◌++◌, length, drop, replicate, leb}
+use Rattle.std.specs.Prelude.{ℕ, ◌+◌, ◌-◌, ◌^◌, Bool, ◌≡◌, List, [], ◌∷◌, ◌++◌, length, drop, replicate, leb, Result, Ok, Err}
 use Rattle.types.specs.Causes.{Cause, row, cause_of}
 use Rattle.types.specs.CauseNumbers.{too_short}
 use Rattle.types.specs.Codes.{pick, need}
 use Rattle.types.specs.Header.{eth_length}
 use Rattle.types.specs.declared.hal.PowerlinkError.{PowerlinkError}
 use Rattle.types.specs.declared.hal.PowerlinkError.TheVariants.{BufferTooShort}
-use Rattle.section.specs.declared.WriteAnswer.{WriteAnswer}
-use Rattle.section.specs.declared.WriteAnswer.TheVariants.{Written, Refused}
 
 -- a flag at bit k of its octet
 abbrev pub at_bit : ℕ → Bool → ℕ
@@ -26,20 +24,20 @@ unfoldable pub padded : List ℕ → List ℕ
 padded bs = bs ++ replicate (min_section - length bs) 0
 
 -- the octets fit, and their number is returned; or 01's cause 1
-unfoldable pub write_answer : List ℕ → List ℕ → WriteAnswer
-write_answer bs target = pick (leb (length bs) (length target)) (Written (length bs)) (Refused BufferTooShort)
+unfoldable pub write_answer : List ℕ → List ℕ → Result ℕ PowerlinkError
+write_answer bs target = pick (leb (length bs) (length target)) (Ok (length bs)) (Err BufferTooShort)
 
 -- the octets, then what the target held behind them; or the target as it was
 unfoldable pub overwritten : List ℕ → List ℕ → List ℕ
 overwritten bs target = pick (leb (length bs) (length target)) (bs ++ drop (length bs) target) target
 
 -- 01's number and values for each case: 0 with how many octets were written, or the cause
-abbrev pub write_cause : WriteAnswer → Cause
-write_cause (Written n) = row 0 (n ∷ [])
-write_cause (Refused e) = cause_of e
+abbrev pub write_cause : Result ℕ PowerlinkError → Cause
+write_cause (Ok n) = row 0 (n ∷ [])
+write_cause (Err e) = cause_of e
 
 -- r is what writing bs to `target` answers, with 01's number, and `after` what the target then holds
-pub record Writes (bs : List ℕ) (r : WriteAnswer) (target after : List ℕ) : Type 0 where
+pub record Writes (bs : List ℕ) (r : Result ℕ PowerlinkError) (target after : List ℕ) : Type 0 where
   pub answer : r ≡ write_answer bs target
   pub cause : write_cause r ≡ pick (leb (length bs) (length target)) (row 0 (length bs ∷ [])) (row too_short [])
   pub holds : after ≡ overwritten bs target
@@ -53,10 +51,10 @@ pub data Coded : Type 0 where
 
 -- a code that names nothing, where n octets would go into len: cause 1 is tested first, so a target that is too short is 1
 -- whatever the codes are
-abbrev pub unnamed_answer : ℕ → PowerlinkError → ℕ → WriteAnswer
-unnamed_answer n e len = need (leb n len) (Refused BufferTooShort) (Refused e)
+abbrev pub unnamed_answer : ℕ → PowerlinkError → ℕ → Result ℕ PowerlinkError
+unnamed_answer n e len = need (leb n len) (Err BufferTooShort) (Err e)
 
-abbrev pub coded_answer : Coded → List ℕ → WriteAnswer
+abbrev pub coded_answer : Coded → List ℕ → Result ℕ PowerlinkError
 coded_answer (octets bs) target = write_answer bs target
 coded_answer (unnamed n e) target = unnamed_answer n e (length target)
 
@@ -70,7 +68,7 @@ coded_row (octets bs) target = pick (leb (length bs) (length target)) (row 0 (le
 coded_row (unnamed n e) target = pick (leb n (length target)) (cause_of e) (row too_short [])
 
 -- as `Writes`, of octets of which a code may name nothing
-pub record Serializes (w : Coded) (r : WriteAnswer) (target after : List ℕ) : Type 0 where
+pub record Serializes (w : Coded) (r : Result ℕ PowerlinkError) (target after : List ℕ) : Type 0 where
   pub answer : r ≡ coded_answer w target
   pub cause : write_cause r ≡ coded_row w target
   pub holds : after ≡ coded_target w target

@@ -16,13 +16,6 @@ pub const MIN_SECTION: usize = 46;
 
 pub const MIN_FRAME: usize = ETH_LEN + MIN_SECTION;
 
-// What writing gives: how many octets were written, or why none was.
-#[derive(Clone, Copy)]
-pub enum WriteAnswer {
-    Written(usize),
-    Refused(PowerlinkError),
-}
-
 // The weight of a flag in its octet where it is set, and 0 where it is not.
 pub fn flag(on: bool, weight: u8) -> u8
     ensures { (result ≡ pick on weight 0) × (result ≤ weight) }
@@ -31,35 +24,35 @@ pub fn flag(on: bool, weight: u8) -> u8
 }
 
 // Writes octets to the front of `target`, if all of them fit.
-pub fn write(octets: &[u8], target: &mut [u8]) -> WriteAnswer
+pub fn write(octets: &[u8], target: &mut [u8]) -> Result<usize, PowerlinkError>
     ensures { Writes octets.now result target.old target.new }
 {
     let len = octets.len();
     if target.len() < len {
-        return WriteAnswer::Refused(PowerlinkError::BufferTooShort);
+        return Err(PowerlinkError::BufferTooShort);
     }
     put(target, 0, octets);
-    WriteAnswer::Written(len)
+    Ok(len)
 }
 
 // Writes a section of `header`, `payload` and the zeros after them, if it fits.
-pub fn write_section(header: &[u8], payload: &[u8], target: &mut [u8]) -> WriteAnswer
+pub fn write_section(header: &[u8], payload: &[u8], target: &mut [u8]) -> Result<usize, PowerlinkError>
     ensures { Writes (padded (header.now ++ payload.now)) result target.old target.new }
 {
     write_behind(b"", header, payload, target)
 }
 
 // Writes the octets `front` and behind them such a section, if both fit.
-pub fn write_behind(front: &[u8], header: &[u8], payload: &[u8], target: &mut [u8]) -> WriteAnswer
+pub fn write_behind(front: &[u8], header: &[u8], payload: &[u8], target: &mut [u8]) -> Result<usize, PowerlinkError>
     ensures { Writes (front.now ++ padded (header.now ++ payload.now)) result target.old target.new }
 {
     let used = header.len() + payload.len();
     let at = front.len();
     if !fits(at, used, target.len()) {
-        return WriteAnswer::Refused(PowerlinkError::BufferTooShort);
+        return Err(PowerlinkError::BufferTooShort);
     }
     put_behind(front, header, payload, target);
-    WriteAnswer::Written(at + padded_len(used))
+    Ok(at + padded_len(used))
 }
 
 // Whether a section of `used` octets and the zeros after them fits `len` octets behind the first `at`.

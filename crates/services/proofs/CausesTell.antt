@@ -2,23 +2,24 @@
 -- Assumes nothing.
 use mathlib.Core.Path.{◌≡◌, refl}
 use lib.Dec.{eqb}
+use Rattle.std.specs.Prelude.{Result, Ok, Err}
 use Rattle.types.specs.Causes.{Cause}
 use Rattle.types.specs.Codes.{pick}
 use Rattle.types.proofs.Apart.{apart}
 use Rattle.services.specs.CausesTell.{CausesTell}
 use Rattle.services.specs.Load.{load_cause}
-use Rattle.services.specs.declared.load.LoadAnswer.{LoadAnswer}
-use Rattle.services.specs.declared.load.LoadAnswer.TheVariants.{Loaded, NotATable, NotAscending, WithoutStatusResponse}
+use Rattle.services.specs.declared.load.LoadError.TheVariants.{NotATable, NotAscending, WithoutStatusResponse}
+use Rattle.services.specs.declared.load.LoadError.{LoadError}
 
-abbrev pub load_back : Cause → LoadAnswer
+abbrev pub load_back : Cause → Result Unit LoadError
 load_back c =
-    pick (eqb c.number 0) Loaded (pick (eqb c.number 20) NotATable (pick (eqb c.number 21) NotAscending WithoutStatusResponse))
+    pick (eqb c.number 0) (Ok tt) (pick (eqb c.number 20) (Err NotATable) (pick (eqb c.number 21) (Err NotAscending) (Err WithoutStatusResponse)))
 
-pub load_back_lem : (a : LoadAnswer) → load_back (load_cause a) ≡ a
-load_back_lem Loaded = cc
-load_back_lem NotATable = cc
-load_back_lem NotAscending = cc
-load_back_lem WithoutStatusResponse = cc
+pub load_back_lem : (a : Result Unit LoadError) → load_back (load_cause a) ≡ a
+load_back_lem (Ok tt) = cc
+load_back_lem (Err NotATable) = cc
+load_back_lem (Err NotAscending) = cc
+load_back_lem (Err WithoutStatusResponse) = cc
 
 pub causes_tell : CausesTell
 causes_tell =

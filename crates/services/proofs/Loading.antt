@@ -8,6 +8,7 @@ use native.Mathlib.Omega.{arith}
 use lib.Dec.{eqb}
 use lib.ListN.{length, replicate}
 use borrow.Author.Tests.{not-true, not-false, lt-leb, le-leb}
+use Rattle.std.specs.Prelude.{Result, Ok, Err}
 use Rattle.octets.specs.Mark.{is_marked}
 use Rattle.octets.specs.Numbers.{le_at}
 use Rattle.types.specs.CauseNumbers.{not_a_table, not_ascending, without_status_response}
@@ -17,9 +18,9 @@ use Rattle.services.specs.Ids.{status_response, is_in}
 use Rattle.services.specs.Load.{table_start, is_table, ids_in, is_ascending, ids_answer, load_answer, load_cause, load_bytes, Loads}
 use Rattle.services.specs.Load.{table_mark, TablesLoad}
 use Rattle.services.specs.Table.{services_length, marked, table_of}
-use Rattle.services.specs.declared.load.LoadAnswer.{LoadAnswer}
-use Rattle.services.specs.declared.load.LoadAnswer.TheVariants.{Loaded, NotATable, NotAscending, WithoutStatusResponse}
+use Rattle.services.specs.declared.load.LoadError.TheVariants.{NotATable, NotAscending, WithoutStatusResponse}
 use Rattle.services.proofs.Tables.{table_holds}
+use Rattle.services.specs.declared.load.LoadError.{LoadError}
 
 -- ---- whether mark and version are right, from the results of the tests
 
@@ -45,7 +46,7 @@ pub ruleset tables = (unmarked, versioned)
 -- ---- the answer to the IDs, from the results of the tests
 
 module _ (ids : List ℕ) {t : Bool} (sorted : t ≡ is_ascending ids) where
-  pub not_ascending_lem : not t ≡ true → NotAscending ≡ ids_answer ids
+  pub not_ascending_lem : not t ≡ true → (Err NotAscending) ≡ ids_answer ids
   unfolding ids_answer
   not_ascending_lem taken = let e : is_ascending ids ≡ false = sym sorted ∙ not-true t taken in rw e
 
@@ -53,22 +54,22 @@ module _ (ids : List ℕ) {t : Bool} (sorted : t ≡ is_ascending ids) where
     ascends : is_ascending ids ≡ true
     ascends = sym sorted ∙ not-false t left
 
-    pub no_status_response : not u ≡ true → WithoutStatusResponse ≡ ids_answer ids
+    pub no_status_response : not u ≡ true → (Err WithoutStatusResponse) ≡ ids_answer ids
     unfolding ids_answer
     no_status_response taken = let i : is_in status_response ids ≡ false = sym two ∙ not-true u taken in rw (ascends, i)
 
-    pub loaded : not u ≡ false → Loaded ≡ ids_answer ids
+    pub loaded : not u ≡ false → (Ok tt) ≡ ids_answer ids
     unfolding ids_answer
     loaded last = let i : is_in status_response ids ≡ true = sym two ∙ not-false u last in rw (ascends, i)
 
 pub ruleset answers = (not_ascending_lem, no_status_response, loaded)
 
 -- IDs that are loaded hold StatusResponse
-loaded_two : (ids : List ℕ) → ids_answer ids ≡ Loaded → is_in status_response ids ≡ true
+loaded_two : (ids : List ℕ) → ids_answer ids ≡ Ok tt → is_in status_response ids ≡ true
 unfolding ids_answer
 loaded_two ids e = split (is_ascending ids) (is_in status_response ids) e
   where
-    split : (a b : Bool) → need a NotAscending (need b WithoutStatusResponse Loaded) ≡ Loaded → b ≡ true
+    split : (a b : Bool) → need a (Err NotAscending) (need b (Err WithoutStatusResponse) (Ok tt)) ≡ Ok tt → b ≡ true
     split a true p = refl
     split true false p = cc
     split false false p = cc
@@ -83,7 +84,7 @@ unfolding load_answer ids_answer
 row_of f = split (is_table f) (is_ascending (ids_in f)) (is_in status_response (ids_in f))
   where
     split : (a b c : Bool)
-        → load_cause (need a NotATable (need b NotAscending (need c WithoutStatusResponse Loaded)))
+        → load_cause (need a (Err NotATable) (need b (Err NotAscending) (need c (Err WithoutStatusResponse) (Ok tt))))
         ≡ need a (row not_a_table []) (need b (row not_ascending []) (need c (row without_status_response []) (row 0 [])))
     split false b c = refl
     split true false c = refl
@@ -93,7 +94,7 @@ row_of f = split (is_table f) (is_ascending (ids_in f)) (is_in status_response (
 -- ---- what `load` answers and leaves, from what its calls ensure: of the file, of the IDs s in it, and of the answer j to them
 
 module _ (f services : List ℕ) {t : Bool} (is : t ≡ is_table f) where
-  pub loads_none : {after : List ℕ} → not t ≡ true → after ≡ services → Loads f NotATable services after
+  pub loads_none : {after : List ℕ} → not t ≡ true → after ≡ services → Loads f (Err NotATable) services after
   unfolding load_answer
   loads_none taken kept =
       let e : is_table f ≡ false = sym is ∙ not-true t taken in
@@ -104,30 +105,30 @@ module _ (f services : List ℕ) {t : Bool} (is : t ≡ is_table f) where
         bytes = kept;
       }
 
-  module _ (left : not t ≡ false) {s : List ℕ} (part : s ≡ ids_in f) {j : LoadAnswer} (judged : j ≡ ids_answer s) where
+  module _ (left : not t ≡ false) {s : List ℕ} (part : s ≡ ids_in f) {j : (Result Unit LoadError)} (judged : j ≡ ids_answer s) where
     answered : j ≡ load_answer f
     unfolding load_answer
     answered = let e : is_table f ≡ true = sym is ∙ not-false t left in rw e (judged ∙ ap ids_answer part)
 
-    pub loads_by : {r : LoadAnswer} {after : List ℕ} → j ≡ r → after ≡ load_bytes r f services → Loads f r services after
+    pub loads_by : {r : (Result Unit LoadError)} {after : List ℕ} → j ≡ r → after ≡ load_bytes r f services → Loads f r services after
     loads_by {r} told kept =
         let e : r ≡ load_answer f = sym told ∙ answered in
-        let two : r ≡ Loaded → is_in status_response (ids_in f) ≡ true = λ q. loaded_two (ids_in f) (sym (judged ∙ ap ids_answer part) ∙ told ∙ q) in
+        let two : r ≡ Ok tt → is_in status_response (ids_in f) ≡ true = λ q. loaded_two (ids_in f) (sym (judged ∙ ap ids_answer part) ∙ told ∙ q) in
         record {
           answer = e;
           cause = ap load_cause e ∙ row_of f;
-          held = λ q b h. rw (kept ∙ ap (λ (x : LoadAnswer). load_bytes x f services) q) (table_holds b (ids_in f) h (two q));
+          held = λ q b h. rw (kept ∙ ap (λ (x : Result Unit LoadError). load_bytes x f services) q) (table_holds b (ids_in f) h (two q));
           bytes = kept;
         }
 
-    pub loads_new : {after : List ℕ} → j ≡ Loaded → after ≡ marked (replicate services_length 0) s → Loads f Loaded services after
+    pub loads_new : {after : List ℕ} → j ≡ Ok tt → after ≡ marked (replicate services_length 0) s → Loads f (Ok tt) services after
     loads_new told new = loads_by told (new ∙ ap table_of part)
 
 pub ruleset loads = (loads_none, loads_by, loads_new, refl)
 
 -- ---- which files load
 
-too_short : (f : List ℕ) → length f < table_start → load_answer f ≡ NotATable
+too_short : (f : List ℕ) → length f < table_start → load_answer f ≡ Err NotATable
 unfolding load_answer
 too_short f h = rw (sym (short f h))
 
@@ -136,12 +137,12 @@ behind_mark : (ids : List ℕ) → load_answer (table_mark ++ ids) ≡ ids_answe
 unfolding load_answer is_table is_marked le_at
 behind_mark ids = rw (le-leb table_start (length (table_mark ++ ids)) (omega arith))
 
-mark_alone : load_answer table_mark ≡ WithoutStatusResponse
+mark_alone : load_answer table_mark ≡ Err WithoutStatusResponse
 unfolding ids_answer is_ascending
 mark_alone = behind_mark []
 
 module _ (ids : List ℕ) (sorted : is_ascending ids ≡ true) (two : is_in status_response ids ≡ true) where
-  good_loads : load_answer (table_mark ++ ids) ≡ Loaded
+  good_loads : load_answer (table_mark ++ ids) ≡ Ok tt
   unfolding ids_answer
   good_loads = behind_mark ids ∙ rw (sorted, two)
 

@@ -20,6 +20,7 @@ const VERSION_AT: usize = 3;
 // The octets of mark and version.
 const START_LEN: usize = 5;
 
+@@DECL LoadAnswer@@
 #[derive(Clone, Copy)]
 pub enum LoadAnswer {
     Loaded,
@@ -30,22 +31,22 @@ pub enum LoadAnswer {
 }
 
 // Loads a table; a refusal leaves the lent one as it was.
-pub fn load(file: &[u8], services: &mut Services) -> LoadAnswer
+pub fn load(file: &[u8], services: &mut Services) -> Result<(), LoadError>
     ensures { Loads file.now result services.old services.new }
 {
     if !is_table(file) {
-        return LoadAnswer::NotATable;
+        return Err(LoadError::NotATable);
     }
     let ids = tail(file, START_LEN);
     match judge(ids) {
-        LoadAnswer::Loaded => {
+        Ok(()) => {
             *services = [0u8; SERVICES_LEN];
             mark(ids, services);
-            LoadAnswer::Loaded
+            Ok(())
         }
-        LoadAnswer::NotATable => LoadAnswer::NotATable,
-        LoadAnswer::NotAscending => LoadAnswer::NotAscending,
-        LoadAnswer::WithoutStatusResponse => LoadAnswer::WithoutStatusResponse,
+        Err(LoadError::NotATable) => Err(LoadError::NotATable),
+        Err(LoadError::NotAscending) => Err(LoadError::NotAscending),
+        Err(LoadError::WithoutStatusResponse) => Err(LoadError::WithoutStatusResponse),
     }
 }
 
@@ -63,16 +64,16 @@ fn is_table(file: &[u8]) -> bool
 }
 
 // What loading answers of the IDs.
-fn judge(ids: &[u8]) -> LoadAnswer
+fn judge(ids: &[u8]) -> Result<(), LoadError>
     ensures { result ≡ ids_answer ids.now }
 {
     if !ascending(ids) {
-        return LoadAnswer::NotAscending;
+        return Err(LoadError::NotAscending);
     }
     if !has(ids, STATUS_RESPONSE) {
-        return LoadAnswer::WithoutStatusResponse;
+        return Err(LoadError::WithoutStatusResponse);
     }
-    LoadAnswer::Loaded
+    Ok(())
 }
 
 fn ascending(ids: &[u8]) -> bool

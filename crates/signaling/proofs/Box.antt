@@ -9,10 +9,10 @@ use native.Mathlib.Omega.{arith}
 use lib.ListN.{length, get_elem?, length-append}
 use lib.Dec.{leb}
 use borrow.Author.Tests.{le-leb}
+use Rattle.std.specs.Prelude.{Ok}
 use Rattle.error_entry.specs.declared.ErrorEntry.{ErrorEntry}
 use Rattle.reporter.specs.Rules.{Head}
-use Rattle.collector.specs.declared.ReadAnswer.TheVariants as box
-use Rattle.collector.specs.declared.TakeAnswer.TheVariants as taking
+use Rattle.collector.specs.declared.ReadOutcome.TheVariants as box
 use Rattle.signaling.specs.Calls.{sent, box_read, Tally, on_entries, on_answers, on_requests, sends, gives, hands, adds}
 use Rattle.collector.specs.Rules.{book_length}
 use Rattle.signaling.proofs.Facts.{beq_same, beq_not, at_lt, join_book}
@@ -44,7 +44,7 @@ module _ {i : ℕ} {ea : Bool} {book : List ErrorEntry} {c : Tally} (t : Inv i e
         }
 
     pub box_books : (services : List ℕ) → en_said bs ≡ not ea → length book + length (batch_said bs) ≤ book_length
-        → Inv i (en_said bs) (book ++ batch_said bs) (adds i (box_read services (sent p) bs box.Booked) c)
+        → Inv i (en_said bs) (book ++ batch_said bs) (adds i (box_read services (sent p) bs (Ok box.Booked)) c)
     box_books services fresh room =
         let (differ, past, bit, same-batch, open?) = answers_fresh t.answers t.idle p bs le at fresh in
         let en = h.en in
@@ -83,7 +83,7 @@ module _ {i : ℕ} {ea : Bool} {book : List ErrorEntry} {c : Tally} (t : Inv i e
       }
 
   -- a Take moves the oldest entry of the book behind those handed out
-  pub take_moves : (e : ErrorEntry) (es : List ErrorEntry) → book ≡ e ∷ es → Inv i ea es (on_entries (hands true (taking.Taken e)) c)
+  pub take_moves : (e : ErrorEntry) (es : List ErrorEntry) → book ≡ e ∷ es → Inv i ea es (on_entries (hands true (Ok e)) c)
   take_moves e es first =
       record {
         id = t.id;

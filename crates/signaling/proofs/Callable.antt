@@ -6,13 +6,12 @@ use mathlib.Core.Path.{◌≡◌, refl, sym, ap, ◌∙◌}
 use mathlib.Core.List.{List, [], ◌∷◌}
 use lib.ListN.{length}
 use lib.Dec.{leb}
+use Rattle.std.specs.Prelude.{Result, Ok, Err}
 use Rattle.octets.proofs.NumberBack.{Octets}
 use Rattle.types.specs.Causes.{row}
 use Rattle.types.specs.Codes.{pick}
 use Rattle.types.specs.declared.hal.PowerlinkError.TheVariants.{BufferTooShort}
 use Rattle.section.specs.Write.{write_answer, overwritten, write_cause, octets, Serializes}
-use Rattle.section.specs.declared.WriteAnswer.{WriteAnswer}
-use Rattle.section.specs.declared.WriteAnswer.TheVariants as write
 use Rattle.codec.specs.Frame.{read_frame}
 use Rattle.error_entry.specs.declared.ErrorEntry.{ErrorEntry}
 use Rattle.reporter.specs.Calls as reporter
@@ -20,7 +19,6 @@ use Rattle.reporter.specs.Calls.{Numbers, AnswerSizes}
 use Rattle.reporter.specs.Layout.{reporter_length, head_of, new_bytes, raise_bytes, answer_bytes, acknowledge_bytes}
 use Rattle.reporter.specs.Rules.{new_answer, new_cause, raise_answer, opened, answer_frame, after_answer, acknowledge_answer, ea_told}
 use Rattle.reporter.specs.declared.AnswerFields.{AnswerFields}
-use Rattle.reporter.specs.declared.NewAnswer.TheVariants.{Made}
 use Rattle.reporter.proofs.AnyTable.{any_table}
 use Rattle.reporter.proofs.Meaning.{answer_size, made, new_length, raises_length, raises_means, opens_length, opens_means, reads_length, reads_means}
 use Rattle.reporter.proofs.Rows.{read_row as head-row}
@@ -31,10 +29,11 @@ use Rattle.collector.specs.Rules.{register_answer, read_answer, request_answer, 
 use Rattle.collector.specs.declared.RequestFields.{RequestFields}
 use Rattle.collector.proofs.Meaning.{fresh_means, register_means, register_length, read_means, read_length, request_size, take_means, take_length}
 use Rattle.signaling.specs.Calls.{node}
+use Rattle.types.specs.declared.hal.PowerlinkError.{PowerlinkError}
 
 -- ---- the head's calls
 
-pub makes : (i : ℕ) (s : List ℕ) → new_answer i ≡ Made → reporter.Makes (node i) Made s (new_bytes Made i s) × (length (new_bytes Made i s) ≡ reporter_length)
+pub makes : (i : ℕ) (s : List ℕ) → new_answer i ≡ Ok tt → reporter.Makes (node i) (Ok tt) s (new_bytes (Ok tt) i s) × (length (new_bytes (Ok tt) i s) ≡ reporter_length)
 makes i s ok = (record { answer = sym ok; cause = ap new_cause (sym ok); head = λ e. made i s; bytes = refl }, new_length i s)
 
 pub raises : (s : List ℕ) (e : ErrorEntry) → length s ≡ reporter_length → Numbers e
@@ -51,7 +50,7 @@ raises s e size n = (
   raises_length e s (raise_answer e (head_of s)) ∙ size,
 )
 
-by_test : (b : Bool) (n : ℕ) → write_cause (pick b (write.Written n) (write.Refused BufferTooShort)) ≡ pick b (row 0 (n ∷ [])) (row 1 [])
+by_test : (b : Bool) (n : ℕ) → write_cause (pick b (Ok n) (Err BufferTooShort)) ≡ pick b (row 0 (n ∷ [])) (row 1 [])
 by_test true n = refl
 by_test false n = refl
 
@@ -60,13 +59,13 @@ unfolding write_answer
 writes bs target = record { answer = refl; cause = by_test (leb (length bs) (length target)) (length bs); holds = refl }
 
 module _ (s : List ℕ) (size : length s ≡ reporter_length) where
-  answer_length : (r : WriteAnswer) → length (answer_bytes r s) ≡ reporter_length
-  answer_length (write.Written n) = opens_length s ∙ size
-  answer_length (write.Refused e) = size
+  answer_length : (r : Result ℕ PowerlinkError) → length (answer_bytes r s) ≡ reporter_length
+  answer_length (Ok n) = opens_length s ∙ size
+  answer_length (Err e) = size
 
-  answer_means : (r : WriteAnswer) → head_of (answer_bytes r s) ≡ after_answer r (head_of s)
-  answer_means (write.Written n) = opens_means s size
-  answer_means (write.Refused e) = refl
+  answer_means : (r : Result ℕ PowerlinkError) → head_of (answer_bytes r s) ≡ after_answer r (head_of s)
+  answer_means (Ok n) = opens_means s size
+  answer_means (Err e) = refl
 
 pub answers : (services s : List ℕ) (f : AnswerFields) → AnswerSizes f → (target : List ℕ) → length s ≡ reporter_length
     → reporter.Answers services f (write_answer (answer_frame f (opened (head_of s))) target) s

@@ -7,11 +7,11 @@ use mathlib.Core.Option.{Option, none, some}
 use native.Mathlib.Omega.{arith}
 use lib.ListN.{length}
 use borrow.Author.Tests.{eq-eqb}
+use Rattle.std.specs.Prelude.{Ok}
 use Rattle.error_entry.specs.declared.ErrorEntry.{ErrorEntry}
 use Rattle.collector.specs.Calls as collector
 use Rattle.collector.specs.Layout.{account_of}
 use Rattle.collector.specs.Rules.{Account, take_first, take_answer}
-use Rattle.collector.specs.declared.TakeAnswer.TheVariants as taking
 use Rattle.signaling.specs.Calls.{accepted, handed_out, ruled, unbooked, node, World, Run, TakeRefused, Drained, over, more, TakenTimes, start, next, NoneLost, Demand3}
 use Rattle.signaling.proofs.Calls.{why_taken}
 use Rattle.signaling.proofs.Draining.{box_size, draining}
@@ -28,7 +28,7 @@ refused_empty none y = refl
 refused_empty (some p) y = first_refused p.book y
 
 -- a Take that is not refused hands out the first of the book, and leaves the others
-handed_first : (i : ℕ) (e : ErrorEntry) (s after : List ℕ) → collector.Takes (node i) (taking.Taken e) s after
+handed_first : (i : ℕ) (e : ErrorEntry) (s after : List ℕ) → collector.Takes (node i) (Ok e) s after
     → book_of (account_of s i) ≡ e ∷ book_of (account_of after i)
 handed_first i e s after c =
     let y = why_taken e (account_of s i) c.answer in

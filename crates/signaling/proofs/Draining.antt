@@ -6,10 +6,11 @@ use mathlib.Core.List.{List, [], ◌∷◌}
 use mathlib.Core.Option.{Option, none, some}
 use lib.ListN.{length}
 use borrow.Author.Tests.{eq-eqb}
+use Rattle.std.specs.Prelude.{Ok, Err}
 use Rattle.error_entry.specs.declared.ErrorEntry.{ErrorEntry}
 use Rattle.collector.specs.Layout.{collector_length, account_of, take_bytes}
 use Rattle.collector.specs.Rules.{with_book, Account}
-use Rattle.collector.specs.declared.TakeAnswer.TheVariants as taking
+use Rattle.collector.specs.declared.TakeError.TheVariants as taking
 use Rattle.collector.proofs.Meaning.{register_length, read_length, take_length}
 use Rattle.signaling.specs.Calls.{Event, World, Step, raise, answer, head_reads, register, box_reads, request, takes, hosts, Run, fresh, call, Drained, over, more}
 use Rattle.signaling.proofs.Callable.{hands}
@@ -36,12 +37,12 @@ box_size (call r s) = step_size s ∙ box_size r
 module _ (i : ℕ) where
   draining_place : (es : List ErrorEntry) (p : Account) (b : List ℕ) → p.book ≡ es → length b ≡ collector_length → account_of b i ≡ some p
       → Drained i b es
-  draining_place [] p b is size e = let r = rw (e, is) at (hands b i size) in over taking.NothingBooked b r.0 tt
+  draining_place [] p b is size e = let r = rw (e, is) at (hands b i size) in over (Err taking.NothingBooked) b r.0 tt
   draining_place (x ∷ es) p b is size e =
       let r = rw (e, is) at (hands b i size) in
-      more x (take_bytes (taking.Taken x) i b) es r.0
-      (draining_place es (with_book es p) (take_bytes (taking.Taken x) i b) refl r.1 (r.0.box.accounts i ∙ rw (eq-eqb i i refl, e, is)))
+      more x (take_bytes (Ok x) i b) es r.0
+      (draining_place es (with_book es p) (take_bytes (Ok x) i b) refl r.1 (r.0.box.accounts i ∙ rw (eq-eqb i i refl, e, is)))
 
   pub draining : (o : Option Account) (b : List ℕ) → length b ≡ collector_length → account_of b i ≡ o → Drained i b (book_of o)
-  draining none b size e = let r = rw e at (hands b i size) in over taking.NotRegistered b r.0 tt
+  draining none b size e = let r = rw e at (hands b i size) in over (Err taking.NotRegistered) b r.0 tt
   draining (some p) b size e = draining_place p.book p b refl size e

@@ -7,22 +7,19 @@ use mathlib.Core.List.{List, [], ◌∷◌}
 use mathlib.Core.Option.{some}
 use native.Mathlib.Omega.{arith}
 use lib.ListN.{length, take, drop}
+use Rattle.std.specs.Prelude.{Result, Ok, Err}
 use Rattle.types.specs.declared.error_mode.ErrorEntryMode.{ErrorEntryMode}
 use Rattle.types.specs.declared.error_mode.ErrorEntryMode.TheVariants.{Terminator, ErrorActive, ErrorCleared, EventOccurred}
 use Rattle.types.specs.declared.hal.PowerlinkError.TheVariants.{InvalidServiceId}
 use Rattle.services.specs.Table.{ds301}
-use Rattle.section.specs.declared.WriteAnswer.TheVariants as write
 use Rattle.error_entry.specs.declared.ErrorEntry.{ErrorEntry}
 use Rattle.reporter.specs.Rules.{Head, fresh_head, is_raisable, raise_answer, after_raise, opened, answer_frame, ea_answer}
-use Rattle.reporter.specs.declared.RaiseAnswer.{RaiseAnswer}
-use Rattle.reporter.specs.declared.RaiseAnswer.TheVariants.{Raised, EntryInvalid, StatusEntry}
-use Rattle.reporter.specs.declared.ReadAnswer.TheVariants.{Closed, Kept, Ignored}
+use Rattle.reporter.specs.declared.RaiseError.TheVariants.{EntryInvalid, StatusEntry}
+use Rattle.reporter.specs.declared.ReadOutcome.TheVariants.{Closed, Kept, Ignored}
 use Rattle.collector.specs.Layout.{box_of, fresh_bytes}
 use Rattle.collector.specs.Rules.{Account, fresh_account, register_answer, book_answer, read_answer, request_frame}
-use Rattle.collector.specs.declared.ReadAnswer.TheVariants as box
-use Rattle.collector.specs.declared.RegisterAnswer.TheVariants.{Registered}
-use Rattle.collector.specs.declared.RequestAnswer.TheVariants as requesting
-use Rattle.collector.specs.declared.TakeAnswer.TheVariants as taking
+use Rattle.collector.specs.declared.ReadError.TheVariants as boxError
+use Rattle.collector.specs.declared.ReadOutcome.TheVariants as box
 use Rattle.signaling.specs.Calls.{sent, foreign, Event, raised, answered, head_read, registered, box_read, requested, taken, hosted, Log, World, Run, fresh, call}
 use Rattle.signaling.specs.Example.{entry, shown, five, house, LossAndRepeat, Onward, here, further}
 use Rattle.signaling.proofs.Callable.{freshes}
@@ -30,6 +27,7 @@ use Rattle.signaling.proofs.Draining.{draining}
 use Rattle.signaling.proofs.ExampleFrames.{numbers, with_two, with_other, two_arrive, other_arrives, two_octets, fields, sizes, asked, fifth, first, second, answer_octets, first_says, second_says, hears_ea, pres_frame, pres_far, pres_other, pres_ignored, house_frame, house_far, house_other, house_refused, preq_frame, hears_host, hears_not, first_length, second_length, request_length}
 use Rattle.signaling.proofs.Frames.{says_arrived}
 use Rattle.signaling.proofs.Making.{world, Knows, Next, Started, held, sent_whole, starting, raising, answering, hearing, as_it_is, knowing, booking, passing, registering, asking, handing, hosting}
+use Rattle.reporter.specs.declared.RaiseError.{RaiseError}
 
 -- ---- what the head becomes, and the list of calls
 
@@ -45,21 +43,21 @@ place ea es = record { ea = ea; book = es }
 
 -- the events of an answer and of a request
 abbrev pub answer_of : Head → Event
-answer_of h = answered (write.Written (length (answer_frame fields h))) (held (answer_frame fields h))
+answer_of h = answered (Ok (length (answer_frame fields h))) (held (answer_frame fields h))
 
 abbrev pub request_of : ℕ → Bool → Event
-request_of i ea = requested i (requesting.Written (length (request_frame i asked ea))) (held (request_frame i asked ea))
+request_of i ea = requested i (Ok (length (request_frame i asked ea))) (held (request_frame i asked ea))
 
 abbrev at_start : Log
-at_start = request_of 9 false ∷ registered 9 Registered ∷ registered 7 Registered ∷ []
+at_start = request_of 9 false ∷ registered 9 (Ok tt) ∷ registered 7 (Ok tt) ∷ []
 
 abbrev pub all_raised : Log
 all_raised =
-    raised fifth Raised ∷ raised (entry ErrorActive 0x8164) Raised ∷ raised (entry EventOccurred 0x8163) Raised
-    ∷ raised (entry ErrorCleared 0x8162) Raised
-    ∷ raised (entry ErrorActive 0x8161) Raised
-    ∷ raised (shown ErrorActive 0x8170) StatusEntry
-    ∷ raised (entry Terminator 0x8160) EntryInvalid
+    raised fifth (Ok tt) ∷ raised (entry ErrorActive 0x8164) (Ok tt) ∷ raised (entry EventOccurred 0x8163) (Ok tt)
+    ∷ raised (entry ErrorCleared 0x8162) (Ok tt)
+    ∷ raised (entry ErrorActive 0x8161) (Ok tt)
+    ∷ raised (shown ErrorActive 0x8170) (Err StatusEntry)
+    ∷ raised (entry Terminator 0x8160) (Err EntryInvalid)
     ∷ at_start
 
 -- the first answer is lost
@@ -68,31 +66,31 @@ answered_twice = answer_of first ∷ answer_of first ∷ all_raised
 
 abbrev pub twice_read : Log
 twice_read =
-    box_read ds301 (sent 1) with_other box.Known ∷ box_read house (sent 1) with_two box.Booked
-    ∷ box_read ds301 foreign house_frame (box.Refused (InvalidServiceId 0x20))
-    ∷ box_read house foreign house_frame box.NotStatusResponse
-    ∷ box_read ds301 foreign pres_frame box.NotStatusResponse
+    box_read ds301 (sent 1) with_other (Ok box.Known) ∷ box_read house (sent 1) with_two (Ok box.Booked)
+    ∷ box_read ds301 foreign house_frame (Err (boxError.Frame (InvalidServiceId 0x20)))
+    ∷ box_read house foreign house_frame (Err boxError.NotStatusResponse)
+    ∷ box_read ds301 foreign pres_frame (Err boxError.NotStatusResponse)
     ∷ answered_twice
 
 -- the first request is lost
 abbrev asked_twice : Log
 asked_twice =
-    request_of 7 true ∷ request_of 7 true ∷ head_read ds301 foreign pres_frame Ignored ∷ head_read house (sent 0) (request_frame 9 asked false) Ignored
+    request_of 7 true ∷ request_of 7 true ∷ head_read ds301 foreign pres_frame (Ok Ignored) ∷ head_read house (sent 0) (request_frame 9 asked false) (Ok Ignored)
     ∷ twice_read
 
 abbrev pub first_closed : Log
 first_closed =
-    head_read house (sent 2) (request_frame 7 asked true) Kept ∷ head_read ds301 (sent 2) (request_frame 7 asked true) Closed ∷ asked_twice
+    head_read house (sent 2) (request_frame 7 asked true) (Ok Kept) ∷ head_read ds301 (sent 2) (request_frame 7 asked true) (Ok Closed) ∷ asked_twice
 
 abbrev all_booked : Log
-all_booked = box_read ds301 (sent 2) (answer_frame fields second) box.Booked ∷ answer_of second ∷ first_closed
+all_booked = box_read ds301 (sent 2) (answer_frame fields second) (Ok box.Booked) ∷ answer_of second ∷ first_closed
 
 -- a frame of the box's host closes the batch
 abbrev all_closed : Log
-all_closed = head_read house (sent 3) (preq_frame false) Closed ∷ hosted (preq_frame false) ∷ all_booked
+all_closed = head_read house (sent 3) (preq_frame false) (Ok Closed) ∷ hosted (preq_frame false) ∷ all_booked
 
 abbrev one_taken : Log
-one_taken = taken 7 (taking.Taken (entry ErrorActive 0x8161)) ∷ all_closed
+one_taken = taken 7 (Ok (entry ErrorActive 0x8161)) ∷ all_closed
 
 -- ---- the list with losses and repeats
 
@@ -121,7 +119,7 @@ module _ {v : World} where
       let n = make r.state r.box r.knows in
       record { state = n.state; box = n.box; onward = further r.onward n.step; knows = n.knows }
 
-  adding : {l : Log} {h : Head} {p : Account} (m : ErrorEntryMode) (c : ℕ) (r : RaiseAnswer) → c < 2 ^ 16 → raise_answer (entry m c) h ≡ r
+  adding : {l : Log} {h : Head} {p : Account} (m : ErrorEntryMode) (c : ℕ) (r : Result Unit RaiseError) → c < 2 ^ 16 → raise_answer (entry m c) h ≡ r
       → Reached v l h p
       → Reached v (raised (entry m c) r ∷ l) (after_raise r (entry m c) h) p
   adding m c r small ok y = next y (λ s b k. raising k (entry m c) r (numbers m c small) ok)
@@ -129,13 +127,13 @@ module _ {v : World} where
   raise_all : Reached v at_start (fresh_head 7) fresh_account → Reached v all_raised (waits five) fresh_account
   unfolding raise_answer is_raisable
   raise_all r =
-      adding ErrorCleared 0x8165 Raised (omega arith) refl
-      (adding ErrorActive 0x8164 Raised (omega arith) refl
-      (adding EventOccurred 0x8163 Raised (omega arith) refl
-      (adding ErrorCleared 0x8162 Raised (omega arith) refl
-      (adding ErrorActive 0x8161 Raised (omega arith) refl
-      (next (adding Terminator 0x8160 EntryInvalid (omega arith) refl r)
-      (λ s b k. raising k (shown ErrorActive 0x8170) StatusEntry (numbers ErrorActive 0x8170 (omega arith)) refl))))))
+      adding ErrorCleared 0x8165 (Ok tt) (omega arith) refl
+      (adding ErrorActive 0x8164 (Ok tt) (omega arith) refl
+      (adding EventOccurred 0x8163 (Ok tt) (omega arith) refl
+      (adding ErrorCleared 0x8162 (Ok tt) (omega arith) refl
+      (adding ErrorActive 0x8161 (Ok tt) (omega arith) refl
+      (next (adding Terminator 0x8160 (Err EntryInvalid) (omega arith) refl r)
+      (λ s b k. raising k (shown ErrorActive 0x8170) (Err StatusEntry) (numbers ErrorActive 0x8170 (omega arith)) refl))))))
 
   answer_twice : Reached v all_raised (waits five) fresh_account → Reached v answered_twice first fresh_account
   unfolding opened
@@ -150,9 +148,9 @@ module _ {v : World} where
       (next
       (next
       (next
-      (next r (λ s b k. passing k ds301 foreign pres_frame box.NotStatusResponse (pres_far ds301).0 (rw (pres_other ds301)) (λ A x y. refl)))
-      (λ s b k. passing k house foreign house_frame box.NotStatusResponse (house_far house) (rw house_other) (λ A x y. refl)))
-      (λ s b k. passing k ds301 foreign house_frame (box.Refused (InvalidServiceId 0x20)) (house_far ds301) (rw house_refused) (λ A x y. refl)))
+      (next r (λ s b k. passing k ds301 foreign pres_frame (Err boxError.NotStatusResponse) (pres_far ds301).0 (rw (pres_other ds301)) (λ A x y. refl)))
+      (λ s b k. passing k house foreign house_frame (Err boxError.NotStatusResponse) (house_far house) (rw house_other) (λ A x y. refl)))
+      (λ s b k. passing k ds301 foreign house_frame (Err (boxError.Frame (InvalidServiceId 0x20))) (house_far ds301) (rw house_refused) (λ A x y. refl)))
       (λ s b k.
       booking k with_two first (says_arrived two_arrive first_says) refl house 1
       (answer_frame fields first, (omega arith, ap some (sent_whole (answer_frame fields first))), two_arrive) two_octets refl))
@@ -168,9 +166,9 @@ module _ {v : World} where
       (next
       (next r
       (λ s b k.
-      hearing k house (sent 0) (request_frame 9 asked false) Ignored (omega arith, ap some (sent_whole (request_frame 9 asked false))) refl
+      hearing k house (sent 0) (request_frame 9 asked false) (Ok Ignored) (omega arith, ap some (sent_whole (request_frame 9 asked false))) refl
       (rw (hears_not house false))))
-      (λ s b k. hearing k ds301 foreign pres_frame Ignored (pres_far ds301).1 refl (rw (pres_ignored ds301))))
+      (λ s b k. hearing k ds301 foreign pres_frame (Ok Ignored) (pres_far ds301).1 refl (rw (pres_ignored ds301))))
       (λ s b k. asking k 7 _ k.place asked refl))
       (λ s b k. asking k 7 _ k.place asked refl)
 
@@ -180,10 +178,10 @@ module _ {v : World} where
       next
       (next (ask_twice r)
       (λ s b k.
-      hearing k ds301 (sent 2) (request_frame 7 asked true) Closed (omega arith, ap some (sent_whole (request_frame 7 asked true))) refl
+      hearing k ds301 (sent 2) (request_frame 7 asked true) (Ok Closed) (omega arith, ap some (sent_whole (request_frame 7 asked true))) refl
       (rw (hears_ea ds301 true))))
       (λ s b k.
-      hearing k house (sent 2) (request_frame 7 asked true) Kept (omega arith, ap some (sent_whole (request_frame 7 asked true))) refl
+      hearing k house (sent 2) (request_frame 7 asked true) (Ok Kept) (omega arith, ap some (sent_whole (request_frame 7 asked true))) refl
       (rw (hears_ea house true)))
 
   pub answer_second : {p : Account} → Reached v first_closed between p → Reached v (answer_of second ∷ first_closed) second p
@@ -204,7 +202,7 @@ module _ {v : World} where
   unfolding ea_answer
   close_second r =
       next (next r (λ s b k. hosting k (preq_frame false) (λ services. hears_host services false)))
-      (λ s b k. hearing k house (sent 3) (preq_frame false) Closed (omega arith, refl) refl (rw (hears_host house false)))
+      (λ s b k. hearing k house (sent 3) (preq_frame false) (Ok Closed) (omega arith, refl) refl (rw (hears_host house false)))
 
   take_one : Reached v all_closed (waits []) (place false five) → Reached v one_taken (waits []) (place false (drop 1 five))
   take_one r = next r (λ s b k. handing k (entry ErrorActive 0x8161) (drop 1 five) refl)
@@ -222,7 +220,7 @@ pub original : Run 7 origin
 original = fresh [] started.head fresh_bytes started.made started.fresh
 
 -- the other head can be registered too
-free_for_9 : register_answer 9 (box_of started.next.box) ≡ Registered
+free_for_9 : register_answer 9 (box_of started.next.box) ≡ Ok tt
 unfolding register_answer
 free_for_9 = rw (started.box.accounts 9, started.box.vacant, freshes.box.accounts 9, freshes.box.vacant)
 

@@ -8,6 +8,7 @@ use native.Mathlib.Omega.{arith}
 use lib.ListN.{length, take, replicate}
 use lib.Dec.{ltb}
 use borrow.Author.Tests.{ltb-true}
+use Rattle.std.specs.Prelude.{Ok, Err, Some, None}
 use Rattle.octets.proofs.NumberBack.{Octets}
 use Rattle.types.specs.Addresses.{multicast_asnd}
 use Rattle.types.specs.Codes.{need}
@@ -33,7 +34,6 @@ use Rattle.frame.specs.Write.{frame_bytes}
 use Rattle.frame.specs.declared.PowerlinkFrame.TheVariants.{PReq, PRes, ASnd}
 use Rattle.codec.specs.ASnd.{read_asnd}
 use Rattle.codec.specs.Frame.{kind_in, read_section, read_frame, deserialize_frame}
-use Rattle.codec.specs.declared.FrameAnswer.TheVariants as frame
 use Rattle.error_entry.specs.Entry.{type_number, entry_of, entry_bytes}
 use Rattle.error_entry.specs.declared.ErrorEntry.{ErrorEntry}
 use Rattle.status_response.specs.BitField.{field_bytes}
@@ -46,11 +46,9 @@ use Rattle.frame_laws.proofs.ReadBack.{frames_read_back}
 use Rattle.reporter.specs.Calls.{Numbers, AnswerSizes}
 use Rattle.reporter.specs.Rules.{Head, fresh_head, is_raisable, answer_payload, answer_frame, ea_for, ea_told}
 use Rattle.reporter.specs.declared.AnswerFields.{AnswerFields}
-use Rattle.reporter.specs.declared.acknowledge.Heard.TheVariants as heard
 use Rattle.reporter.proofs.Meaning.{answer_size}
 use Rattle.collector.specs.Rules.{request_frame, response_in, Said, booked_entries, en_in, status_payload, status_in}
 use Rattle.collector.specs.declared.RequestFields.{RequestFields}
-use Rattle.collector.specs.declared.reading.Heard.TheVariants as boxHears
 use Rattle.collector.proofs.BookableLaws.{bookable_few}
 use Rattle.collector.proofs.Meaning.{request_size}
 use Rattle.signaling.specs.Arrival.{IsStatusEntry, Arrives, put_in}
@@ -184,7 +182,7 @@ made_other y =
 pub made_source : (services : List ℕ) → NotFrom 7 (read_frame services (made_status fields)) → ⊥
 made_source services ne = (rw (made_answer, is_status fields (fresh_head 7) sizes tt services) at ne) refl
 
-pub hears_ea : (services : List ℕ) (ea : Bool) → ea_told services 7 (request_frame 7 asked ea) ≡ heard.Ea ea
+pub hears_ea : (services : List ℕ) (ea : Bool) → ea_told services 7 (request_frame 7 asked ea) ≡ Ok (Some ea)
 unfolding asked
 hears_ea services ea = request_here services 7 7 asked ea refl refl
 
@@ -201,7 +199,7 @@ pub pres_frame : List ℕ
 pres_frame = frame_bytes other.eth_header (PRes other.frame) []
 
 module _ (services : List ℕ) where
-  pres_reads : read_frame services pres_frame ≡ frame.Frame (PRes other.frame)
+  pres_reads : read_frame services pres_frame ≡ Ok (PRes other.frame)
   unfolding other pres_frame deserialize_frame
   pres_reads =
       (frames_read_back.reads services other.eth_header (PRes other.frame) [] (record { destination = refl; source = refl; ethertype = refl })
@@ -211,10 +209,10 @@ module _ (services : List ℕ) where
   unfolding other
   pres_far = (rw pres_reads (λ e. omega arith), rw pres_reads (λ e. omega arith))
 
-  pub pres_other : response_in services pres_frame ≡ boxHears.Other
+  pub pres_other : response_in services pres_frame ≡ Ok None
   pres_other = rw pres_reads
 
-  pub pres_ignored : ea_told services 7 pres_frame ≡ heard.Nothing
+  pub pres_ignored : ea_told services 7 pres_frame ≡ Ok None
   pres_ignored = rw pres_reads
 
 unfoldable packer : NewASndFrame
@@ -225,7 +223,7 @@ pub house_frame : List ℕ
 house_frame = frame_bytes packer.eth_header (ASnd packer.frame) []
 
 house_reads : (services : List ℕ)
-    → read_frame services house_frame ≡ need (holds services 0x20) (frame.Refused (InvalidServiceId 0x20)) (frame.Frame (ASnd packer.frame))
+    → read_frame services house_frame ≡ need (holds services 0x20) (Err (InvalidServiceId 0x20)) (Ok (ASnd packer.frame))
 unfolding house_frame packer frame_bytes asnd_section padded message_of kind_in read_section read_asnd
 house_reads services =
     section_back services packer.eth_header (asnd_section packer.frame []) (record { destination = refl; source = refl; ethertype = refl })
@@ -239,11 +237,11 @@ unfolding packer
 house_far services =
     either (holds services 0x20) (λ held. rw (house_reads services, held) (λ e. omega arith)) (λ unheld. rw (house_reads services, unheld) tt)
 
-pub house_other : response_in house house_frame ≡ boxHears.Other
+pub house_other : response_in house house_frame ≡ Ok None
 unfolding packer
 house_other = rw (house_reads house, house_holds)
 
-pub house_refused : response_in ds301 house_frame ≡ boxHears.Refused (InvalidServiceId 0x20)
+pub house_refused : response_in ds301 house_frame ≡ Err (InvalidServiceId 0x20)
 unfolding is_listed
 house_refused = rw (house_reads ds301, tables_hold.twelve 0x20)
 
@@ -257,14 +255,14 @@ poll ea =
 pub preq_frame : Bool → List ℕ
 preq_frame ea = frame_bytes (poll ea).eth_header (PReq (poll ea).frame) []
 
-pub hears_host : (services : List ℕ) (ea : Bool) → ea_told services 7 (preq_frame ea) ≡ heard.Ea ea
+pub hears_host : (services : List ℕ) (ea : Bool) → ea_told services 7 (preq_frame ea) ≡ Ok (Some ea)
 unfolding poll preq_frame deserialize_frame ea_for
 hears_host services ea =
     rw
     (frames_read_back.reads services (poll ea).eth_header (PReq (poll ea).frame) []
     (record { destination = refl; source = refl; ethertype = refl }) (refl, omega arith)).frame
 
-pub hears_not : (services : List ℕ) (ea : Bool) → ea_told services 7 (request_frame 9 asked ea) ≡ heard.Nothing
+pub hears_not : (services : List ℕ) (ea : Bool) → ea_told services 7 (request_frame 9 asked ea) ≡ Ok None
 unfolding asked
 hears_not services ea = request_else services 7 9 asked ea refl (λ e. omega arith)
 

@@ -5,16 +5,14 @@ use Prim.Native.Nat.{ℕ, ◌≤◌}
 use mathlib.Core.Path.{◌≡◌, refl}
 use mathlib.Core.List.{List, ◌∷◌, ◌++◌}
 use lib.ListN.{length}
+use Rattle.std.specs.Prelude.{Ok, Some}
 use Rattle.octets.proofs.NumberBack.{Octets}
-use Rattle.section.specs.declared.WriteAnswer.TheVariants as write
 use Rattle.reporter.specs.Calls.{AnswerSizes}
 use Rattle.reporter.specs.Rules.{Head, opened, answer_frame, answer_length, ea_answer, after_acknowledge, ea_told}
 use Rattle.reporter.specs.declared.AnswerFields.{AnswerFields}
-use Rattle.reporter.specs.declared.ReadAnswer.TheVariants.{Closed}
-use Rattle.reporter.specs.declared.acknowledge.Heard.TheVariants as heard
+use Rattle.reporter.specs.declared.ReadOutcome.TheVariants.{Closed}
 use Rattle.collector.specs.Rules.{with_book, with_ea, Account, book_answer, request_frame}
-use Rattle.collector.specs.declared.ReadAnswer.TheVariants as box
-use Rattle.collector.specs.declared.RequestAnswer.TheVariants as requesting
+use Rattle.collector.specs.declared.ReadOutcome.TheVariants as box
 use Rattle.collector.specs.declared.RequestFields.{RequestFields}
 use Rattle.signaling.specs.Arrival.{Arrives}
 use Rattle.signaling.specs.Calls.{sent, answered, head_read, box_read, requested, Log, answers_sent, requests_sent, tally, Delivered}
@@ -43,28 +41,28 @@ module _ (head_services box_services : List ℕ) (i : ℕ) (f : AnswerFields) (g
     frame₂ = request_frame i g (opened h).en
 
     abbrev pub written : Log
-    written = answered (write.Written (length frame₁)) (held frame₁) ∷ l
+    written = answered (Ok (length frame₁)) (held frame₁) ∷ l
 
     abbrev pub requested₁ : ℕ → Log
-    requested₁ n = requested i (requesting.Written (length frame₂)) (held frame₂) ∷ box_read box_services (sent n) arrived box.Booked ∷ written
+    requested₁ n = requested i (Ok (length frame₂)) (held frame₂) ∷ box_read box_services (sent n) arrived (Ok box.Booked) ∷ written
 
     pub exchanging : {s b : List ℕ} (n m : ℕ) → Knows i s b l h p → answer_length (length (opened h).batch) ≤ 200 → Says frame₁ (opened h)
         → Arrives frame₁ arrived
         → (opened h).id ≡ i
         → Octets arrived
-        → book_answer (opened h).en (opened h).batch p ≡ box.Booked
+        → book_answer (opened h).en (opened h).batch p ≡ Ok box.Booked
         → Delivered box_services i (sent n) frame₁ (tally i written).answers
         → length (answers_sent i l) ≤ n
         → Delivered head_services 240 (sent m) frame₂ (tally i (requested₁ n)).requests
         → length (requests_sent i l) ≤ m
-        → ea_told head_services i frame₂ ≡ heard.Ea (opened h).en
-        → ea_answer (opened h).en (opened h) ≡ Closed
-        → Exchanged i arrived s b l (head_read head_services (sent m) frame₂ Closed ∷ requested₁ n) (after_acknowledge Closed (opened h)) booked
+        → ea_told head_services i frame₂ ≡ Ok (Some (opened h)).en
+        → ea_answer (opened h).en (opened h) ≡ Ok Closed
+        → Exchanged i arrived s b l (head_read head_services (sent m) frame₂ (Ok Closed) ∷ requested₁ n) (after_acknowledge (Ok Closed) (opened h)) booked
     exchanging n m k small says arrives from octets books₁ given₁ new₁ given₂ new₂ hears₁ closes =
         let a = answering k head_services f sizes small in
         let b = booking a.knows arrived (opened h) (says_arrived arrives says) from box_services n (frame₁, given₁, arrives) octets books₁ in
         let c = asking b.knows i _ b.knows.place g six in
-        let d = hearing c.knows head_services (sent m) frame₂ Closed given₂ from (rw hears₁ closes) in
+        let d = hearing c.knows head_services (sent m) frame₂ (Ok Closed) given₂ from (rw hears₁ closes) in
         record {
           state = d.state;
           box = d.box;
@@ -78,11 +76,11 @@ module _ (head_services box_services : List ℕ) (i : ℕ) (f : AnswerFields) (g
             p = n;
             answer_read = arrived;
             box_services = box_services;
-            box_says = box.Booked;
-            w₃ = world b.state b.box (box_read box_services (sent n) arrived box.Booked ∷ written);
+            box_says = Ok box.Booked;
+            w₃ = world b.state b.box (box_read box_services (sent n) arrived (Ok box.Booked) ∷ written);
             box_reads = b.step;
             new_answer = new₁;
-            w₄ = world b.state b.box (box_read box_services (sent n) arrived box.Booked ∷ written);
+            w₄ = world b.state b.box (box_read box_services (sent n) arrived (Ok box.Booked) ∷ written);
             quiet₂ = still;
             length₂ = length frame₂;
             request = held frame₂;
@@ -93,8 +91,8 @@ module _ (head_services box_services : List ℕ) (i : ℕ) (f : AnswerFields) (g
             q = m;
             request_read = frame₂;
             head_services = head_services;
-            head_says = Closed;
-            w₇ = world d.state d.box (head_read head_services (sent m) frame₂ Closed ∷ requested₁ n);
+            head_says = Ok Closed;
+            w₇ = world d.state d.box (head_read head_services (sent m) frame₂ (Ok Closed) ∷ requested₁ n);
             head_reads = d.step;
             new_request = new₂;
             ea = (opened h).en;

@@ -9,6 +9,7 @@ use native.Mathlib.Omega.{arith}
 use lib.ListN.{length, replicate}
 use lib.Dec.{ltb}
 use borrow.Author.Tests.{ltb-true}
+use Rattle.std.specs.Prelude.{Ok, Some}
 use Rattle.types.specs.Codes.{pick}
 use Rattle.types.specs.Header.{eth_bytes}
 use Rattle.types.specs.Messages.{message_of}
@@ -22,13 +23,11 @@ use Rattle.control.specs.ASnd.{asnd_bytes, asnd_section}
 use Rattle.frame.specs.Write.{frame_bytes}
 use Rattle.frame.specs.declared.PowerlinkFrame.TheVariants.{SoA, ASnd}
 use Rattle.codec.specs.Frame.{read_frame, deserialize_frame}
-use Rattle.codec.specs.declared.FrameAnswer.TheVariants as frame
 use Rattle.error_entry.specs.declared.ErrorEntry.{ErrorEntry}
 use Rattle.status_response.specs.Fields.{read_fields, head_bytes}
 use Rattle.status_response.specs.ReadBack.{until_terminator, EachInRange}
 use Rattle.status_response.specs.Steps.{status_bytes, unless_terminator}
 use Rattle.status_response.specs.declared.bit_field.StaticErrorBitField.{StaticErrorBitField}
-use Rattle.status_response.specs.declared.fields.StatusAnswer.TheVariants as said
 use Rattle.status_response.specs.declared.fields.StatusFields.{StatusFields}
 use Rattle.status_response.proofs.ReadBack.{status_reads_back}
 use Rattle.frame_laws.proofs.ASndBack.{asnd_back}
@@ -40,7 +39,6 @@ use Rattle.reporter.specs.declared.AnswerFields.{AnswerFields}
 use Rattle.reporter.proofs.Meaning.{answer_size}
 use Rattle.collector.specs.Rules.{Said, bookable, booked_entries, status_payload, request_soa, request_frame, response_in}
 use Rattle.collector.specs.declared.RequestFields.{RequestFields}
-use Rattle.collector.specs.declared.reading.Heard.TheVariants as heard
 use Rattle.signaling.specs.Arrival.{IsASnd, entries_at, Arrives}
 use Rattle.signaling.specs.Calls.{node}
 use Rattle.signaling.proofs.Arriving.{agree, said_same, response_same}
@@ -56,13 +54,13 @@ Good (e ∷ es) = ((is_raisable e ≡ true) × (e.entry_type.is_status_entry ≡
 pub record IsAnswer (i : ℕ) (bs : List ℕ) : Type 0 where
   pub asnd : IsASnd bs
   pub size : entries_at ≤ length bs
-  pub status : (services : List ℕ) → response_in services bs ≡ heard.Status (node i)
+  pub status : (services : List ℕ) → response_in services bs ≡ Ok (Some (node i))
 
 -- they are an answer of this head, with its EN and its batch
 pub record Says (bs : List ℕ) (h : Head) : Type 0 where
   pub answer : IsAnswer h.id bs
   pub fields : StatusFields
-  pub read : read_fields (status_payload bs) ≡ said.Status fields
+  pub read : read_fields (status_payload bs) ≡ Ok fields
   pub en : fields.en_flag ≡ h.en
   pub entries : booked_entries (status_payload bs) ≡ h.batch
 
@@ -158,7 +156,7 @@ module _ (f : AnswerFields) (h : Head) (sizes : AnswerSizes f) (good : Good h.ba
   payload =
       ap (λ (l : List ℕ). status_bytes l h.batch ++ behind) (same_head (status_fields f h.en) f.static_error_bit_field)
 
-  pub is_status : (services : List ℕ) → read_frame services (answer_frame f h) ≡ frame.Frame (ASnd (answer_asnd f h.id).frame)
+  pub is_status : (services : List ℕ) → read_frame services (answer_frame f h) ≡ Ok (ASnd (answer_asnd f h.id).frame)
   unfolding answer_frame frame_bytes asnd_section padded
   is_status services =
       section_back services (answer_asnd f h.id).eth_header (asnd_section (answer_asnd f h.id).frame (answer_payload f h))
@@ -184,7 +182,7 @@ module _ (f : AnswerFields) (h : Head) (sizes : AnswerSizes f) (good : Good h.ba
 -- ---- the request
 
 pub request_reads : (services : List ℕ) (j : ℕ) (f : RequestFields) (ea : Bool) → length f.source_mac.0 ≡ 6
-    → read_frame services (request_frame j f ea) ≡ frame.Frame (SoA (request_soa j f ea).frame)
+    → read_frame services (request_frame j f ea) ≡ Ok (SoA (request_soa j f ea).frame)
 unfolding request_frame deserialize_frame
 request_reads services j f ea six =
     (frames_read_back.reads services (request_soa j f ea).eth_header (SoA (request_soa j f ea).frame) []

@@ -8,24 +8,23 @@ use lib.ListN.{length, get_or, drop, length-drop}
 use lib.Seq.{get_or-drop, drop-drop}
 use lib.Dec.{eqb}
 use borrow.Author.Tests.{le-leb, lt-ltb}
+use Rattle.std.specs.Prelude.{Result, Ok, Err}
 use Rattle.octets.specs.Numbers.{be_at}
 use Rattle.types.specs.Codes.{need}
 use Rattle.types.specs.Header.{ethertype_epl}
 use Rattle.types.specs.Messages.{message_of}
 use Rattle.types.specs.States.{state_of}
-use Rattle.types.specs.declared.hal.PowerlinkError.TheVariants.{InvalidEthernetFrame, InvalidServiceId}
-use Rattle.types.specs.declared.states.NmtStateAnswer.{NmtStateAnswer}
-use Rattle.types.specs.declared.states.NmtStateAnswer.TheVariants as state
+use Rattle.types.specs.declared.hal.PowerlinkError.TheVariants.{InvalidEthernetFrame, InvalidServiceId, InvalidNmtState}
 use Rattle.services.specs.Table.{holds}
 use Rattle.frame.specs.declared.PowerlinkFrame.TheVariants.{ASnd}
 use Rattle.codec.specs.ASnd.{read_asnd}
 use Rattle.codec.specs.Frame.{kind_by, kind_in, kind_of, read_frame}
-use Rattle.codec.specs.declared.FrameAnswer.{FrameAnswer}
-use Rattle.codec.specs.declared.FrameAnswer.TheVariants as frame
-use Rattle.codec.specs.declared.KindAnswer.{KindAnswer}
-use Rattle.codec.specs.declared.KindAnswer.TheVariants as kind
 use Rattle.status_response.specs.Fields.{status_by_state, read_fields}
 use Rattle.signaling.specs.Arrival.{IsASnd, entries_at}
+use Rattle.types.specs.declared.states.NmtState.{NmtState}
+use Rattle.types.specs.declared.hal.PowerlinkError.{PowerlinkError}
+use Rattle.frame.specs.declared.PowerlinkFrame.{PowerlinkFrame}
+use Rattle.types.specs.declared.message_type.MessageType.{MessageType}
 
 -- two frames that agree in front of their entries
 pub record Agree (f g : List ℕ) : Type 0 where
@@ -36,14 +35,14 @@ pub record Agree (f g : List ℕ) : Type 0 where
 -- ---- the frame
 
 -- by the octets that are looked at
-abbrev kind_told : ℕ → ℕ → ℕ → KindAnswer
+abbrev kind_told : ℕ → ℕ → ℕ → Result MessageType PowerlinkError
 kind_told a b m =
-    need (eqb (256 ^ 1 * a + (256 ^ 0 * b + 0)) ethertype_epl) (kind.Refused InvalidEthernetFrame) (kind_by (message_of (m % 0x80)))
+    need (eqb (256 ^ 1 * a + (256 ^ 0 * b + 0)) ethertype_epl) (Err InvalidEthernetFrame) (kind_by (message_of (m % 0x80)))
 
-abbrev asnd_told : List ℕ → ℕ → ℕ → ℕ → FrameAnswer
+abbrev asnd_told : List ℕ → ℕ → ℕ → ℕ → Result PowerlinkFrame PowerlinkError
 asnd_told services d s v =
-    need (holds services v) (frame.Refused (InvalidServiceId v))
-    (frame.Frame (ASnd (record { destination = record { 0 = d }; source = record { 0 = s }; service_id = record { 0 = v } })))
+    need (holds services v) (Err (InvalidServiceId v))
+    (Ok (ASnd (record { destination = record { 0 = d }; source = record { 0 = s }; service_id = record { 0 = v } })))
 
 module _ (f : List ℕ) (h : entries_at ≤ length f) where
   pub kind_told_lem : kind_of f ≡ kind_told (get_or f 12 0) (get_or f 13 0) (get_or f 14 0)
@@ -77,9 +76,9 @@ module _ {f g : List ℕ} (y : Agree f g) where
 
 -- ---- the fields of the StatusResponse
 
-by_state : (s t : List ℕ) (a : NmtStateAnswer) → get_or s 0 0 ≡ get_or t 0 0 → get_or s 1 0 ≡ get_or t 1 0 → status_by_state s a ≡ status_by_state t a
-by_state s t (state.Unknown b) e k = refl
-by_state s t (state.Known v) e k = rw (e, k)
+by_state : (s t : List ℕ) (a : Result NmtState PowerlinkError) → get_or s 0 0 ≡ get_or t 0 0 → get_or s 1 0 ≡ get_or t 1 0 → status_by_state s a ≡ status_by_state t a
+by_state s t (Err (InvalidNmtState b)) e k = refl
+by_state s t (Ok v) e k = rw (e, k)
 
 module _ {f g : List ℕ} (y : Agree f g) where
   octet : (i : ℕ) → 18 + i < entries_at → get_or (drop 18 g) i 0 ≡ get_or (drop 18 f) i 0

@@ -5,32 +5,30 @@ use mathlib.Core.Bool.{Bool, false}
 use mathlib.Core.Path.{◌≡◌, refl, ap, ◌∙◌}
 use mathlib.Core.List.{List}
 use mathlib.Core.Option.{Option, none, some}
+use Rattle.std.specs.Prelude.{Ok, Some, None}
 use Rattle.control.specs.declared.soa.SoAFlags.{SoAFlags}
 use Rattle.reporter.specs.Rules.{ea_told}
-use Rattle.reporter.specs.declared.acknowledge.Heard.TheVariants as heard
 use Rattle.reporter.proofs.AnyTable.{any_table}
 use Rattle.collector.specs.Layout.{account_of}
 use Rattle.collector.specs.Rules.{Account, flags_answer}
-use Rattle.collector.specs.declared.FlagsAnswer.{FlagsAnswer}
-use Rattle.collector.specs.declared.FlagsAnswer.TheVariants as flagging
 use Rattle.signaling.specs.Calls.{ea_of, FlagsTell}
 use Rattle.signaling.proofs.Facts.{clash}
 
 -- the EA that an answer of `flags` holds
-abbrev told : Bool → FlagsAnswer → Bool
-told other (flagging.Flags f) = f.ea
-told other flagging.NotRegistered = other
+abbrev told : Bool → Option SoAFlags → Bool
+told other (Some f) = f.ea
+told other None = other
 
-flags_ea : (f : SoAFlags) (o : Option Account) → flagging.Flags f ≡ flags_answer o → f.ea ≡ ea_of o
+flags_ea : (f : SoAFlags) (o : Option Account) → Some f ≡ flags_answer o → f.ea ≡ ea_of o
 flags_ea f none e = clash cc
 flags_ea f (some p) e = ap (told p.ea) e
 
-no_ea : (o : Option Account) → flagging.NotRegistered ≡ flags_answer o → false ≡ ea_of o
+no_ea : (o : Option Account) → None ≡ flags_answer o → false ≡ ea_of o
 no_ea none e = refl
 no_ea (some p) e = clash cc
 
 -- EA is the same under every table
-pub same_ea : (services others : List ℕ) (i : ℕ) (bs : List ℕ) {x y : Bool} → ea_told services i bs ≡ heard.Ea x → ea_told others i bs ≡ heard.Ea y → y ≡ x
+pub same_ea : (services others : List ℕ) (i : ℕ) (bs : List ℕ) {x y : Bool} → ea_told services i bs ≡ Ok (Some x) → ea_told others i bs ≡ Ok (Some y) → y ≡ x
 same_ea services others i bs {x} me hears = let z = any_table.ea services others i bs x me in cc
 
 pub flags_tell : FlagsTell

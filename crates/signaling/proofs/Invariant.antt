@@ -6,11 +6,11 @@ use mathlib.Core.Path.{◌≡◌}
 use mathlib.Core.List.{List, [], ◌++◌}
 use mathlib.Core.Option.{Option, none, some}
 use lib.ListN.{length, get_elem?}
+use Rattle.std.specs.Prelude.{Ok, Some}
 use Rattle.types.specs.Codes.{pick}
 use Rattle.error_entry.specs.declared.ErrorEntry.{ErrorEntry}
 use Rattle.reporter.specs.Layout.{head_of}
 use Rattle.reporter.specs.Rules.{Head, ea_told}
-use Rattle.reporter.specs.declared.acknowledge.Heard.TheVariants as heard
 use Rattle.collector.specs.Layout.{account_of}
 use Rattle.collector.specs.Rules.{book_length, Account, en_in, status_in}
 use Rattle.signaling.specs.Calls.{Tally, tally, ruled, World, ea_of}
@@ -20,7 +20,7 @@ use Rattle.signaling.proofs.Frames.{Good, IsAnswer}
 
 -- octets that give head i an EA, under whichever table, give this one
 abbrev pub Carries : ℕ → Bool → List ℕ → Type 0
-Carries i ea bs = (services : List ℕ) (x : Bool) → ea_told services i bs ≡ heard.Ea x → x ≡ ea
+Carries i ea bs = (services : List ℕ) (x : Bool) → ea_told services i bs ≡ Ok (Some x) → x ≡ ea
 
 unfoldable pub en_said : List ℕ → Bool
 en_said bs = en_in (status_in bs).fields

@@ -7,14 +7,15 @@ use mathlib.Core.List.{List, [], ◌∷◌}
 use mathlib.Core.Option.{some}
 use native.Mathlib.Omega.{arith}
 use lib.ListN.{take, get_elem?}
+use Rattle.std.specs.Prelude.{Ok}
 use Rattle.services.specs.Table.{ds301}
 use Rattle.reporter.specs.Calls as reporter
 use Rattle.reporter.specs.Layout.{head_of, acknowledge_bytes}
 use Rattle.reporter.specs.Rules.{Head, fresh_head, answer_frame, ea_answer, acknowledge_answer, after_acknowledge, ea_told}
-use Rattle.reporter.specs.declared.ReadAnswer.TheVariants.{Closed}
+use Rattle.reporter.specs.declared.ReadOutcome.TheVariants.{Closed}
 use Rattle.reporter.proofs.Meaning.{reads_means}
 use Rattle.collector.specs.Rules.{Account, book_answer, request_frame}
-use Rattle.collector.specs.declared.ReadAnswer.TheVariants as box
+use Rattle.collector.specs.declared.ReadOutcome.TheVariants as box
 use Rattle.signaling.specs.Calls.{Origin, sent, foreign, head_read, box_read, Log, World, tally, Reaches}
 use Rattle.signaling.specs.Example.{five, house, here, made_status, FreeEaLoses, BuiltAheadLoses, MadeStatusLoses}
 use Rattle.signaling.proofs.Callable.{hears}
@@ -25,14 +26,14 @@ use Rattle.signaling.proofs.Making.{sent_whole, hearing, as_it_is, knowing, book
 
 -- the head reads a frame that closes its batch, wherever the frame comes from
 closed_by : {v : World} {l : Log} {h : Head} {p : Account} (r : Reached v l h p) (bs : List ℕ)
-    → ((services : List ℕ) → acknowledge_answer (ea_told services h.id bs) h ≡ Closed)
-    → ((services : List ℕ) → reporter.Reads services bs Closed r.state (acknowledge_bytes Closed r.state))
-    × (head_of (acknowledge_bytes Closed r.state) ≡ after_acknowledge Closed h)
+    → ((services : List ℕ) → acknowledge_answer (ea_told services h.id bs) h ≡ (Ok Closed))
+    → ((services : List ℕ) → reporter.Reads services bs (Ok Closed) r.state (acknowledge_bytes (Ok Closed) r.state))
+    × (head_of (acknowledge_bytes (Ok Closed) r.state) ≡ after_acknowledge (Ok Closed) h)
 closed_by {h} r bs ok = (
   λ services.
-      let e : acknowledge_answer (ea_told services (head_of r.state).id bs) (head_of r.state) ≡ Closed = rw r.knows.means (ok services) in
+      let e : acknowledge_answer (ea_told services (head_of r.state).id bs) (head_of r.state) ≡ (Ok Closed) = rw r.knows.means (ok services) in
       (rw e at (hears services r.state bs r.knows.head_size)).0,
-  reads_means r.state r.knows.head_size Closed ∙ ap (after_acknowledge Closed) r.knows.means,
+  reads_means r.state r.knows.head_size (Ok Closed) ∙ ap (after_acknowledge (Ok Closed)) r.knows.means,
 )
 
 -- ---- a frame with any EA
@@ -49,7 +50,7 @@ free_ea_loses =
       place = r.knows.place;
       frame = request_frame 7 asked true;
       gives = λ services. hears_ea services true;
-      after = acknowledge_bytes Closed r.state;
+      after = acknowledge_bytes (Ok Closed) r.state;
       reads = c.0;
       left = c.1;
     }
@@ -75,7 +76,7 @@ built_ahead_loses =
       place = r.knows.place;
       holds = r.knows.means;
       late = λ told. clash (cc (rw r.knows.place at (told ds301 false (hears_ea ds301 false))));
-      after = acknowledge_bytes Closed r.state;
+      after = acknowledge_bytes (Ok Closed) r.state;
       reads = c.0;
       left = c.1;
     }
@@ -96,7 +97,7 @@ not_reaching services foreign ne = made_source services ne
 -- its answer is known, and the next request closes the batch
 abbrev second_lost : Log
 second_lost =
-    head_read ds301 (sent 3) (request_frame 7 asked false) Closed ∷ request_of 7 false ∷ box_read house (sent 2) (answer_frame fields second) box.Known
+    head_read ds301 (sent 3) (request_frame 7 asked false) (Ok Closed) ∷ request_of 7 false ∷ box_read house (sent 2) (answer_frame fields second) (Ok box.Known)
     ∷ answer_of second
     ∷ first_closed
 
@@ -111,7 +112,7 @@ lose_second r =
     (as_it_is k (answer_frame fields second) second second_says refl house 2 (omega arith, ap some (sent_whole (answer_frame fields second)))) refl))
     (λ s b k. asking k 7 _ k.place asked refl))
     (λ s b k.
-    hearing k ds301 (sent 3) (request_frame 7 asked false) Closed (omega arith, ap some (sent_whole (request_frame 7 asked false))) refl
+    hearing k ds301 (sent 3) (request_frame 7 asked false) (Ok Closed) (omega arith, ap some (sent_whole (request_frame 7 asked false))) refl
     (rw (hears_ea ds301 false)))
 
 pub made_status_loses : MadeStatusLoses

@@ -8,18 +8,21 @@ use mathlib.Core.Option.{Option, none, some}
 use native.Mathlib.Omega.{arith}
 use lib.ListN.{length, length-append}
 use borrow.Author.Tests.{le-leb}
+use Rattle.std.specs.Prelude.{Result, Ok, Err}
 use Rattle.error_entry.specs.declared.ErrorEntry.{ErrorEntry}
-use Rattle.status_response.specs.declared.fields.StatusAnswer.{StatusAnswer}
-use Rattle.status_response.specs.declared.fields.StatusAnswer.TheVariants as status
 use Rattle.collector.specs.Rules.{Said, book_length, Account, en_in, book_answer, status_answer, account_answer, read_answer, status_in}
-use Rattle.collector.specs.declared.ReadAnswer.{ReadAnswer as BoxReadAnswer}
-use Rattle.collector.specs.declared.ReadAnswer.TheVariants as box
+use Rattle.collector.specs.declared.ReadError.TheVariants as boxError
+use Rattle.collector.specs.declared.ReadOutcome.TheVariants as box
 use Rattle.signaling.specs.Calls.{sent, box_read, tally, ruled, is_booked, Delivered, World, Step, box_reads, ea_of}
 use Rattle.signaling.proofs.Facts.{clash, either, beq_not, beq_false}
 use Rattle.signaling.proofs.Invariant.{en_said, batch_said, book_of, head_in, place_for}
 use Rattle.signaling.proofs.Quiet.{Ready, Roomy}
 use Rattle.signaling.proofs.Steps.{read_as_sent}
 use Rattle.signaling.proofs.Transit.{answers_fresh}
+use Rattle.status_response.specs.declared.fields.StatusFields.{StatusFields}
+use Rattle.types.specs.declared.hal.PowerlinkError.{PowerlinkError}
+use Rattle.collector.specs.declared.ReadOutcome.{ReadOutcome}
+use Rattle.collector.specs.declared.ReadError.{ReadError}
 
 -- ---- the box reads
 
@@ -31,22 +34,22 @@ fits_batch y room new =
     omega (arith, room, n)
 
 -- an answer whose batch fits is not refused with 12
-fits_status : (a : StatusAnswer) (es : List ErrorEntry) (p : Account)
+fits_status : (a : Result StatusFields PowerlinkError) (es : List ErrorEntry) (p : Account)
     → (beq (en_in a) p.ea ≡ false → length p.book + length es ≤ book_length)
-    → status_answer a es p ≡ box.BookFull
+    → status_answer a es p ≡ Err boxError.BookFull
     → ⊥
 unfolding book_answer
-fits_status (status.Refused e) es p room full = clash cc
-fits_status (status.Status f) es p room full =
+fits_status (Err e) es p room full = clash cc
+fits_status (Ok f) es p room full =
     either (beq f.en_flag p.ea)
-    (λ same. let x : status_answer (status.Status f) es p ≡ box.Known = rw same in clash cc)
+    (λ same. let x : status_answer (Ok f) es p ≡ (Ok box.Known) = rw same in clash cc)
     (λ new.
-    let x : status_answer (status.Status f) es p ≡ box.Booked = rw (new, le-leb (length p.book + length es) book_length (room new)) in
+    let x : status_answer (Ok f) es p ≡ (Ok box.Booked) = rw (new, le-leb (length p.book + length es) book_length (room new)) in
     clash cc)
 
 fits : (said : Said) (o : Option Account)
     → (beq (en_in said.fields) (ea_of o) ≡ false → length (book_of o) + length said.entries ≤ book_length)
-    → account_answer said o ≡ box.BookFull
+    → account_answer said o ≡ Err boxError.BookFull
     → ⊥
 fits said none room full = clash cc
 fits said (some p) room full = fits_status said.fields said.entries p room full
@@ -61,8 +64,8 @@ room_for {i} {p} {bs} {w} services y room d new =
     let en = (ruled i w.log).en in
     rw (same-batch, ← y.held.head) (fits_batch y room (inv.since ∙ ap (λ (b : Bool). beq b en) differ ∙ beq_not en))
 
-pub room_found : {i p : ℕ} {services bs : List ℕ} {r : BoxReadAnswer} {w v : World} → Ready i w → Roomy i w → Step i w (box_read services (sent p) bs r) v
-    → r ≡ box.BookFull
+pub room_found : {i p : ℕ} {services bs : List ℕ} {r : (Result ReadOutcome ReadError)} {w v : World} → Ready i w → Roomy i w → Step i w (box_read services (sent p) bs r) v
+    → r ≡ Err boxError.BookFull
     → ⊥
 unfolding read_answer en_said batch_said
 room_found {i} {p} {services} {bs} {r} {w} y room (box_reads table from octets told after d c) full =

@@ -10,25 +10,19 @@ use native.Mathlib.Omega.{arith}
 use lib.ListN.{length, take, get_elem?, length-append}
 use lib.Dec.{eqb}
 use borrow.Author.Tests.{eqb-true}
+use Rattle.std.specs.Prelude.{Result, Ok, Err, Some, None}
 use Rattle.types.specs.Codes.{pick}
-use Rattle.section.specs.declared.WriteAnswer.TheVariants as write
 use Rattle.error_entry.specs.declared.ErrorEntry.{ErrorEntry}
 use Rattle.reporter.specs.Rules.{with_batch, opened, Head, after_raise, after_acknowledge}
-use Rattle.reporter.specs.declared.RaiseAnswer.{RaiseAnswer}
-use Rattle.reporter.specs.declared.RaiseAnswer.TheVariants.{Raised, EntryInvalid, StatusEntry, QueueFull}
-use Rattle.reporter.specs.declared.ReadAnswer.{ReadAnswer}
-use Rattle.reporter.specs.declared.ReadAnswer.TheVariants.{Closed, Kept, Ignored, Refused}
+use Rattle.reporter.specs.declared.RaiseError.TheVariants.{EntryInvalid, StatusEntry, QueueFull}
+use Rattle.reporter.specs.declared.ReadOutcome.TheVariants.{Closed, Kept, Ignored}
 use Rattle.collector.specs.Layout.{box_of}
 use Rattle.collector.specs.Rules.{Said, book_length, Account, Box, with_account, after_register, after_booking, after_response, without_first, after_take, response_in, status_in}
-use Rattle.collector.specs.declared.ReadAnswer.{ReadAnswer as BoxReadAnswer}
-use Rattle.collector.specs.declared.ReadAnswer.TheVariants as box
-use Rattle.collector.specs.declared.RegisterAnswer.{RegisterAnswer}
-use Rattle.collector.specs.declared.RegisterAnswer.TheVariants.{Registered, IdOutOfRange, IdRegistered, Full}
-use Rattle.collector.specs.declared.RequestAnswer.TheVariants as requesting
-use Rattle.collector.specs.declared.TakeAnswer.{TakeAnswer}
-use Rattle.collector.specs.declared.TakeAnswer.TheVariants as taking
-use Rattle.collector.specs.declared.reading.Heard.{Heard as BoxHeard}
-use Rattle.collector.specs.declared.reading.Heard.TheVariants as boxHears
+use Rattle.collector.specs.declared.ReadError.TheVariants as boxError
+use Rattle.collector.specs.declared.ReadOutcome.TheVariants as box
+use Rattle.collector.specs.declared.RegisterError.TheVariants.{IdOutOfRange, IdRegistered, Full}
+use Rattle.collector.specs.declared.RequestError.TheVariants as requesting
+use Rattle.collector.specs.declared.TakeError.TheVariants as taking
 use Rattle.signaling.specs.Calls.{tally, adds, Tally, nothing_yet, sent, foreign, Event, raised, answered, head_read, registered, box_read, requested, taken, hosted, if_taken, accepted, handed_out, answers_sent, requests_sent, ea_of, Tells, World, Step, raise, answer, head_reads, register, box_reads, request, takes, hosts}
 use Rattle.signaling.specs.Exchanges.{Quiet, NoRepeat, RequestAgain, Quietly, still, next, again, Exchange}
 use Rattle.signaling.proofs.Told.{told_now}
@@ -37,6 +31,13 @@ use Rattle.signaling.proofs.Facts.{clash, either, at_snoc}
 use Rattle.signaling.proofs.Frames.{Says}
 use Rattle.signaling.proofs.Invariant.{head_in, place_for, Held}
 use Rattle.signaling.proofs.Steps.{answer_says, request_says, keeps}
+use Rattle.reporter.specs.declared.RaiseError.{RaiseError}
+use Rattle.collector.specs.declared.RegisterError.{RegisterError}
+use Rattle.collector.specs.declared.TakeError.{TakeError}
+use Rattle.reporter.specs.declared.ReadOutcome.{ReadOutcome}
+use Rattle.types.specs.declared.hal.PowerlinkError.{PowerlinkError}
+use Rattle.collector.specs.declared.ReadError.{ReadError}
+use Rattle.types.specs.declared.NodeId.{NodeId}
 
 -- ---- every call: a place stays
 
@@ -48,29 +49,29 @@ module _ (i : ℕ) (b : Box) (is : IsPlace (b.accounts i)) where
   with_stays : (j : ℕ) (p : Account) → IsPlace ((with_account j p b).accounts i)
   with_stays j p = either (eqb i j) (λ here. rw here tt) (λ away. rw away is)
 
-  register_stays : (j : ℕ) (r : RegisterAnswer) → IsPlace ((after_register r j b).accounts i)
-  register_stays j Registered = with_stays j _
-  register_stays j IdOutOfRange = is
-  register_stays j IdRegistered = is
-  register_stays j Full = is
+  register_stays : (j : ℕ) (r : Result Unit RegisterError) → IsPlace ((after_register r j b).accounts i)
+  register_stays j (Ok tt) = with_stays j _
+  register_stays j (Err IdOutOfRange) = is
+  register_stays j (Err IdRegistered) = is
+  register_stays j (Err Full) = is
 
-  booking_stays : (s : BoxHeard) (said : Said) → IsPlace ((after_booking s said b).accounts i)
-  booking_stays (boxHears.Refused e) said = is
-  booking_stays boxHears.Other said = is
-  booking_stays (boxHears.Status source) said = with_stays source.0 _
+  booking_stays : (s : Result (Option NodeId) PowerlinkError) (said : Said) → IsPlace ((after_booking s said b).accounts i)
+  booking_stays (Err e) said = is
+  booking_stays (Ok None) said = is
+  booking_stays (Ok (Some source)) said = with_stays source.0 _
 
-  read_stays : (services bs : List ℕ) (r : BoxReadAnswer) → IsPlace ((after_response services r bs b).accounts i)
-  read_stays services bs box.Booked = booking_stays (response_in services bs) (status_in bs)
-  read_stays services bs box.Known = is
-  read_stays services bs (box.Refused e) = is
-  read_stays services bs box.NotStatusResponse = is
-  read_stays services bs box.NotRegistered = is
-  read_stays services bs box.BookFull = is
+  read_stays : (services bs : List ℕ) (r : Result ReadOutcome ReadError) → IsPlace ((after_response services r bs b).accounts i)
+  read_stays services bs (Ok box.Booked) = booking_stays (response_in services bs) (status_in bs)
+  read_stays services bs (Ok box.Known) = is
+  read_stays services bs (Err (boxError.Frame e)) = is
+  read_stays services bs (Err boxError.NotStatusResponse) = is
+  read_stays services bs (Err boxError.NotRegistered) = is
+  read_stays services bs (Err boxError.BookFull) = is
 
-  take_stays : (j : ℕ) (r : TakeAnswer) → IsPlace ((after_take r j b).accounts i)
-  take_stays j (taking.Taken e) = with_stays j _
-  take_stays j taking.NotRegistered = is
-  take_stays j taking.NothingBooked = is
+  take_stays : (j : ℕ) (r : Result ErrorEntry TakeError) → IsPlace ((after_take r j b).accounts i)
+  take_stays j (Ok e) = with_stays j _
+  take_stays j (Err taking.NotRegistered) = is
+  take_stays j (Err taking.NothingBooked) = is
 
 place_stays : {i : ℕ} {w v : World} {x : Event} → Step i w x v → IsPlace (place_for i w) → IsPlace (place_for i v)
 place_stays (raise e r after c) y = y
@@ -101,11 +102,11 @@ abbrev pub Roomy : ℕ → World → Type 0
 Roomy i w = length (accepted i w.log) ≤ length (handed_out i w.log) + book_length
 
 -- a Take takes back nothing
-hands_on : (mine : Bool) (r : TakeAnswer) (es : List ErrorEntry) → length es ≤ length (pick mine (if_taken r es) es)
+hands_on : (mine : Bool) (r : Result ErrorEntry TakeError) (es : List ErrorEntry) → length es ≤ length (pick mine (if_taken r es) es)
 hands_on false r es = omega arith
-hands_on true (taking.Taken e) es = simp length-append (omega arith)
-hands_on true taking.NotRegistered es = omega arith
-hands_on true taking.NothingBooked es = omega arith
+hands_on true (Ok e) es = simp length-append (omega arith)
+hands_on true (Err taking.NotRegistered) es = omega arith
+hands_on true (Err taking.NothingBooked) es = omega arith
 
 pub room_stays : {i : ℕ} {w v : World} {x : Event} → Step i w x v → NoRaise i x → Roomy i w → Roomy i v
 room_stays {i} {w} (raise e r after c) k y = rw (k (tally i w.log)) y
@@ -118,10 +119,10 @@ room_stays {i} {w} (takes j r after c) k y = omega (arith, y, hands_on (eqb j i)
 room_stays (hosts bs told) k y = y
 
 pub quiet_raises_not : (i : ℕ) (x : Event) → Quiet i x → NoRaise i x
-quiet_raises_not i (raised e Raised) k = absurd (omega arith)
-quiet_raises_not i (raised e EntryInvalid) k = λ t. refl
-quiet_raises_not i (raised e StatusEntry) k = λ t. refl
-quiet_raises_not i (raised e QueueFull) k = λ t. refl
+quiet_raises_not i (raised e (Ok tt)) k = absurd (omega arith)
+quiet_raises_not i (raised e (Err EntryInvalid)) k = λ t. refl
+quiet_raises_not i (raised e (Err StatusEntry)) k = λ t. refl
+quiet_raises_not i (raised e (Err QueueFull)) k = λ t. refl
 quiet_raises_not i (answered r bs) k = λ t. refl
 quiet_raises_not i (head_read services o bs r) k = λ t. refl
 quiet_raises_not i (registered j r) k = λ t. refl
@@ -154,24 +155,24 @@ taken_bit : (o : Option Account) → (without_first o).ea ≡ ea_of o
 taken_bit none = refl
 taken_bit (some p) = refl
 
-take_bit : (i j : ℕ) (b : Box) (r : TakeAnswer) → ea_of ((after_take r j b).accounts i) ≡ ea_of (b.accounts i)
-take_bit i j b (taking.Taken e) = with_bit i j _ b (taken_bit (b.accounts j))
-take_bit i j b taking.NotRegistered = refl
-take_bit i j b taking.NothingBooked = refl
+take_bit : (i j : ℕ) (b : Box) (r : Result ErrorEntry TakeError) → ea_of ((after_take r j b).accounts i) ≡ ea_of (b.accounts i)
+take_bit i j b (Ok e) = with_bit i j _ b (taken_bit (b.accounts j))
+take_bit i j b (Err taking.NotRegistered) = refl
+take_bit i j b (Err taking.NothingBooked) = refl
 
 -- a Raise that accepts nothing leaves the head
-pub not_raised : (i : ℕ) (e : ErrorEntry) (r : RaiseAnswer) → NoRaise i (raised e r) → (h : Head) → after_raise r e h ≡ h
-not_raised i e Raised k h = let some-raised : e ∷ [] ≡ [] = k (nothing_yet i) in clash cc
-not_raised i e EntryInvalid k h = refl
-not_raised i e StatusEntry k h = refl
-not_raised i e QueueFull k h = refl
+pub not_raised : (i : ℕ) (e : ErrorEntry) (r : Result Unit RaiseError) → NoRaise i (raised e r) → (h : Head) → after_raise r e h ≡ h
+not_raised i e (Ok tt) k h = let some-raised : e ∷ [] ≡ [] = k (nothing_yet i) in clash cc
+not_raised i e (Err EntryInvalid) k h = refl
+not_raised i e (Err StatusEntry) k h = refl
+not_raised i e (Err QueueFull) k h = refl
 
 -- a reading leaves the head or closes its batch
-pub read_head : (r : ReadAnswer) (h : Head) → (after_acknowledge r h ≡ h) ⊎ (after_acknowledge r h ≡ shut h)
-read_head Closed h = inr refl
-read_head Kept h = inl refl
-read_head Ignored h = inl refl
-read_head (Refused e) h = inl refl
+pub read_head : (r : Result ReadOutcome PowerlinkError) (h : Head) → (after_acknowledge r h ≡ h) ⊎ (after_acknowledge r h ≡ shut h)
+read_head (Ok Closed) h = inr refl
+read_head (Ok Kept) h = inl refl
+read_head (Ok Ignored) h = inl refl
+read_head (Err e) h = inl refl
 
 pub calm : {i : ℕ} {w v : World} {x : Event} → Held i w → Step i w x v → Quiet i x → Calm i w v
 calm {i} {w} t (raise e r after c) k =
@@ -181,9 +182,9 @@ calm {i} {w} t (raise e r after c) k =
       answers = λ p a y. inl y;
       requests = λ q f y. inl y;
     }
-calm {i} {w} t (answer services f (write.Refused e) after target written c) k =
+calm {i} {w} t (answer services f (Err e) after target written c) k =
     record { head = inl (inl c.head); bit = refl; answers = λ p a y. inl y; requests = λ q f y. inl y }
-calm {i} {w} t (answer services f (write.Written n) after target written c) k =
+calm {i} {w} t (answer services f (Ok n) after target written c) k =
     record {
       head = inr c.head;
       bit = refl;
@@ -216,11 +217,11 @@ calm {i} {w} t (box_reads services foreign bs r after d c) k =
       requests = λ q f y. inl y;
     }
 calm {i} {w} t (box_reads services (sent p) bs r after d c) k = absurd k
-calm {i} {w} t (request j f requesting.NotRegistered target written c) k =
+calm {i} {w} t (request j f (Err requesting.NotRegistered) target written c) k =
     record { head = inl (inl refl); bit = refl; answers = λ p a y. inl y; requests = λ q f y. inl y }
-calm {i} {w} t (request j f (requesting.Refused e) target written c) k =
+calm {i} {w} t (request j f (Err (requesting.Frame e)) target written c) k =
     record { head = inl (inl refl); bit = refl; answers = λ p a y. inl y; requests = λ q f y. inl y }
-calm {i} {w} t (request j f (requesting.Written n) target written c) k =
+calm {i} {w} t (request j f (Ok n) target written c) k =
     record {
       head = inl (inl refl);
       bit = refl;

@@ -8,26 +8,21 @@ use native.Mathlib.Omega.{arith}
 use lib.ListN.{take, drop}
 use lib.Dec.{eqb}
 use borrow.Author.Tests.{eqb-true, eqb-false, eq-eqb}
-use Rattle.section.specs.declared.WriteAnswer.{WriteAnswer}
-use Rattle.section.specs.declared.WriteAnswer.TheVariants as write
+use Rattle.std.specs.Prelude.{Result, Ok, Err, Some}
 use Rattle.codec.specs.Frame.{read_frame}
 use Rattle.reporter.specs.Calls as reporter
 use Rattle.reporter.specs.Layout.{head_of}
 use Rattle.reporter.specs.Rules.{Head, fresh_head, raise_answer, opened, answer_frame, after_answer, acknowledge_answer, after_acknowledge, ea_told}
 use Rattle.reporter.specs.declared.AnswerFields.{AnswerFields}
-use Rattle.reporter.specs.declared.ReadAnswer.{ReadAnswer}
-use Rattle.reporter.specs.declared.acknowledge.Heard.TheVariants as heard
 use Rattle.reporter.proofs.AnyTable.{answer_writes}
 use Rattle.collector.specs.Calls as collector
 use Rattle.collector.specs.Layout.{box_of, account_of}
 use Rattle.collector.specs.Rules.{Account, read_answer, request_frame, status_in}
-use Rattle.collector.specs.declared.ReadAnswer.{ReadAnswer as BoxReadAnswer}
-use Rattle.collector.specs.declared.ReadAnswer.TheVariants as box
-use Rattle.collector.specs.declared.RequestAnswer.{RequestAnswer}
-use Rattle.collector.specs.declared.RequestAnswer.TheVariants as requesting
+use Rattle.collector.specs.declared.ReadError.TheVariants as boxError
+use Rattle.collector.specs.declared.ReadOutcome.TheVariants as box
+use Rattle.collector.specs.declared.RequestError.TheVariants as requesting
 use Rattle.collector.specs.declared.RequestFields.{RequestFields}
-use Rattle.collector.specs.declared.TakeAnswer.{TakeAnswer}
-use Rattle.collector.specs.declared.TakeAnswer.TheVariants as taking
+use Rattle.collector.specs.declared.TakeError.TheVariants as taking
 use Rattle.signaling.specs.Calls.{Origin, sent, foreign, Event, answered, head_read, box_read, requested, taken, tally, ruled, hears, Delivered, Reaches, Tells, node, World, Step, raise, answer, head_reads, register, box_reads, request, takes, hosts, Run, fresh, call, ea_of}
 use Rattle.signaling.proofs.Arriving.{reads_sent}
 use Rattle.signaling.proofs.Facts.{either, beq_false, at_lt}
@@ -37,6 +32,12 @@ use Rattle.signaling.proofs.Head.{raise_keeps, opened_keeps, answer_written, hea
 use Rattle.signaling.proofs.Box.{box_passes, box_books, request_sends, take_moves}
 use Rattle.signaling.proofs.Told.{told_now}
 use Rattle.signaling.proofs.Calls.{written_frame, unheard, requested_frame, request_here, request_else, why_booked, read_elsewhere, read_here, register_same, take_elsewhere, why_taken}
+use Rattle.types.specs.declared.hal.PowerlinkError.{PowerlinkError}
+use Rattle.collector.specs.declared.RequestError.{RequestError}
+use Rattle.error_entry.specs.declared.ErrorEntry.{ErrorEntry}
+use Rattle.collector.specs.declared.TakeError.{TakeError}
+use Rattle.reporter.specs.declared.ReadOutcome.{ReadOutcome}
+use Rattle.collector.specs.declared.ReadError.{ReadError}
 
 module _ {i : ℕ} {w : World} (t : Held i w) where
   abbrev h : Head
@@ -49,26 +50,26 @@ module _ {i : ℕ} {w : World} (t : Held i w) where
 
   -- what is sent is an answer of the head as it opened
   pub answer_says : (services : List ℕ) (f : AnswerFields) (n : ℕ) (after target written : List ℕ)
-      → reporter.Answers services f (write.Written n) w.head after target written → Says (take n written) (opened (head_in w))
+      → reporter.Answers services f (Ok n) w.head after target written → Says (take n written) (opened (head_in w))
   answer_says services f n after target written c =
       let bs = answer_frame f (opened h) in
-      let y = answer_writes services f (write.Written n) w.head after target written c in
+      let y = answer_writes services f (Ok n) w.head after target written c in
       let octets : take n written ≡ bs = rw y.holds (written_frame bs target n y.answer) in
       rw octets (answer_reads f (opened h) c.sizes (rw t.head (opened_keeps t.inv).batch))
 
-  answer_keeps : (services : List ℕ) (f : AnswerFields) (r : WriteAnswer) (after target written : List ℕ)
+  answer_keeps : (services : List ℕ) (f : AnswerFields) (r : Result ℕ PowerlinkError) (after target written : List ℕ)
       → reporter.Answers services f r w.head after target written
       → Inv i (ea_of o) (book_of o) (tally i (answered r written ∷ w.log))
-  answer_keeps services f (write.Refused e) after target written c = t.inv
-  answer_keeps services f (write.Written n) after target written c =
+  answer_keeps services f (Err e) after target written c = t.inv
+  answer_keeps services f (Ok n) after target written c =
       answer_written t.inv n written (rw t.head at (answer_says services f n after target written c))
 
-  pub head_now : (services bs : List ℕ) (r : ReadAnswer) (after : List ℕ) → reporter.Reads services bs r w.head after
+  pub head_now : (services bs : List ℕ) (r : Result ReadOutcome PowerlinkError) (after : List ℕ) → reporter.Reads services bs r w.head after
       → head_of after ≡ after_acknowledge (acknowledge_answer (ea_told services i bs) (head_in w)) (head_in w)
   head_now services bs r after c =
-      c.head ∙ ap (λ (x : ReadAnswer). after_acknowledge x h) (c.answer ∙ ap (λ (k : ℕ). acknowledge_answer (ea_told services k bs) h) (rw t.head t.inv.id))
+      c.head ∙ ap (λ (x : Result ReadOutcome PowerlinkError). after_acknowledge x h) (c.answer ∙ ap (λ (k : ℕ). acknowledge_answer (ea_told services k bs) h) (rw t.head t.inv.id))
 
-  head_read_keeps : (services : List ℕ) (from : Origin) (bs : List ℕ) (r : ReadAnswer)
+  head_read_keeps : (services : List ℕ) (from : Origin) (bs : List ℕ) (r : Result ReadOutcome PowerlinkError)
       → Delivered services 240 from bs (tally i w.log).requests
       → Inv i (ea_of o) (book_of o) (tally i (head_read services from bs r ∷ w.log))
   head_read_keeps services foreign bs r d = rw (unheard i (read_frame services bs) (ruled i w.log) d) t.inv
@@ -77,15 +78,15 @@ module _ {i : ℕ} {w : World} (t : Held i w) where
   -- ---- the box's calls
 
   -- what reaches the box is read as what was sent
-  pub read_as_sent : (services : List ℕ) (p : ℕ) (bs : List ℕ) (r : BoxReadAnswer) (after : List ℕ)
+  pub read_as_sent : (services : List ℕ) (p : ℕ) (bs : List ℕ) (r : Result ReadOutcome ReadError) (after : List ℕ)
       → (d : Reaches services i (sent p) bs (tally i w.log).answers)
       → collector.Reads services bs r w.box after
       → collector.Reads services d.0 r w.box after
   read_as_sent services p bs r after d c = reads_sent d.2 services (t.inv.source p d.0 d.1.1).asnd c
 
   books : (services : List ℕ) (p : ℕ) (bs after : List ℕ) → Delivered services i (sent p) bs (tally i w.log).answers
-      → collector.Reads services bs box.Booked w.box after
-      → Inv i (ea_of (account_of after i)) (book_of (account_of after i)) (tally i (box_read services (sent p) bs box.Booked ∷ w.log))
+      → collector.Reads services bs (Ok box.Booked) w.box after
+      → Inv i (ea_of (account_of after i)) (book_of (account_of after i)) (tally i (box_read services (sent p) bs (Ok box.Booked) ∷ w.log))
   unfolding read_answer en_said batch_said
   books services p bs after d c =
       let me = (t.inv.source p bs d.1).status services in
@@ -95,18 +96,18 @@ module _ {i : ℕ} {w : World} (t : Held i w) where
       (box_books inv p bs d.0 d.1 services (beq_false _ _ y.fresh) y.room)
 
   -- an answer as it was sent
-  sent_keeps : (services : List ℕ) (p : ℕ) (bs : List ℕ) (r : BoxReadAnswer) (after : List ℕ)
+  sent_keeps : (services : List ℕ) (p : ℕ) (bs : List ℕ) (r : Result ReadOutcome ReadError) (after : List ℕ)
       → Delivered services i (sent p) bs (tally i w.log).answers
       → collector.Reads services bs r w.box after
       → Inv i (ea_of (account_of after i)) (book_of (account_of after i)) (tally i (box_read services (sent p) bs r ∷ w.log))
-  sent_keeps services p bs box.Booked after d c = books services p bs after d c
-  sent_keeps services p bs box.Known after d c = rw (c.box.accounts i) (box_passes t.inv p bs d.0 d.1)
-  sent_keeps services p bs (box.Refused e) after d c = rw (c.box.accounts i) (box_passes t.inv p bs d.0 d.1)
-  sent_keeps services p bs box.NotStatusResponse after d c = rw (c.box.accounts i) (box_passes t.inv p bs d.0 d.1)
-  sent_keeps services p bs box.NotRegistered after d c = rw (c.box.accounts i) (box_passes t.inv p bs d.0 d.1)
-  sent_keeps services p bs box.BookFull after d c = rw (c.box.accounts i) (box_passes t.inv p bs d.0 d.1)
+  sent_keeps services p bs (Ok box.Booked) after d c = books services p bs after d c
+  sent_keeps services p bs (Ok box.Known) after d c = rw (c.box.accounts i) (box_passes t.inv p bs d.0 d.1)
+  sent_keeps services p bs (Err (boxError.Frame e)) after d c = rw (c.box.accounts i) (box_passes t.inv p bs d.0 d.1)
+  sent_keeps services p bs (Err boxError.NotStatusResponse) after d c = rw (c.box.accounts i) (box_passes t.inv p bs d.0 d.1)
+  sent_keeps services p bs (Err boxError.NotRegistered) after d c = rw (c.box.accounts i) (box_passes t.inv p bs d.0 d.1)
+  sent_keeps services p bs (Err boxError.BookFull) after d c = rw (c.box.accounts i) (box_passes t.inv p bs d.0 d.1)
 
-  box_read_keeps : (services : List ℕ) (from : Origin) (bs : List ℕ) (r : BoxReadAnswer) (after : List ℕ)
+  box_read_keeps : (services : List ℕ) (from : Origin) (bs : List ℕ) (r : Result ReadOutcome ReadError) (after : List ℕ)
       → Reaches services i from bs (tally i w.log).answers
       → collector.Reads services bs r w.box after
       → Inv i (ea_of (account_of after i)) (book_of (account_of after i)) (tally i (box_read services from bs r ∷ w.log))
@@ -115,13 +116,13 @@ module _ {i : ℕ} {w : World} (t : Held i w) where
 
   -- what is sent tells the head EA, if it tells it anything
   pub request_says : (j : ℕ) (f : RequestFields) (n : ℕ) (target written : List ℕ)
-      → collector.Requests (node j) f (requesting.Written n) w.box target written
+      → collector.Requests (node j) f (Ok n) w.box target written
       → Tells i w.box (take n written)
   request_says j f n target written c services x me =
       let y = requested_frame j f (account_of w.box j) target n c.answer in
       let ea = y.place.ea in
       let octets : take n written ≡ request_frame j f ea = rw c.holds y.octets in
-      let mine : ea_told services i (request_frame j f ea) ≡ heard.Ea x = rw octets at me in
+      let mine : ea_told services i (request_frame j f ea) ≡ Ok (Some x) = rw octets at me in
       either (eqb j i)
       (λ here.
       let same : j ≡ i = eqb-true j i here in
@@ -129,24 +130,24 @@ module _ {i : ℕ} {w : World} (t : Held i w) where
       rw place (cc (request_here services i j f ea c.source same, mine)))
       (λ away. cc (request_else services i j f ea c.source (eqb-false j i away), mine))
 
-  request_keeps : (j : ℕ) (f : RequestFields) (r : RequestAnswer) (target written : List ℕ)
+  request_keeps : (j : ℕ) (f : RequestFields) (r : Result ℕ RequestError) (target written : List ℕ)
       → collector.Requests (node j) f r w.box target written
       → Inv i (ea_of o) (book_of o) (tally i (requested j r written ∷ w.log))
-  request_keeps j f requesting.NotRegistered target written c = t.inv
-  request_keeps j f (requesting.Refused e) target written c = t.inv
-  request_keeps j f (requesting.Written n) target written c =
+  request_keeps j f (Err requesting.NotRegistered) target written c = t.inv
+  request_keeps j f (Err (requesting.Frame e)) target written c = t.inv
+  request_keeps j f (Ok n) target written c =
       request_sends t.inv (take n written) (request_says j f n target written c)
 
-  take_here : (r : TakeAnswer) (after : List ℕ) → collector.Takes (node i) r w.box after
+  take_here : (r : Result ErrorEntry TakeError) (after : List ℕ) → collector.Takes (node i) r w.box after
       → Inv i (ea_of (account_of after i)) (book_of (account_of after i)) (tally i (taken i r ∷ w.log))
-  take_here taking.NotRegistered after c = rw (c.box.accounts i, eq-eqb i i refl) t.inv
-  take_here taking.NothingBooked after c = rw (c.box.accounts i, eq-eqb i i refl) t.inv
-  take_here (taking.Taken e) after c =
+  take_here (Err taking.NotRegistered) after c = rw (c.box.accounts i, eq-eqb i i refl) t.inv
+  take_here (Err taking.NothingBooked) after c = rw (c.box.accounts i, eq-eqb i i refl) t.inv
+  take_here (Ok e) after c =
       let y = why_taken e o c.answer in
       let inv : Inv i y.place.ea y.place.book (tally i w.log) = rw y.known at t.inv in
       rw (c.box.accounts i, eq-eqb i i refl, y.known) (take_moves inv e (drop 1 y.place.book) y.first)
 
-  take_keeps : (j : ℕ) (r : TakeAnswer) (after : List ℕ) → collector.Takes (node j) r w.box after
+  take_keeps : (j : ℕ) (r : Result ErrorEntry TakeError) (after : List ℕ) → collector.Takes (node j) r w.box after
       → Inv i (ea_of (account_of after i)) (book_of (account_of after i)) (tally i (taken j r ∷ w.log))
   take_keeps j r after c =
       either (eqb j i)

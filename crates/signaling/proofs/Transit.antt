@@ -8,10 +8,10 @@ use mathlib.Core.List.{List, [], ◌∷◌, ◌++◌}
 use mathlib.Core.Option.{some}
 use native.Mathlib.Omega.{arith}
 use lib.ListN.{length, get_elem?, length-append}
+use Rattle.std.specs.Prelude.{Ok, Some}
 use Rattle.octets.proofs.Order.{le_or_lt}
 use Rattle.error_entry.specs.declared.ErrorEntry.{ErrorEntry}
 use Rattle.reporter.specs.Rules.{ea_told}
-use Rattle.reporter.specs.declared.acknowledge.Heard.TheVariants as heard
 use Rattle.signaling.proofs.Facts.{same_or_not, not_not, opposite, at_snoc, at_lt}
 use Rattle.signaling.proofs.Invariant.{Carries, en_said, batch_said, Answers, Requests}
 
@@ -135,7 +135,7 @@ module _ {i : ℕ} {en ea : Bool} {batch : List ErrorEntry} {sent : List (List �
       }
 
   -- a request to this head whose bit is EN was sent after the batch was booked
-  pub requests_fresh : (q : ℕ) (f : List ℕ) → at ≤ q → get_elem? sent q ≡ some f → (services : List ℕ) → ea_told services i f ≡ heard.Ea en
+  pub requests_fresh : (q : ℕ) (f : List ℕ) → at ≤ q → get_elem? sent q ≡ some f → (services : List ℕ) → ea_told services i f ≡ Ok (Some en)
       → (ea ≡ en) × (turned ≤ q)
   requests_fresh q f hq e services me =
       elim (same_or_not ea en) [

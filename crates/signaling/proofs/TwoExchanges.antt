@@ -7,11 +7,12 @@ use mathlib.Core.List.{List, [], ◌∷◌}
 use mathlib.Core.Option.{some}
 use native.Mathlib.Omega.{arith}
 use lib.ListN.{take}
+use Rattle.std.specs.Prelude.{Ok}
 use Rattle.services.specs.Table.{ds301}
 use Rattle.reporter.specs.Rules.{Head, opened, answer_frame, ea_answer}
-use Rattle.reporter.specs.declared.ReadAnswer.TheVariants.{Closed}
+use Rattle.reporter.specs.declared.ReadOutcome.TheVariants.{Closed}
 use Rattle.collector.specs.Rules.{fresh_account, book_answer, request_frame}
-use Rattle.collector.specs.declared.ReadAnswer.TheVariants as box
+use Rattle.collector.specs.declared.ReadOutcome.TheVariants as box
 use Rattle.signaling.specs.Calls.{sent, head_read, box_read, Log}
 use Rattle.signaling.specs.Example.{five, house, TwoExchanges}
 use Rattle.signaling.specs.Exchanges.{done, more, still}
@@ -25,7 +26,7 @@ use Rattle.signaling.proofs.Making.{world, Knows, sent_whole}
 -- an exchange in which the frames at these places are read, the request and the answer under these tables, the answer as it arrives
 abbrev exchanged : List ℕ → List ℕ → ℕ → ℕ → Head → List ℕ → Log → Log
 exchanged head_services box_services n m h arrived l =
-    head_read head_services (sent m) (request_frame 7 asked h.en) Closed ∷ request_of 7 h.en ∷ box_read box_services (sent n) arrived box.Booked ∷ answer_of h
+    head_read head_services (sent m) (request_frame 7 asked h.en) (Ok Closed) ∷ request_of 7 h.en ∷ box_read box_services (sent n) arrived (Ok box.Booked) ∷ answer_of h
     ∷ l
 
 -- the first answer arrives with two status entries

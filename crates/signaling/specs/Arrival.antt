@@ -1,18 +1,17 @@
 -- What the line may do to an answer on its way to the box: "a sent answer may reach the box with status entries put at any places among its
 -- entries" (02, CR 2). `Arrives` is the one relation between the octets that were sent and those that are given.
 -- Assumes nothing.
-use Rattle.std.specs.Prelude.{ℕ, ◌+◌, ◌*◌, ◌<◌, true, ◌≡◌, ◌⊎◌, List, ◌++◌, length, take, drop}
+use Rattle.std.specs.Prelude.{ℕ, ◌+◌, ◌*◌, ◌<◌, true, ◌≡◌, ◌⊎◌, List, ◌++◌, length, take, drop, Ok}
 use Rattle.types.specs.declared.error_mode.ErrorEntryMode.TheVariants.{Terminator}
 use Rattle.types.specs.declared.message_type.MessageType.TheVariants as message
 use Rattle.control.specs.ASnd.{asnd_payload_at}
 use Rattle.codec.specs.Frame.{kind_of}
-use Rattle.codec.specs.declared.KindAnswer.TheVariants as kind
 use Rattle.error_entry.specs.Entry.{entry_length, entry_of}
 use Rattle.status_response.specs.Fields.{front_length}
 
 -- the octets are an ASnd frame, whatever its service
 abbrev pub IsASnd : List ℕ → Type 0
-IsASnd f = kind_of f ≡ kind.Kind message.ASnd
+IsASnd f = kind_of f ≡ Ok message.ASnd
 
 -- where its entries begin, if it is a StatusResponse: behind the Ethernet header, the fields of the ASnd and the front of the StatusResponse
 abbrev pub entries_at : ℕ

@@ -6,41 +6,35 @@
 -- each reading has a table of services of its own (02, CR 1: "An error exchange under any loaded table books as before"): any octets, more
 -- than the 256 that a call can be lent, and others from call to call.
 -- Assumes nothing.
-use Rattle.std.specs.Prelude.{ℕ, suc, ◌≤◌, Bool, true, false, ◌||◌, ◌≡◌, List, [], ◌∷◌, ◌++◌, length, take, leb, eqb}
+use Rattle.std.specs.Prelude.{ℕ, suc, ◌≤◌, Bool, true, false, ◌||◌, ◌≡◌, List, [], ◌∷◌, ◌++◌, length, take, leb, eqb, Result, Ok, Err, Some, None}
 use Rattle.std.proofs.Math.Option.{Option, none, some}
 use Rattle.std.proofs.Math.ListN.{get_elem?}
 use Rattle.types.specs.Codes.{pick}
 use Rattle.types.specs.Nodes.{managing_node}
 pub use Rattle.types.specs.Nodes.{node}
-use Rattle.section.specs.declared.WriteAnswer.{WriteAnswer}
-use Rattle.section.specs.declared.WriteAnswer.TheVariants as write
 use Rattle.control.specs.declared.soa.SoAFlags.{SoAFlags}
 use Rattle.frame.specs.declared.PowerlinkFrame.{PowerlinkFrame}
 use Rattle.frame.specs.declared.PowerlinkFrame.TheVariants.{Soc, PReq, PRes, SoA, ASnd}
 use Rattle.codec.specs.Frame.{read_frame}
-use Rattle.codec.specs.declared.FrameAnswer.{FrameAnswer}
-use Rattle.codec.specs.declared.FrameAnswer.TheVariants as frame
 use Rattle.error_entry.specs.declared.ErrorEntry.{ErrorEntry}
 use Rattle.reporter.specs.Calls as reporter
 use Rattle.reporter.specs.Layout.{head_of}
 use Rattle.reporter.specs.Rules.{when_written, when_raised, Head, fresh_head, raise_answer, after_raise, opens, after_answer, acknowledge_answer, after_acknowledge, ea_told}
 use Rattle.reporter.specs.declared.AnswerFields.{AnswerFields}
-use Rattle.reporter.specs.declared.NewAnswer.TheVariants.{Made}
-use Rattle.reporter.specs.declared.RaiseAnswer.{RaiseAnswer}
-use Rattle.reporter.specs.declared.ReadAnswer.{ReadAnswer}
-use Rattle.reporter.specs.declared.acknowledge.Heard.TheVariants as heard
 use Rattle.collector.specs.Calls as collector
 use Rattle.collector.specs.Layout.{account_of}
 use Rattle.collector.specs.Rules.{when_booked, Account}
-use Rattle.collector.specs.declared.FlagsAnswer.TheVariants as flagging
-use Rattle.collector.specs.declared.ReadAnswer.{ReadAnswer as BoxReadAnswer}
-use Rattle.collector.specs.declared.RegisterAnswer.{RegisterAnswer}
-use Rattle.collector.specs.declared.RequestAnswer.{RequestAnswer}
-use Rattle.collector.specs.declared.RequestAnswer.TheVariants as requesting
+use Rattle.collector.specs.declared.RequestError.TheVariants as requesting
 use Rattle.collector.specs.declared.RequestFields.{RequestFields}
-use Rattle.collector.specs.declared.TakeAnswer.{TakeAnswer}
-use Rattle.collector.specs.declared.TakeAnswer.TheVariants as taking
+use Rattle.collector.specs.declared.TakeError.TheVariants as taking
 use Rattle.signaling.specs.Arrival.{Arrives}
+use Rattle.types.specs.declared.hal.PowerlinkError.{PowerlinkError}
+use Rattle.reporter.specs.declared.RaiseError.{RaiseError}
+use Rattle.collector.specs.declared.RegisterError.{RegisterError}
+use Rattle.collector.specs.declared.RequestError.{RequestError}
+use Rattle.collector.specs.declared.TakeError.{TakeError}
+use Rattle.reporter.specs.declared.ReadOutcome.{ReadOutcome}
+use Rattle.collector.specs.declared.ReadError.{ReadError}
 
 -- ---- the log of calls, their answers, and the octets that were given or written
 
@@ -50,13 +44,13 @@ pub data Origin : Type 0 where
   foreign : Origin
 
 pub data Event : Type 0 where
-  raised : ErrorEntry → RaiseAnswer → Event
-  answered : WriteAnswer → List ℕ → Event
-  head_read : (services : List ℕ) → Origin → List ℕ → ReadAnswer → Event
-  registered : ℕ → RegisterAnswer → Event
-  box_read : (services : List ℕ) → Origin → List ℕ → BoxReadAnswer → Event
-  requested : ℕ → RequestAnswer → List ℕ → Event
-  taken : ℕ → TakeAnswer → Event
+  raised : ErrorEntry → Result Unit RaiseError → Event
+  answered : Result ℕ PowerlinkError → List ℕ → Event
+  head_read : (services : List ℕ) → Origin → List ℕ → Result ReadOutcome PowerlinkError → Event
+  registered : ℕ → Result Unit RegisterError → Event
+  box_read : (services : List ℕ) → Origin → List ℕ → Result ReadOutcome ReadError → Event
+  requested : ℕ → Result ℕ RequestError → List ℕ → Event
+  taken : ℕ → Result ErrorEntry TakeError → Event
   hosted : List ℕ → Event
 
 -- the newest first
@@ -122,27 +116,27 @@ on_ruled f t = record { entries = t.entries; answers = t.answers; requests = t.r
 
 -- the entries: "of the Raises not refused"; "what the Takes for the head's ID handed out"
 
-abbrev pub accepts : RaiseAnswer → ErrorEntry → Entries → Entries
+abbrev pub accepts : Result Unit RaiseError → ErrorEntry → Entries → Entries
 accepts r e es = record { accepted = when_raised r (es.accepted ++ (e ∷ [])) es.accepted; handed_out = es.handed_out }
 
-abbrev pub if_taken : TakeAnswer → List ErrorEntry → List ErrorEntry
-if_taken (taking.Taken e) es = es ++ (e ∷ [])
-if_taken taking.NotRegistered es = es
-if_taken taking.NothingBooked es = es
+abbrev pub if_taken : Result ErrorEntry TakeError → List ErrorEntry → List ErrorEntry
+if_taken (Ok e) es = es ++ (e ∷ [])
+if_taken (Err taking.NotRegistered) es = es
+if_taken (Err taking.NothingBooked) es = es
 
-abbrev pub hands : Bool → TakeAnswer → Entries → Entries
+abbrev pub hands : Bool → Result ErrorEntry TakeError → Entries → Entries
 hands mine r es = record { accepted = es.accepted; handed_out = pick mine (if_taken r es.handed_out) es.handed_out }
 
 -- the line: "not refused sends a copy of the bytes it wrote, as many as the returned length"; and a frame is given to the other end
 
-abbrev pub if_answered : WriteAnswer → List ℕ → List (List ℕ) → List (List ℕ)
-if_answered (write.Written n) bs fs = fs ++ (take n bs ∷ [])
-if_answered (write.Refused e) bs fs = fs
+abbrev pub if_answered : Result ℕ PowerlinkError → List ℕ → List (List ℕ) → List (List ℕ)
+if_answered (Ok n) bs fs = fs ++ (take n bs ∷ [])
+if_answered (Err e) bs fs = fs
 
-abbrev pub if_requested : RequestAnswer → List ℕ → List (List ℕ) → List (List ℕ)
-if_requested (requesting.Written n) bs fs = fs ++ (take n bs ∷ [])
-if_requested requesting.NotRegistered bs fs = fs
-if_requested (requesting.Refused e) bs fs = fs
+abbrev pub if_requested : Result ℕ RequestError → List ℕ → List (List ℕ) → List (List ℕ)
+if_requested (Ok n) bs fs = fs ++ (take n bs ∷ [])
+if_requested (Err requesting.NotRegistered) bs fs = fs
+if_requested (Err (requesting.Frame e)) bs fs = fs
 
 abbrev pub sends : (List (List ℕ) → List (List ℕ)) → Line → Line
 sends f l = record { frames = f l.frames; at = l.at }
@@ -165,17 +159,17 @@ raises e h = after_raise (raise_answer e h) e h
 abbrev pub hears : List ℕ → ℕ → List ℕ → Head → Head
 hears services i bs h = after_acknowledge (acknowledge_answer (ea_told services i bs) h) h
 
-abbrev pub answers : WriteAnswer → ℕ → Ruled → Ruled
+abbrev pub answers : Result ℕ PowerlinkError → ℕ → Ruled → Ruled
 answers r next s =
     let new = when_written r (opens s.head) false in
     record { head = after_answer r s.head; opened_at = pick new next s.opened_at; is_booked = pick new false s.is_booked }
 
 -- "the box's reading of an answer sent since it first opened ends neither refused nor known"
-abbrev pub books_since : Origin → BoxReadAnswer → ℕ → Bool
+abbrev pub books_since : Origin → Result ReadOutcome ReadError → ℕ → Bool
 books_since foreign r at = false
 books_since (sent p) r at = when_booked r (leb at p) false
 
-abbrev pub books : Origin → BoxReadAnswer → Ruled → Ruled
+abbrev pub books : Origin → Result ReadOutcome ReadError → Ruled → Ruled
 books o r s = record { head = s.head; opened_at = s.opened_at; is_booked = books_since o r s.opened_at || s.is_booked }
 
 -- THE TABLE: what each call adds, for the head with ID i. A call that is not named in a part changes nothing there; a new call is one row.
@@ -233,9 +227,9 @@ source_of (PRes f) = f.source.0
 source_of (SoA f) = f.source.0
 source_of (ASnd f) = f.source.0
 
-abbrev pub NotFrom : ℕ → FrameAnswer → Type 0
-NotFrom i (frame.Refused e) = Unit {0}
-NotFrom i (frame.Frame f) = source_of f ≡ i → ⊥
+abbrev pub NotFrom : ℕ → Result PowerlinkFrame PowerlinkError → Type 0
+NotFrom i (Err e) = Unit {0}
+NotFrom i (Ok f) = source_of f ≡ i → ⊥
 
 -- what 01's line does to a frame: it neither alters nor reorders, so what is given is what was sent, at or behind the last place given
 abbrev pub Delivered : List ℕ → ℕ → Origin → List ℕ → Line → Type 0
@@ -256,57 +250,57 @@ ea_of (some p) = p.ea
 -- What the box's host may send under 240 on the line of the requests: any octets, as long as those that give head i an EA, under whichever
 -- table, give the box's
 abbrev pub Tells : ℕ → List ℕ → List ℕ → Type 0
-Tells i s bs = (services : List ℕ) (ea : Bool) → ea_told services i bs ≡ heard.Ea ea → ea ≡ ea_of (account_of s i)
+Tells i s bs = (services : List ℕ) (ea : Bool) → ea_told services i bs ≡ Ok (Some ea) → ea ≡ ea_of (account_of s i)
 
 -- One call between the head with ID i and the box, with its event: "the head's Raise, Answer and reading, and the box's registering,
 -- reading, request and Take, these for any ID"; or a frame that the box's host sends. What a call leaves is what its contract says; the other state stays.
 pub data Step (i : ℕ) (w : World) : Event → World → Type 0 where
-  raise : (e : ErrorEntry) (r : RaiseAnswer) (after : List ℕ) → reporter.Raises e r w.head after
+  raise : (e : ErrorEntry) (r : Result Unit RaiseError) (after : List ℕ) → reporter.Raises e r w.head after
       → Step i w (raised e r) (record { head = after; box = w.box; log = raised e r ∷ w.log })
-  answer : (services : List ℕ) (f : AnswerFields) (r : WriteAnswer) (after target written : List ℕ)
+  answer : (services : List ℕ) (f : AnswerFields) (r : Result ℕ PowerlinkError) (after target written : List ℕ)
       → reporter.Answers services f r w.head after target written
       → Step i w (answered r written) (record { head = after; box = w.box; log = answered r written ∷ w.log })
-  head_reads : (services : List ℕ) (o : Origin) (bs : List ℕ) (r : ReadAnswer) (after : List ℕ)
+  head_reads : (services : List ℕ) (o : Origin) (bs : List ℕ) (r : Result ReadOutcome PowerlinkError) (after : List ℕ)
       → Delivered services managing_node o bs (tally i w.log).requests
       → reporter.Reads services bs r w.head after
       → Step i w (head_read services o bs r) (record { head = after; box = w.box; log = head_read services o bs r ∷ w.log })
-  register : (j : ℕ) (r : RegisterAnswer) (after : List ℕ) → collector.Registers (node j) r w.box after
+  register : (j : ℕ) (r : Result Unit RegisterError) (after : List ℕ) → collector.Registers (node j) r w.box after
       → Step i w (registered j r) (record { head = w.head; box = after; log = registered j r ∷ w.log })
-  box_reads : (services : List ℕ) (o : Origin) (bs : List ℕ) (r : BoxReadAnswer) (after : List ℕ)
+  box_reads : (services : List ℕ) (o : Origin) (bs : List ℕ) (r : Result ReadOutcome ReadError) (after : List ℕ)
       → Reaches services i o bs (tally i w.log).answers
       → collector.Reads services bs r w.box after
       → Step i w (box_read services o bs r) (record { head = w.head; box = after; log = box_read services o bs r ∷ w.log })
-  request : (j : ℕ) (f : RequestFields) (r : RequestAnswer) (target written : List ℕ)
+  request : (j : ℕ) (f : RequestFields) (r : Result ℕ RequestError) (target written : List ℕ)
       → collector.Requests (node j) f r w.box target written
       → Step i w (requested j r written) (record { head = w.head; box = w.box; log = requested j r written ∷ w.log })
-  takes : (j : ℕ) (r : TakeAnswer) (after : List ℕ) → collector.Takes (node j) r w.box after
+  takes : (j : ℕ) (r : Result ErrorEntry TakeError) (after : List ℕ) → collector.Takes (node j) r w.box after
       → Step i w (taken j r) (record { head = w.head; box = after; log = taken j r ∷ w.log })
   hosts : (bs : List ℕ) → Tells i w.box bs
       → Step i w (hosted bs) (record { head = w.head; box = w.box; log = hosted bs ∷ w.log })
 
 -- "The list starts from a fresh box, a fresh head and a line with nothing sent"
 pub data Run (i : ℕ) : World → Type 0 where
-  fresh : (before head box : List ℕ) → reporter.Makes (node i) Made before head → collector.Fresh box
+  fresh : (before head box : List ℕ) → reporter.Makes (node i) (Ok tt) before head → collector.Fresh box
       → Run i (record { head = head; box = box; log = [] })
   call : {w v : World} {x : Event} → Run i w → Step i w x v → Run i v
 
 -- ---- what holds after it
 
 -- "what further Takes for it hand out until one is refused"
-abbrev pub TakeRefused : TakeAnswer → Type 0
-TakeRefused (taking.Taken e) = ⊥
-TakeRefused taking.NotRegistered = Unit {0}
-TakeRefused taking.NothingBooked = Unit {0}
+abbrev pub TakeRefused : Result ErrorEntry TakeError → Type 0
+TakeRefused (Ok e) = ⊥
+TakeRefused (Err taking.NotRegistered) = Unit {0}
+TakeRefused (Err taking.NothingBooked) = Unit {0}
 
 pub data Drained (i : ℕ) : List ℕ → List ErrorEntry → Type 0 where
-  over : {s : List ℕ} (r : TakeAnswer) (after : List ℕ) → collector.Takes (node i) r s after → TakeRefused r → Drained i s []
-  more : {s : List ℕ} (e : ErrorEntry) (after : List ℕ) (es : List ErrorEntry) → collector.Takes (node i) (taking.Taken e) s after
+  over : {s : List ℕ} (r : Result ErrorEntry TakeError) (after : List ℕ) → collector.Takes (node i) r s after → TakeRefused r → Drained i s []
+  more : {s : List ℕ} (e : ErrorEntry) (after : List ℕ) (es : List ErrorEntry) → collector.Takes (node i) (Ok e) s after
       → Drained i after es → Drained i s (e ∷ es)
 
 -- so many Takes for a head, one after the other, none refused
 pub data TakenTimes (i : ℕ) : ℕ → List ℕ → Type 0 where
   start : {s : List ℕ} → TakenTimes i 0 s
-  next : {n : ℕ} {s : List ℕ} (e : ErrorEntry) (after : List ℕ) → collector.Takes (node i) (taking.Taken e) s after → TakenTimes i n after
+  next : {n : ℕ} {s : List ℕ} (e : ErrorEntry) (after : List ℕ) → collector.Takes (node i) (Ok e) s after → TakenTimes i n after
       → TakenTimes i (suc n) s
 
 -- "what the Takes for the head's ID handed out, in order, then what further Takes for it hand out until one is refused"
@@ -334,12 +328,12 @@ pub record Demand3 : Type 0 where
 
 pub record FlagsTell : Type 0 where
   -- a frame that carries what `flags` told is one that the host may send
-  pub tells : (services : List ℕ) (i : ℕ) (s bs : List ℕ) (f : SoAFlags) → collector.Flags (node i) (flagging.Flags f) s
-      → ea_told services i bs ≡ heard.Ea f.ea
+  pub tells : (services : List ℕ) (i : ℕ) (s bs : List ℕ) (f : SoAFlags) → collector.Flags (node i) (Some f) s
+      → ea_told services i bs ≡ Ok (Some f.ea)
       → Tells i s bs
   -- and where it refuses with 11, one that carries EA 0
-  pub unregistered : (services : List ℕ) (i : ℕ) (s bs : List ℕ) → collector.Flags (node i) flagging.NotRegistered s
-      → ea_told services i bs ≡ heard.Ea false
+  pub unregistered : (services : List ℕ) (i : ℕ) (s bs : List ℕ) → collector.Flags (node i) None s
+      → ea_told services i bs ≡ Ok (Some false)
       → Tells i s bs
   -- and so is one that gives the head no EA, under one table and so under all
-  pub silent : (services : List ℕ) (i : ℕ) (s bs : List ℕ) → ((ea : Bool) → ea_told services i bs ≡ heard.Ea ea → ⊥) → Tells i s bs
+  pub silent : (services : List ℕ) (i : ℕ) (s bs : List ℕ) → ((ea : Bool) → ea_told services i bs ≡ Ok (Some ea) → ⊥) → Tells i s bs

@@ -2,15 +2,13 @@
 -- exchanges. And what they leave out has to be left out, three lists that lose entries: of a frame of the box's host with any EA, of one
 -- that was built before a newer request, and of a StatusResponse under the head's ID that the head did not send.
 -- Assumes nothing.
-use Rattle.std.specs.Prelude.{ℕ, Bool, true, false, ◌≡◌, List, [], ◌∷◌, ◌++◌, take, drop}
+use Rattle.std.specs.Prelude.{ℕ, Bool, true, false, ◌≡◌, List, [], ◌∷◌, ◌++◌, take, drop, Result, Ok, Err, Some}
 use Rattle.std.proofs.Math.Option.{some}
 use Rattle.std.proofs.Math.ListN.{get_elem?}
 use Rattle.types.specs.declared.error_mode.ErrorEntryMode.{ErrorEntryMode}
 use Rattle.types.specs.declared.error_mode.ErrorEntryMode.TheVariants.{Terminator, ErrorActive, ErrorCleared, EventOccurred}
 use Rattle.types.specs.declared.hal.PowerlinkError.TheVariants.{InvalidServiceId}
 use Rattle.services.specs.Table.{table_of, ds301}
-use Rattle.section.specs.declared.WriteAnswer.{WriteAnswer}
-use Rattle.section.specs.declared.WriteAnswer.TheVariants as write
 use Rattle.frame.specs.Write.{frame_bytes}
 use Rattle.frame.specs.declared.PowerlinkFrame.TheVariants.{ASnd}
 use Rattle.error_entry.specs.Entry.{entry_bytes}
@@ -21,24 +19,22 @@ use Rattle.reporter.specs.Calls as reporter
 use Rattle.reporter.specs.Layout.{head_of}
 use Rattle.reporter.specs.Rules.{status_fields, answer_asnd, ea_told}
 use Rattle.reporter.specs.declared.AnswerFields.{AnswerFields}
-use Rattle.reporter.specs.declared.RaiseAnswer.{RaiseAnswer}
-use Rattle.reporter.specs.declared.RaiseAnswer.TheVariants.{Raised, EntryInvalid, StatusEntry}
-use Rattle.reporter.specs.declared.ReadAnswer.{ReadAnswer}
-use Rattle.reporter.specs.declared.ReadAnswer.TheVariants as head
-use Rattle.reporter.specs.declared.acknowledge.Heard.TheVariants as heard
+use Rattle.reporter.specs.declared.RaiseError.TheVariants.{EntryInvalid, StatusEntry}
+use Rattle.reporter.specs.declared.ReadOutcome.TheVariants as head
 use Rattle.collector.specs.Calls as collector
 use Rattle.collector.specs.Layout.{account_of}
-use Rattle.collector.specs.declared.ReadAnswer.{ReadAnswer as BoxReadAnswer}
-use Rattle.collector.specs.declared.ReadAnswer.TheVariants as box
-use Rattle.collector.specs.declared.RegisterAnswer.{RegisterAnswer}
-use Rattle.collector.specs.declared.RegisterAnswer.TheVariants.{Registered}
-use Rattle.collector.specs.declared.RequestAnswer.{RequestAnswer}
-use Rattle.collector.specs.declared.RequestAnswer.TheVariants as requesting
-use Rattle.collector.specs.declared.TakeAnswer.{TakeAnswer}
-use Rattle.collector.specs.declared.TakeAnswer.TheVariants as taking
+use Rattle.collector.specs.declared.ReadError.TheVariants as boxError
+use Rattle.collector.specs.declared.ReadOutcome.TheVariants as box
 use Rattle.signaling.specs.Arrival.{put_in}
 use Rattle.signaling.specs.Calls.{Origin, sent, foreign, Event, raised, answered, head_read, registered, box_read, requested, taken, hosted, Log, tally, accepted, handed_out, answers_sent, is_booked, ruled, World, Reaches, Tells, Step, Run, Drained}
 use Rattle.signaling.specs.Exchanges.{pending, Exchanges, done, more, Room}
+use Rattle.types.specs.declared.hal.PowerlinkError.{PowerlinkError}
+use Rattle.reporter.specs.declared.RaiseError.{RaiseError}
+use Rattle.collector.specs.declared.RegisterError.{RegisterError}
+use Rattle.collector.specs.declared.RequestError.{RequestError}
+use Rattle.collector.specs.declared.TakeError.{TakeError}
+use Rattle.reporter.specs.declared.ReadOutcome.{ReadOutcome}
+use Rattle.collector.specs.declared.ReadError.{ReadError}
 
 abbrev pub example_entry : Bool → ErrorEntryMode → ℕ → ErrorEntry
 example_entry status mode code =
@@ -72,13 +68,13 @@ house = table_of (0x02 ∷ 0x20 ∷ [])
 
 -- the calls and what they answered, the readings with their tables, without the octets, and the frames of the box's host
 pub data Call : Type 0 where
-  raises : ErrorEntry → RaiseAnswer → Call
-  answers : WriteAnswer → Call
-  by_head : List ℕ → Origin → ReadAnswer → Call
-  registers : ℕ → RegisterAnswer → Call
-  by_box : List ℕ → Origin → BoxReadAnswer → Call
-  requests : ℕ → RequestAnswer → Call
-  takes : ℕ → TakeAnswer → Call
+  raises : ErrorEntry → Result Unit RaiseError → Call
+  answers : Result ℕ PowerlinkError → Call
+  by_head : List ℕ → Origin → Result ReadOutcome PowerlinkError → Call
+  registers : ℕ → Result Unit RegisterError → Call
+  by_box : List ℕ → Origin → Result ReadOutcome ReadError → Call
+  requests : ℕ → Result ℕ RequestError → Call
+  takes : ℕ → Result ErrorEntry TakeError → Call
   hosts : Call
 
 abbrev pub call_of : Event → Call
@@ -100,50 +96,50 @@ calls (x ∷ l) = calls l ++ (call_of x ∷ [])
 
 -- both are registered, and the box asks the other one: request 0
 abbrev pub at_start : List Call
-at_start = registers 7 Registered ∷ registers 9 Registered ∷ requests 9 (requesting.Written 60) ∷ []
+at_start = registers 7 (Ok tt) ∷ registers 9 (Ok tt) ∷ requests 9 (Ok 60) ∷ []
 
 -- an entry of mode 0 is refused, and so is one with bit 15 set; five are waiting
 abbrev pub five_raised : List Call
 five_raised =
-    raises (entry Terminator 0x8160) EntryInvalid ∷ raises (shown ErrorActive 0x8170) StatusEntry ∷ raises (entry ErrorActive 0x8161) Raised
-    ∷ raises (entry ErrorCleared 0x8162) Raised
-    ∷ raises (entry EventOccurred 0x8163) Raised
-    ∷ raises (entry ErrorActive 0x8164) Raised
-    ∷ raises (entry ErrorCleared 0x8165) Raised
+    raises (entry Terminator 0x8160) (Err EntryInvalid) ∷ raises (shown ErrorActive 0x8170) (Err StatusEntry) ∷ raises (entry ErrorActive 0x8161) (Ok tt)
+    ∷ raises (entry ErrorCleared 0x8162) (Ok tt)
+    ∷ raises (entry EventOccurred 0x8163) (Ok tt)
+    ∷ raises (entry ErrorActive 0x8164) (Ok tt)
+    ∷ raises (entry ErrorCleared 0x8165) (Ok tt)
     ∷ []
 
 -- answers 0 and 1 carry the first four: answer 0 is lost
 abbrev pub answered_twice : List Call
-answered_twice = answers (write.Written 132) ∷ answers (write.Written 132) ∷ []
+answered_twice = answers (Ok 132) ∷ answers (Ok 132) ∷ []
 
 -- frames from elsewhere: one under the table of DS 301 and an ASnd of service 20h under `house` are no StatusResponse; that ASnd under the
 -- table of DS 301, which does not hold 20h, is refused with 6. Answer 1 is booked under `house`, and its repeat is known under that of DS 301,
 -- each with status entries of its own put in
 abbrev pub read_twice : List Call
 read_twice =
-    by_box ds301 foreign box.NotStatusResponse ∷ by_box house foreign box.NotStatusResponse
-    ∷ by_box ds301 foreign (box.Refused (InvalidServiceId 0x20))
-    ∷ by_box house (sent 1) box.Booked
-    ∷ by_box ds301 (sent 1) box.Known
+    by_box ds301 foreign (Err boxError.NotStatusResponse) ∷ by_box house foreign (Err boxError.NotStatusResponse)
+    ∷ by_box ds301 foreign (Err (boxError.Frame (InvalidServiceId 0x20)))
+    ∷ by_box house (sent 1) (Ok box.Booked)
+    ∷ by_box ds301 (sent 1) (Ok box.Known)
     ∷ []
 
 -- the other head's request and a frame from elsewhere are ignored; request 1 is lost; request 2 closes the batch under the table of DS 301,
 -- and its repeat under `house` closes nothing
 abbrev pub first_closed : List Call
 first_closed =
-    by_head house (sent 0) head.Ignored ∷ by_head ds301 foreign head.Ignored ∷ requests 7 (requesting.Written 60) ∷ requests 7 (requesting.Written 60)
-    ∷ by_head ds301 (sent 2) head.Closed
-    ∷ by_head house (sent 2) head.Kept
+    by_head house (sent 0) (Ok head.Ignored) ∷ by_head ds301 foreign (Ok head.Ignored) ∷ requests 7 (Ok 60) ∷ requests 7 (Ok 60)
+    ∷ by_head ds301 (sent 2) (Ok head.Closed)
+    ∷ by_head house (sent 2) (Ok head.Kept)
     ∷ []
 
 -- answer 2 carries the fifth and is booked under the table of DS 301; a frame of the box's host, on the line of the requests behind
 -- request 2, closes that batch under `house`
 abbrev pub second_closed : List Call
-second_closed = answers (write.Written 72) ∷ by_box ds301 (sent 2) box.Booked ∷ hosts ∷ by_head house (sent 3) head.Closed ∷ []
+second_closed = answers (Ok 72) ∷ by_box ds301 (sent 2) (Ok box.Booked) ∷ hosts ∷ by_head house (sent 3) (Ok head.Closed) ∷ []
 
 -- the oldest is taken
 abbrev pub one_taken : List Call
-one_taken = takes 7 (taking.Taken (entry ErrorActive 0x8161)) ∷ []
+one_taken = takes 7 (Ok (entry ErrorActive 0x8161)) ∷ []
 
 pub record LossAndRepeat : Type 0 where
   pub w : World
@@ -151,13 +147,13 @@ pub record LossAndRepeat : Type 0 where
   pub made : calls w.log ≡ at_start ++ (five_raised ++ (answered_twice ++ (read_twice ++ (first_closed ++ (second_closed ++ one_taken)))))
   -- the ASnd of service 20h: under both tables it is the same frame
   pub asnd : List ℕ
-  pub held : get_elem? w.log 14 ≡ some (box_read house foreign asnd box.NotStatusResponse)
-  pub unheld : get_elem? w.log 13 ≡ some (box_read ds301 foreign asnd (box.Refused (InvalidServiceId 0x20)))
+  pub held : get_elem? w.log 14 ≡ some (box_read house foreign asnd (Err boxError.NotStatusResponse))
+  pub unheld : get_elem? w.log 13 ≡ some (box_read ds301 foreign asnd (Err (boxError.Frame (InvalidServiceId 0x20))))
   -- answer 1: when the box books it, status entries stand before its first and behind its second entry; in its repeat another one behind the last
   pub answer : List ℕ
   pub is_sent : get_elem? (answers_sent 7 w.log) 1 ≡ some answer
-  pub with_two : get_elem? w.log 12 ≡ some (box_read house (sent 1) (two_put_in answer) box.Booked)
-  pub with_other : get_elem? w.log 11 ≡ some (box_read ds301 (sent 1) (put_in 4 (entry_bytes (shown EventOccurred 0x8172)) answer) box.Known)
+  pub with_two : get_elem? w.log 12 ≡ some (box_read house (sent 1) (two_put_in answer) (Ok box.Booked))
+  pub with_other : get_elem? w.log 11 ≡ some (box_read ds301 (sent 1) (put_in 4 (entry_bytes (shown EventOccurred 0x8172)) answer) (Ok box.Known))
   pub entries : accepted 7 w.log ≡ five
   pub handed : handed_out 7 w.log ≡ take 1 five
   -- the others are booked, and nothing is left at the head
@@ -194,9 +190,9 @@ pub record FreeEaLoses : Type 0 where
   pub entries : accepted 7 w.log ≡ five
   pub place : account_of w.box 7 ≡ some (record { ea = false; book = [] })
   pub frame : List ℕ
-  pub gives : (services : List ℕ) → ea_told services 7 frame ≡ heard.Ea true
+  pub gives : (services : List ℕ) → ea_told services 7 frame ≡ Ok (Some true)
   pub after : List ℕ
-  pub reads : (services : List ℕ) → reporter.Reads services frame head.Closed w.head after
+  pub reads : (services : List ℕ) → reporter.Reads services frame (Ok head.Closed) w.head after
   pub left : head_of after ≡ record { id = 7; en = true; batch = []; waiting = entry ErrorCleared 0x8165 ∷ [] }
 
 -- calls that go on from a world
@@ -211,7 +207,7 @@ pub record BuiltAheadLoses : Type 0 where
   pub v : World
   pub before : Run 7 v
   pub frame : List ℕ
-  pub gives : (services : List ℕ) → ea_told services 7 frame ≡ heard.Ea false
+  pub gives : (services : List ℕ) → ea_told services 7 frame ≡ Ok (Some false)
   pub built : Tells 7 v.box frame
   pub w : World
   pub onward : Onward 7 v w
@@ -221,7 +217,7 @@ pub record BuiltAheadLoses : Type 0 where
   pub holds : head_of w.head ≡ record { id = 7; en = false; batch = entry ErrorCleared 0x8165 ∷ []; waiting = [] }
   pub late : Tells 7 w.box frame → ⊥
   pub after : List ℕ
-  pub reads : (services : List ℕ) → reporter.Reads services frame head.Closed w.head after
+  pub reads : (services : List ℕ) → reporter.Reads services frame (Ok head.Closed) w.head after
   pub left : head_of after ≡ record { id = 7; en = false; batch = []; waiting = [] }
 
 -- a StatusResponse of node 7 with EN 0 and no entries, as the writers of frames and of StatusResponses make it: no head is asked
@@ -241,13 +237,13 @@ pub record MadeStatusLoses : Type 0 where
   -- no step of a list: the head has not sent it, and its source is no other
   pub strange : (services : List ℕ) (o : Origin) → Reaches services 7 o (made_status fields) (tally 7 v.log).answers → ⊥
   pub after : List ℕ
-  pub reads : (services : List ℕ) → collector.Reads services (made_status fields) box.Booked v.box after
+  pub reads : (services : List ℕ) → collector.Reads services (made_status fields) (Ok box.Booked) v.box after
   -- the calls behind it are steps of a list
   pub w : World
   pub onward : Onward 7 (record { head = v.head; box = after; log = v.log }) w
   pub entries : accepted 7 w.log ≡ five
   pub made : calls w.log
       ≡ calls v.log
-      ++ (answers (write.Written 72) ∷ by_box house (sent 2) box.Known ∷ requests 7 (requesting.Written 60) ∷ by_head ds301 (sent 3) head.Closed ∷ [])
+      ++ (answers (Ok 72) ∷ by_box house (sent 2) (Ok box.Known) ∷ requests 7 (Ok 60) ∷ by_head ds301 (sent 3) (Ok head.Closed) ∷ [])
   pub place : account_of w.box 7 ≡ some (record { ea = false; book = take 4 five })
   pub left : head_of w.head ≡ record { id = 7; en = false; batch = []; waiting = [] }

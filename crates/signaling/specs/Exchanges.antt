@@ -1,20 +1,18 @@
 -- The w exchanges: 01's bound on how long a backlog lasts, with places for all of it at the start (`Progress`) and with places as each
 -- exchange needs them (`StepwiseProgress`), which is more.
 -- Assumes nothing.
-use Rattle.std.specs.Prelude.{ℕ, suc, ◌+◌, ◌-◌, ◌≤◌, Bool, ◌≡◌, List, [], ◌++◌, length}
+use Rattle.std.specs.Prelude.{ℕ, suc, ◌+◌, ◌-◌, ◌≤◌, Bool, ◌≡◌, List, [], ◌++◌, length, Result, Ok, Err, Some}
 use Rattle.std.proofs.Math.Option.{some}
-use Rattle.section.specs.declared.WriteAnswer.TheVariants as write
 use Rattle.error_entry.specs.declared.ErrorEntry.{ErrorEntry}
 use Rattle.reporter.specs.Rules.{ea_told}
-use Rattle.reporter.specs.declared.RaiseAnswer.TheVariants.{Raised, EntryInvalid, StatusEntry, QueueFull}
-use Rattle.reporter.specs.declared.ReadAnswer.{ReadAnswer}
-use Rattle.reporter.specs.declared.acknowledge.Heard.TheVariants as heard
+use Rattle.reporter.specs.declared.RaiseError.TheVariants.{EntryInvalid, StatusEntry, QueueFull}
 use Rattle.collector.specs.Layout.{account_of}
 use Rattle.collector.specs.Rules.{Account}
-use Rattle.collector.specs.declared.ReadAnswer.{ReadAnswer as BoxReadAnswer}
-use Rattle.collector.specs.declared.ReadAnswer.TheVariants as box
-use Rattle.collector.specs.declared.RequestAnswer.TheVariants as requesting
+use Rattle.collector.specs.declared.ReadError.TheVariants as boxError
 use Rattle.signaling.specs.Calls.{sent, foreign, Event, raised, answered, head_read, registered, box_read, requested, taken, hosted, answers_sent, requests_sent, ruled, unbooked, World, Step, Run}
+use Rattle.reporter.specs.declared.ReadOutcome.{ReadOutcome}
+use Rattle.types.specs.declared.hal.PowerlinkError.{PowerlinkError}
+use Rattle.collector.specs.declared.ReadError.{ReadError}
 
 -- "w entries (waiting and open)"
 abbrev pub pending : ℕ → World → List ErrorEntry
@@ -24,10 +22,10 @@ pending i w = (ruled i w.log).batch ++ (ruled i w.log).waiting
 -- reads no answer of this head. The head may read whatever the box and its host sent, in the order of sending (`Delivered`), also what
 -- gives it an EA: this is wider than 01. All else may be called.
 abbrev pub Quiet : ℕ → Event → Type 0
-Quiet i (raised e Raised) = ⊥
-Quiet i (raised e EntryInvalid) = Unit {0}
-Quiet i (raised e StatusEntry) = Unit {0}
-Quiet i (raised e QueueFull) = Unit {0}
+Quiet i (raised e (Ok tt)) = ⊥
+Quiet i (raised e (Err EntryInvalid)) = Unit {0}
+Quiet i (raised e (Err StatusEntry)) = Unit {0}
+Quiet i (raised e (Err QueueFull)) = Unit {0}
 Quiet i (answered r bs) = Unit {0}
 Quiet i (head_read services o bs r) = Unit {0}
 Quiet i (registered j r) = Unit {0}
@@ -40,10 +38,10 @@ Quiet i (hosted bs) = Unit {0}
 -- "On the line a repeat arrives before any later frame of the same sender": the frame that was read last is read once more,
 -- under whichever table; an answer with whichever status entries
 abbrev pub AnswerAgain : ℕ → Event → Type 0
-AnswerAgain p x = (services : List ℕ) × (bs : List ℕ) × (r : BoxReadAnswer) × (x ≡ box_read services (sent p) bs r)
+AnswerAgain p x = (services : List ℕ) × (bs : List ℕ) × (r : Result ReadOutcome ReadError) × (x ≡ box_read services (sent p) bs r)
 
 abbrev pub RequestAgain : ℕ → List ℕ → Event → Type 0
-RequestAgain q bs x = (services : List ℕ) × (r : ReadAnswer) × (x ≡ head_read services (sent q) bs r)
+RequestAgain q bs x = (services : List ℕ) × (r : Result ReadOutcome PowerlinkError) × (x ≡ head_read services (sent q) bs r)
 
 abbrev pub NoRepeat : Event → Type 0
 NoRepeat x = ⊥
@@ -61,13 +59,13 @@ pub record Exchange (i : ℕ) (w v : World) : Type 0 where
   pub length₁ : ℕ
   pub answer : List ℕ
   pub w₁ : World
-  pub answers : Step i w (answered (write.Written length₁) answer) w₁
+  pub answers : Step i w (answered (Ok length₁) answer) w₁
   pub w₂ : World
   pub quiet₁ : Quietly i NoRepeat w₁ w₂
   pub p : ℕ
   pub answer_read : List ℕ
   pub box_services : List ℕ
-  pub box_says : BoxReadAnswer
+  pub box_says : Result ReadOutcome ReadError
   pub w₃ : World
   pub box_reads : Step i w₂ (box_read box_services (sent p) answer_read box_says) w₃
   pub new_answer : length (answers_sent i w.log) ≤ p
@@ -77,18 +75,18 @@ pub record Exchange (i : ℕ) (w v : World) : Type 0 where
   pub length₂ : ℕ
   pub request : List ℕ
   pub w₅ : World
-  pub requests : Step i w₄ (requested i (requesting.Written length₂) request) w₅
+  pub requests : Step i w₄ (requested i (Ok length₂) request) w₅
   pub w₆ : World
   pub quiet₃ : Quietly i NoRepeat w₅ w₆
   pub q : ℕ
   pub request_read : List ℕ
   pub head_services : List ℕ
-  pub head_says : ReadAnswer
+  pub head_says : Result ReadOutcome PowerlinkError
   pub w₇ : World
   pub head_reads : Step i w₆ (head_read head_services (sent q) request_read head_says) w₇
   pub new_request : length (requests_sent i w₄.log) ≤ q
   pub ea : Bool
-  pub mine : ea_told head_services i request_read ≡ heard.Ea ea
+  pub mine : ea_told head_services i request_read ≡ Ok (Some ea)
   -- and repeats of the request before the head writes again
   pub quiet₄ : Quietly i (RequestAgain q request_read) w₇ v
 
@@ -118,7 +116,7 @@ IsRegistered i w = (account : Account) × (account_of w.box i ≡ some account)
 -- each exchange finds the places that it needs: its answer, when first read, is not refused with 12
 abbrev pub Found : {i n : ℕ} {w v : World} → Exchanges i n w v → Type 0
 Found (done l) = Unit {0}
-Found (more l x xs) = (x.box_says ≡ box.BookFull → ⊥) × Found xs
+Found (more l x xs) = (x.box_says ≡ Err boxError.BookFull → ⊥) × Found xs
 
 pub record StepwiseProgress : Type 0 where
   pub closes : (i n : ℕ) (w v : World) → Run i w → IsRegistered i w → (xs : Exchanges i n w v) → Found xs

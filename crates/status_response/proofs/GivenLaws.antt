@@ -11,8 +11,8 @@ use lib.Dec.{eqb, leb}
 use lib.Seq.{sets, length-sets, take-add, take_all, get_or-drop, length-take-le}
 use borrow.Author.Tests.{le-leb, eq-eqb, eqb-true, leb-true, leb-false}
 use borrow.Rule.Slice.PartMut.{mid_of, put_mid}
+use Rattle.std.specs.Prelude.{Ok, Err}
 use Rattle.octets.proofs.Sets.{sets_append}
-use Rattle.section.specs.declared.WriteAnswer.TheVariants.{Written, Refused}
 use Rattle.section.proofs.Sections.{refuses, writes}
 use Rattle.types.specs.Codes.{need}
 use Rattle.types.specs.declared.hal.PowerlinkError.TheVariants.{BufferTooShort}
@@ -135,11 +135,11 @@ module _ (f : StatusFields) (g : StaticErrorBitField) (s t : List ℕ) where
       omega arith
 
   -- no whole entries, or a target that is too short for them
-  refused : (b : Bool) → need b false (leb (status_length n) (length t)) ≡ false → WritesWhole b whole (Refused BufferTooShort) t t
+  refused : (b : Bool) → need b false (leb (status_length n) (length t)) ≡ false → WritesWhole b whole (Err BufferTooShort) t t
   refused true e = refuses whole t (omega (arith, whole_length, leb-false (status_length n) (length t) e))
   refused false e = (refl, refl, refl)
 
-  pub status_refused : given_fit s (length t) ≡ false → WritesWhole (eqb (length s % entry_length) 0) whole (Refused BufferTooShort) t t
+  pub status_refused : given_fit s (length t) ≡ false → WritesWhole (eqb (length s % entry_length) 0) whole (Err BufferTooShort) t t
   status_refused e = refused (eqb (length s % entry_length) 0) e
 
   module _ (o : Octets s) (fit : given_fit s (length t) ≡ true) where
@@ -155,7 +155,7 @@ module _ (f : StatusFields) (g : StaticErrorBitField) (s t : List ℕ) where
 
     pub status_written : (h t₁ t₂ t₃ : List ℕ) (k : ℕ) → h ≡ head_bytes f g → t₁ ≡ sets t 0 h → t₂ ≡ sets t₁ front_length s
         → t₃ ≡ sets t₂ (front_length + entry_length * n) (replicate entry_length 0) → k ≡ status_length n
-        → WritesWhole (eqb (length s % entry_length) 0) whole (Written k) t t₃
+        → WritesWhole (eqb (length s % entry_length) 0) whole (Ok k) t t₃
     status_written h t₁ t₂ t₃ k eh e₁ e₂ e₃ ek =
         let e : t₃ ≡ sets t 0 whole = e₃ ∙ rw (e₂, e₁, eh) three_copies in
         let b = given_fits s (length t) fit in

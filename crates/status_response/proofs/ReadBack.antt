@@ -8,6 +8,7 @@ use native.Mathlib.Omega.{arith}
 use lib.ListN.{length, get_or, take, drop}
 use lib.Seq.{drop-cons, take_all}
 use borrow.Author.Tests.{le-leb}
+use Rattle.std.specs.Prelude.{Ok}
 use Rattle.octets.specs.Numbers.{bit}
 use Rattle.types.proofs.ReadBack.{state_known}
 use Rattle.section.specs.Write.{at_bit}
@@ -17,7 +18,6 @@ use Rattle.status_response.specs.Fields.{en_bit, ec_bit, head_bytes, read_fields
 use Rattle.status_response.specs.ReadBack.{StatusReadsBack}
 use Rattle.status_response.specs.Steps.{status_bytes}
 use Rattle.status_response.specs.declared.bit_field.StaticErrorBitField.{StaticErrorBitField}
-use Rattle.status_response.specs.declared.fields.StatusAnswer.TheVariants.{Status}
 use Rattle.status_response.specs.declared.fields.StatusFields.{StatusFields}
 use Rattle.types.proofs.PollBack.{poll_priority, poll_requests}
 use Rattle.status_response.proofs.StepsBack.{steps_back, entries_back}
@@ -46,7 +46,7 @@ elements_are (suc n) i l h =
     rw (drop-cons l i 0 (omega arith)) (ap (λ (r : List ℕ). get_or l i 0 ∷ r) (elements_are n (suc i) l (omega arith)))
 
 module _ (f : StatusFields) (field : StaticErrorBitField) (es : List ErrorEntry) (behind : List ℕ) where
-  fields_back : f.rs.0 ≤ 7 → read_fields (status_bytes (head_bytes f field) es ++ behind) ≡ Status f
+  fields_back : f.rs.0 ≤ 7 → read_fields (status_bytes (head_bytes f field) es ++ behind) ≡ Ok f
   unfolding read_fields status_bytes head_bytes field_bytes
   fields_back h =
       rw (

@@ -9,56 +9,53 @@ use lib.Dec.{leb}
 use lib.ListN.{length, drop, length-drop}
 use native.Mathlib.Omega.{arith}
 use borrow.Author.Tests.{leb-true, leb-false, le-leb, lt-leb}
+use Rattle.std.specs.Prelude.{Ok, Err, Option, Some, None}
 use Rattle.octets.proofs.Order.{le_or_lt}
 use Rattle.types.specs.declared.error_mode.ErrorEntryMode.{ErrorEntryMode}
 use Rattle.types.specs.Codes.{need}
 use Rattle.types.specs.declared.hal.PowerlinkError.{PowerlinkError}
 use Rattle.types.specs.declared.hal.PowerlinkError.TheVariants.{BufferTooShort}
 use Rattle.error_entry.specs.Entry.{entry_of, read_entry}
-use Rattle.error_entry.specs.declared.ErrorEntryAnswer.TheVariants as entry
-use Rattle.error_entry.specs.declared.ErrorEntryAnswer.TheVariants.{Refused}
 use Rattle.error_entry.specs.declared.ErrorEntry.{ErrorEntry}
 use Rattle.status_response.specs.Steps.{unless_terminator, step_at}
-use Rattle.status_response.specs.declared.walk.EntryStep.{EntryStep}
-use Rattle.status_response.specs.declared.walk.EntryStep.TheVariants.{Entry, End}
 
 module _ (s : List ℕ) (offset : ℕ) where
   -- under 20 octets are left
-  pub step_none : length s - offset < 20 → End ≡ step_at s offset
+  pub step_none : length s - offset < 20 → None ≡ step_at s offset
   unfolding step_at
   step_none h = split (le_or_lt 20 (length s))
     where
-      split : (20 ≤ length s) ⊎ (length s < 20) → End ≡ step_at s offset
+      split : (20 ≤ length s) ⊎ (length s < 20) → None ≡ step_at s offset
       split (inl long) = rw (le-leb 20 (length s) long, lt-leb offset (length s - 20) (omega arith))
       split (inr short) = rw (lt-leb 20 (length s) short)
 
   -- by the mode of the entry that stands there
-  pub step_by_mode : (t : List ℕ) (e : ErrorEntry) (m : ErrorEntryMode) (r : EntryStep) → 20 ≤ length s - offset → t ≡ drop offset s → e ≡ entry_of t
-      → e.entry_type.mode ≡ m → r ≡ unless_terminator m (Entry e (offset + 20)) End → r ≡ step_at s offset
+  pub step_by_mode : (t : List ℕ) (e : ErrorEntry) (m : ErrorEntryMode) (r : Option (ErrorEntry × ℕ)) → 20 ≤ length s - offset → t ≡ drop offset s → e ≡ entry_of t
+      → e.entry_type.mode ≡ m → r ≡ unless_terminator m (Some (e, (offset + 20))) None → r ≡ step_at s offset
   unfolding step_at
   step_by_mode t e m r h et ee em er =
       rw (le-leb 20 (length s) (omega arith), le-leb offset (length s - 20) (omega arith), ← et, ← ee)
-      (er ∙ ap (λ (k : ErrorEntryMode). unless_terminator k (Entry e (offset + 20)) End) (sym em))
+      (er ∙ ap (λ (k : ErrorEntryMode). unless_terminator k (Some (e, (offset + 20))) None) (sym em))
 
   -- of the entry that was read there, or refused
   module _ (t : List ℕ) (et : t ≡ drop offset s) where
     rest : length t ≡ length s - offset
     rest = ap length et ∙ length-drop offset s
 
-    pub step_refused : (e : PowerlinkError) → read_entry t ≡ Refused e → End ≡ step_at s offset
+    pub step_refused : (e : PowerlinkError) → read_entry t ≡ Err e → None ≡ step_at s offset
     unfolding read_entry
     step_refused e q = split (leb 20 (length t)) refl q
       where
-        split : (b : Bool) → leb 20 (length t) ≡ b → need b (Refused BufferTooShort) (entry.Entry (entry_of t)) ≡ Refused e → End ≡ step_at s offset
+        split : (b : Bool) → leb 20 (length t) ≡ b → need b (Err BufferTooShort) (Ok (entry_of t)) ≡ Err e → None ≡ step_at s offset
         split true k a = let z : ◌≡◌ {A = ℕ} 0 1 = cc in absurd (omega arith)
         split false k a = step_none (omega (arith, rest, leb-false 20 (length t) k))
 
     -- by its mode
-    pub step_read : (e : ErrorEntry) (m : ErrorEntryMode) (r : EntryStep) → read_entry t ≡ entry.Entry e → e.entry_type.mode ≡ m
-        → r ≡ unless_terminator m (Entry e (offset + 20)) End → r ≡ step_at s offset
+    pub step_read : (e : ErrorEntry) (m : ErrorEntryMode) (r : Option (ErrorEntry × ℕ)) → read_entry t ≡ Ok e → e.entry_type.mode ≡ m
+        → r ≡ unless_terminator m (Some (e, (offset + 20))) None → r ≡ step_at s offset
     unfolding read_entry
     step_read e m r q em er = split (leb 20 (length t)) refl q
       where
-        split : (b : Bool) → leb 20 (length t) ≡ b → need b (Refused BufferTooShort) (entry.Entry (entry_of t)) ≡ entry.Entry e → r ≡ step_at s offset
+        split : (b : Bool) → leb 20 (length t) ≡ b → need b (Err BufferTooShort) (Ok (entry_of t)) ≡ Ok e → r ≡ step_at s offset
         split true k a = step_by_mode t e m r (omega (arith, rest, leb-true 20 (length t) k)) et (cc) em er
         split false k a = let z : ◌≡◌ {A = ℕ} 0 1 = cc in absurd (omega arith)

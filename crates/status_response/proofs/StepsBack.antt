@@ -8,6 +8,7 @@ use native.Mathlib.Omega.{arith}
 use lib.ListN.{length, drop, replicate, length-append, length-drop}
 use lib.Seq.{drop_at, drop-drop}
 use borrow.Author.Tests.{le-leb, lt-leb}
+use Rattle.std.specs.Prelude.{Some, None}
 use Rattle.octets.specs.Numbers.{le_at}
 use Rattle.octets.proofs.Order.{le_or_lt}
 use Rattle.types.specs.Modes.{mode_in}
@@ -18,13 +19,12 @@ use Rattle.error_entry.specs.declared.ErrorEntry.{ErrorEntry}
 use Rattle.error_entry.proofs.ReadBack.{entry_back_lem}
 use Rattle.status_response.specs.ReadBack.{stepped, walked, until_terminator, EachInRange}
 use Rattle.status_response.specs.Steps.{entries_bytes, entries_in, status_bytes, status_entries, step_at, unless_terminator}
-use Rattle.status_response.specs.declared.walk.EntryStep.TheVariants.{Entry, End}
 use Rattle.status_response.proofs.Places.{entry_length}
 use Rattle.status_response.proofs.StepLaws.{step_none, step_by_mode}
 use Rattle.status_response.proofs.WriteLaws.{status_length_lem}
 
 by_mode : (m : ErrorEntryMode) (e : ErrorEntry) (next : ℕ) (more : ℕ → List ErrorEntry)
-    → stepped (unless_terminator m (Entry e next) End) more ≡ unless_terminator m (e ∷ more next) []
+    → stepped (unless_terminator m (Some (e, next)) None) more ≡ unless_terminator m (e ∷ more next) []
 by_mode Terminator e next more = refl
 by_mode ErrorActive e next more = refl
 by_mode ErrorCleared e next more = refl
@@ -32,7 +32,7 @@ by_mode EventOccurred e next more = refl
 
 module _ (s : List ℕ) where
   a_step : (offset : ℕ) → 20 ≤ length s - offset
-      → unless_terminator (entry_of (drop offset s)).entry_type.mode (Entry (entry_of (drop offset s)) (offset + 20)) End ≡ step_at s offset
+      → unless_terminator (entry_of (drop offset s)).entry_type.mode (Some ((entry_of (drop offset s)), (offset + 20))) None ≡ step_at s offset
   a_step offset h =
       step_by_mode s offset (drop offset s) (entry_of (drop offset s)) (entry_of (drop offset s)).entry_type.mode _ h refl refl refl refl
 

@@ -8,13 +8,12 @@ use native.Mathlib.Omega.{arith}
 use native.Mathlib.Nat.{le_of_lt}
 use lib.ListN.{length, take, drop, replicate, length-append, length-take, length-replicate}
 use lib.Seq.{sets, sets-eq, take-suc, take-length, length-take-le, drop_at}
+use Rattle.std.specs.Prelude.{Result, Ok, Err}
 use Rattle.octets.proofs.Sets.{sets_append, sets_front}
 use Rattle.types.specs.Codes.{pick}
 use Rattle.types.specs.declared.hal.PowerlinkError.{PowerlinkError}
 use Rattle.types.specs.declared.hal.PowerlinkError.TheVariants.{BufferTooShort}
 use Rattle.section.specs.Write.{Writes}
-use Rattle.section.specs.declared.WriteAnswer.{WriteAnswer}
-use Rattle.section.specs.declared.WriteAnswer.TheVariants.{Written, Refused}
 use Rattle.section.proofs.Behind.{refused, written}
 use Rattle.section.proofs.Sections.{refuses, writes}
 use Rattle.error_entry.specs.Entry.{entry_bytes, terminator}
@@ -73,17 +72,17 @@ module _ (es : List ErrorEntry) (t : List ℕ) where
       ∙ ap (λ (s : List ℕ). sets t 0 s) (sym (append_assoc (take 14 t) (entries_bytes es) (replicate 20 0)))
 
   -- the answer and the target of a list that was written, if it fits
-  pub list_writes : (r : WriteAnswer) (t₁ t₂ : List ℕ) → t₁ ≡ pick (entries_fit (length es) (length t)) (entries_put es t (length es)) t
+  pub list_writes : (r : Result ℕ PowerlinkError) (t₁ t₂ : List ℕ) → t₁ ≡ pick (entries_fit (length es) (length t)) (entries_put es t (length es)) t
       → r ≡ entries_answer (length es) (length t₁) → t₂ ≡ terminated (length es) t₁ → Writes (status_bytes (take 14 t) es) r t t₂
   list_writes r t₁ t₂ e₁ er e₂ = by_fit (entries_fit (length es) (length t)) refl
     where
-      answers : entries_fit (length es) (length t) ≡ true → entries_answer (length es) (length t) ≡ Written (34 + 20 * length es)
+      answers : entries_fit (length es) (length t) ≡ true → entries_answer (length es) (length t) ≡ Ok (34 + 20 * length es)
       answers f = rw f
 
       terminates : entries_fit (length es) (length t₁) ≡ true → terminated (length es) t₁ ≡ sets t₁ (14 + 20 * length es) (replicate 20 0)
       terminates f = rw f
 
-      refuses_list : entries_fit (length es) (length t) ≡ false → entries_answer (length es) (length t) ≡ Refused BufferTooShort
+      refuses_list : entries_fit (length es) (length t) ≡ false → entries_answer (length es) (length t) ≡ Err BufferTooShort
       refuses_list f = rw f
 
       stays : entries_fit (length es) (length t) ≡ false → terminated (length es) t ≡ t
@@ -96,7 +95,7 @@ module _ (es : List ErrorEntry) (t : List ℕ) where
           let k : length t₁ ≡ length t = ap length p ∙ put_length es t (length es) in
           let n : length (status_bytes (take 14 t) es) ≡ 34 + 20 * length es =
           status_length_lem (take 14 t) es ∙ omega (arith, length-take-le 14 t (omega arith)) in
-          let a : r ≡ Written (34 + 20 * length es) = er ∙ ap (entries_answer (length es)) k ∙ answers f in
+          let a : r ≡ Ok (34 + 20 * length es) = er ∙ ap (entries_answer (length es)) k ∙ answers f in
           let o : t₂ ≡ sets t 0 (status_bytes (take 14 t) es) =
           e₂ ∙ terminates (ap (entries_fit (length es)) k ∙ f) ∙ ap (λ (s : List ℕ). sets s (14 + 20 * length es) (replicate 20 0)) p ∙ list_is h in
           rw (a, o)
@@ -104,21 +103,21 @@ module _ (es : List ErrorEntry) (t : List ℕ) where
       by_fit false f =
           let h : length t < 34 + 20 * length es = fit_false (length es) (length t) f in
           let p : t₁ ≡ t = rw f at e₁ in
-          let a : r ≡ Refused BufferTooShort = er ∙ ap (λ (s : List ℕ). entries_answer (length es) (length s)) p ∙ refuses_list f in
+          let a : r ≡ Err BufferTooShort = er ∙ ap (λ (s : List ℕ). entries_answer (length es) (length s)) p ∙ refuses_list f in
           let o : t₂ ≡ t = e₂ ∙ ap (terminated (length es)) p ∙ stays f in
           rw (a, o)
           (refuses (status_bytes (take 14 t) es) t (omega (arith, status_length_lem (take 14 t) es, length-take 14 t)))
 
   -- what stands in front is written last
-  head_writes : (head : List ℕ) (r : WriteAnswer) (t₁ t₂ : List ℕ) → length head ≡ 14 → Writes (status_bytes (take 14 t) es) r t t₁
+  head_writes : (head : List ℕ) (r : Result ℕ PowerlinkError) (t₁ t₂ : List ℕ) → length head ≡ 14 → Writes (status_bytes (take 14 t) es) r t t₁
       → t₂ ≡ head_put r head t₁ → Writes (status_bytes head es) r t t₂
   unfolding status_bytes
-  head_writes head (Refused e) t₁ t₂ n w e₂ =
-      let p = refused (status_bytes (take 14 t) es) t (Refused e) e t₁ w refl in
+  head_writes head (Err e) t₁ t₂ n w e₂ =
+      let p = refused (status_bytes (take 14 t) es) t (Err e) e t₁ w refl in
       rw (p.1.0, e₂, p.1.1)
       (refuses (status_bytes head es) t (omega (arith, p.0, status_length_lem (take 14 t) es, status_length_lem head es, length-take 14 t)))
-  head_writes head (Written m) t₁ t₂ n w e₂ =
-      let p = written (status_bytes (take 14 t) es) t (Written m) m t₁ w refl in
+  head_writes head (Ok m) t₁ t₂ n w e₂ =
+      let p = written (status_bytes (take 14 t) es) t (Ok m) m t₁ w refl in
       let bs : List ℕ = entries_bytes es ++ replicate 20 0 in
       let before : List ℕ = status_bytes (take 14 t) es in
       let k : length (take 14 t) ≡ 14 = length-take-le 14 t (omega (arith, p.0, status_length_lem (take 14 t) es, length-take 14 t)) in
@@ -138,7 +137,7 @@ module _ (es : List ErrorEntry) (t : List ℕ) where
       ∙ sym (sets_front t (status_bytes head es) (omega (arith, p.0))) in
       rw f (writes (status_bytes head es) t m (l ∙ sym p.1.0) (omega (arith, p.0, p.1.0)))
 
-module _ (f : StatusFields) (field : StaticErrorBitField) (r a : WriteAnswer) (t t₁ t₂ : List ℕ)
+module _ (f : StatusFields) (field : StaticErrorBitField) (r a : Result ℕ PowerlinkError) (t t₁ t₂ : List ℕ)
     (wrote : (r ≡ a) × (t₂ ≡ head_put a (head_bytes f field) t₁)) where
   -- a list, then what stands in front
   pub both_write : (es : List ErrorEntry) → Writes (status_bytes (take 14 t) es) a t t₁ → Writes (status_bytes (head_bytes f field) es) r t t₂
@@ -146,9 +145,9 @@ module _ (f : StatusFields) (field : StaticErrorBitField) (r a : WriteAnswer) (t
   both_write es w = rw wrote.0 (head_writes es t (head_bytes f field) a t₁ t₂ refl w wrote.1)
 
 -- the cases of `head_put`
-pub head_put_lem : (a : WriteAnswer) (m : ℕ) (h head t t₁ : List ℕ) → a ≡ Written m → h ≡ head → t₁ ≡ sets t 0 h
-    → (Written m ≡ a) × (t₁ ≡ head_put a head t)
+pub head_put_lem : (a : Result ℕ PowerlinkError) (m : ℕ) (h head t t₁ : List ℕ) → a ≡ Ok m → h ≡ head → t₁ ≡ sets t 0 h
+    → (Ok m ≡ a) × (t₁ ≡ head_put a head t)
 head_put_lem a m h head t t₁ ea eh e = rw (ea, ← eh) (refl, e)
 
-pub head_left : (a : WriteAnswer) (e : PowerlinkError) (head t : List ℕ) → a ≡ Refused e → (Refused e ≡ a) × (t ≡ head_put a head t)
+pub head_left : (a : Result ℕ PowerlinkError) (e : PowerlinkError) (head t : List ℕ) → a ≡ Err e → (Err e ≡ a) × (t ≡ head_put a head t)
 head_left a e head t ea = rw ea (refl, refl)

@@ -1,21 +1,20 @@
 -- 01's numbers and values of what reading a StatusResponse and its error field answers: 0, or the error's, and no two errors have the same.
 -- Assumes nothing.
-use Rattle.std.specs.Prelude.{◌≡◌, []}
+use Rattle.std.specs.Prelude.{◌≡◌, [], Ok, Err}
 use Rattle.types.specs.Causes.{row, cause_of}
 use Rattle.types.specs.declared.hal.PowerlinkError.{PowerlinkError}
 use Rattle.status_response.specs.BitField.{field_cause}
 use Rattle.status_response.specs.Fields.{status_cause}
 use Rattle.status_response.specs.declared.bit_field.ErrorFieldAnswer.{ErrorFieldAnswer}
 use Rattle.status_response.specs.declared.bit_field.ErrorFieldAnswer.TheVariants as field
-use Rattle.status_response.specs.declared.fields.StatusAnswer.TheVariants.{Status, Refused}
 use Rattle.status_response.specs.declared.fields.StatusFields.{StatusFields}
 
 pub record CausesTell : Type 0 where
   -- the fields of a StatusResponse are its values
-  pub status : (f : StatusFields) → status_cause (Status f) ≡ row 0 []
-  pub no_status : (e : PowerlinkError) → status_cause (Refused e) ≡ cause_of e
-  pub statuses_apart : (d e : PowerlinkError) → status_cause (Refused d) ≡ status_cause (Refused e) → d ≡ e
-  pub status_or_not : (f : StatusFields) (e : PowerlinkError) → status_cause (Status f) ≡ status_cause (Refused e) → ⊥
+  pub status : (f : StatusFields) → status_cause (Ok f) ≡ row 0 []
+  pub no_status : (e : PowerlinkError) → status_cause (Err e) ≡ cause_of e
+  pub statuses_apart : (d e : PowerlinkError) → status_cause (Err d) ≡ status_cause (Err e) → d ≡ e
+  pub status_or_not : (f : StatusFields) (e : PowerlinkError) → status_cause (Ok f) ≡ status_cause (Err e) → ⊥
   pub error_field : field_cause field.Read ≡ row 0 []
   pub no_error_field : (e : PowerlinkError) → field_cause (field.Refused e) ≡ cause_of e
   pub error_fields_apart : (a b : ErrorFieldAnswer) → field_cause a ≡ field_cause b → a ≡ b

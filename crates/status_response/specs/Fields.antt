@@ -1,6 +1,6 @@
 -- The 14 octets in front of the entries of a StatusResponse (EPSG DS 301, 7.3.3.3.1, Table 136).
 -- Assumes nothing.
-use Rattle.std.specs.Prelude.{ℕ, ◌+◌, List, [], ◌∷◌, ◌++◌, ◌≡◌, length, get_or, drop, leb}
+use Rattle.std.specs.Prelude.{ℕ, ◌+◌, List, [], ◌∷◌, ◌++◌, ◌≡◌, length, get_or, drop, leb, Result, Ok, Err}
 use Rattle.octets.specs.Numbers.{bit}
 use Rattle.types.specs.CauseNumbers.{too_short, unknown_state}
 use Rattle.types.specs.Causes.{Cause, row, cause_of}
@@ -9,15 +9,12 @@ use Rattle.types.specs.PollFlags.{poll_octet, priority_at, requests_at}
 use Rattle.types.specs.States.{state_code, state_of}
 use Rattle.types.specs.declared.hal.PowerlinkError.TheVariants.{BufferTooShort, InvalidNmtState}
 use Rattle.types.specs.declared.states.NmtState.{NmtState}
-use Rattle.types.specs.declared.states.NmtStateAnswer.{NmtStateAnswer}
-use Rattle.types.specs.declared.states.NmtStateAnswer.TheVariants.{Known, Unknown}
 use Rattle.section.specs.Write.{at_bit}
 use Rattle.status_response.specs.BitField.{field_of, field_bytes}
 use Rattle.status_response.specs.declared.bit_field.StaticErrorBitField.{StaticErrorBitField}
 use Rattle.status_response.specs.declared.fields.DeserializedStatus.{DeserializedStatus}
-use Rattle.status_response.specs.declared.fields.StatusAnswer.{StatusAnswer}
-use Rattle.status_response.specs.declared.fields.StatusAnswer.TheVariants.{Status, Refused}
 use Rattle.status_response.specs.declared.fields.StatusFields.{StatusFields}
+use Rattle.types.specs.declared.hal.PowerlinkError.{PowerlinkError}
 
 -- the octets in front
 abbrev pub front_length : ℕ
@@ -41,29 +38,29 @@ fields_of s state =
       nmt_state = state;
     }
 
-abbrev pub status_by_state : List ℕ → NmtStateAnswer → StatusAnswer
-status_by_state s (Unknown b) = Refused (InvalidNmtState b)
-status_by_state s (Known state) = Status (fields_of s state)
+abbrev pub status_by_state : List ℕ → Result NmtState PowerlinkError → Result StatusFields PowerlinkError
+status_by_state s (Err (InvalidNmtState b)) = Err (InvalidNmtState b)
+status_by_state s (Ok state) = Ok (fields_of s state)
 
 -- all octets are needed, then a state
-unfoldable pub read_fields : List ℕ → StatusAnswer
-read_fields s = need (leb front_length (length s)) (Refused BufferTooShort) (status_by_state s (state_of (get_or s 2 0)))
+unfoldable pub read_fields : List ℕ → Result StatusFields PowerlinkError
+read_fields s = need (leb front_length (length s)) (Err BufferTooShort) (status_by_state s (state_of (get_or s 2 0)))
 
 -- 01's number and values for each case: 0 for what is read
-abbrev pub status_cause : StatusAnswer → Cause
-status_cause (Status f) = row 0 []
-status_cause (Refused e) = cause_of e
+abbrev pub status_cause : Result StatusFields PowerlinkError → Cause
+status_cause (Ok f) = row 0 []
+status_cause (Err e) = cause_of e
 
 -- that row, by the state that was read
-abbrev pub row_by_state : NmtStateAnswer → Cause
-row_by_state (Unknown b) = row unknown_state (b ∷ [])
-row_by_state (Known state) = row 0 []
+abbrev pub row_by_state : Result NmtState PowerlinkError → Cause
+row_by_state (Err (InvalidNmtState b)) = row unknown_state (b ∷ [])
+row_by_state (Ok state) = row 0 []
 
 abbrev pub fields_row : List ℕ → Cause
 fields_row s = need (leb front_length (length s)) (row too_short []) (row_by_state (state_of (get_or s 2 0)))
 
 -- r is what reading the fields from the octets s answers, with 01's number and values
-pub record ReadsFields (s : List ℕ) (r : StatusAnswer) : Type 0 where
+pub record ReadsFields (s : List ℕ) (r : Result StatusFields PowerlinkError) : Type 0 where
   pub answer : r ≡ read_fields s
   pub cause : status_cause r ≡ fields_row s
 

@@ -1,15 +1,14 @@
 -- What the parts of the StatusResponse writer leave: the contracts of private functions cite these, and no public one does.
 -- Assumes nothing.
-use Rattle.std.specs.Prelude.{ℕ, zero, suc, ◌+◌, ◌*◌, Bool, List, [], ◌∷◌, length, get_or, drop, replicate, leb}
+use Rattle.std.specs.Prelude.{ℕ, zero, suc, ◌+◌, ◌*◌, Bool, List, [], ◌∷◌, length, get_or, drop, replicate, leb, Result, Ok, Err}
 use Rattle.std.proofs.lemmas.List.Edits.{sets}
 use Rattle.types.specs.Codes.{pick}
 use Rattle.types.specs.declared.hal.PowerlinkError.TheVariants.{BufferTooShort}
-use Rattle.section.specs.declared.WriteAnswer.{WriteAnswer}
-use Rattle.section.specs.declared.WriteAnswer.TheVariants.{Written, Refused}
 use Rattle.error_entry.specs.Entry.{entry_length, entry_bytes, terminator, read_entry, or_terminator}
 use Rattle.error_entry.specs.declared.ErrorEntry.{ErrorEntry}
 use Rattle.status_response.specs.Fields.{front_length}
 use Rattle.status_response.specs.Steps.{status_length}
+use Rattle.types.specs.declared.hal.PowerlinkError.{PowerlinkError}
 
 -- the entry at a place of a list
 abbrev pub entry_at_place : List ErrorEntry → ℕ → ErrorEntry
@@ -24,8 +23,8 @@ unfoldable pub entries_fit : ℕ → ℕ → Bool
 entries_fit n len = leb (status_length n) len
 
 -- the answer: the length of n entries and the terminator with what stands in front, or 01's cause 1
-abbrev pub entries_answer : ℕ → ℕ → WriteAnswer
-entries_answer n len = pick (entries_fit n len) (Written (status_length n)) (Refused BufferTooShort)
+abbrev pub entries_answer : ℕ → ℕ → Result ℕ PowerlinkError
+entries_answer n len = pick (entries_fit n len) (Ok (status_length n)) (Err BufferTooShort)
 
 -- the target once the first n entries are put, each at its place
 abbrev pub entries_put : List ErrorEntry → List ℕ → ℕ → List ℕ
@@ -37,9 +36,9 @@ abbrev pub terminated : ℕ → List ℕ → List ℕ
 terminated n t = pick (entries_fit n (length t)) (sets t (entry_place n) (replicate entry_length 0)) t
 
 -- the target once what stands in front is put, where the list behind it was written
-abbrev pub head_put : WriteAnswer → List ℕ → List ℕ → List ℕ
-head_put (Written n) head t = sets t 0 head
-head_put (Refused e) head t = t
+abbrev pub head_put : Result ℕ PowerlinkError → List ℕ → List ℕ → List ℕ
+head_put (Ok n) head t = sets t 0 head
+head_put (Err e) head t = t
 
 -- n entries, one after the other, terminators in the place of those that are not there whole
 abbrev pub batch_of : ℕ → List ℕ → List ErrorEntry

@@ -1,21 +1,18 @@
 -- A StatusResponse that is written is read back: what stands in front, the error field, and the entries, which the steps of a walk find.
 -- Assumes nothing.
-use Rattle.std.specs.Prelude.{ℕ, zero, suc, ◌≤◌, ◌≡◌, List, [], ◌∷◌, ◌++◌, length, drop}
+use Rattle.std.specs.Prelude.{ℕ, zero, suc, ◌≤◌, ◌≡◌, List, [], ◌∷◌, ◌++◌, length, drop, Ok, Option, Some, None}
 use Rattle.error_entry.specs.ReadBack.{InRange}
 use Rattle.error_entry.specs.declared.ErrorEntry.{ErrorEntry}
 use Rattle.status_response.specs.BitField.{field_of}
 use Rattle.status_response.specs.Fields.{front_length, head_bytes, read_fields}
 use Rattle.status_response.specs.Steps.{status_bytes, status_entries, step_at, unless_terminator}
 use Rattle.status_response.specs.declared.bit_field.StaticErrorBitField.{StaticErrorBitField}
-use Rattle.status_response.specs.declared.fields.StatusAnswer.TheVariants.{Status}
 use Rattle.status_response.specs.declared.fields.StatusFields.{StatusFields}
-use Rattle.status_response.specs.declared.walk.EntryStep.{EntryStep}
-use Rattle.status_response.specs.declared.walk.EntryStep.TheVariants.{Entry, End}
 
 -- the entry of a step in front of those that the steps from its offset on find
-abbrev pub stepped : EntryStep → (ℕ → List ErrorEntry) → List ErrorEntry
-stepped (Entry e next) more = e ∷ more next
-stepped End more = []
+abbrev pub stepped : Option (ErrorEntry × ℕ) → (ℕ → List ErrorEntry) → List ErrorEntry
+stepped (Some (e, next)) more = e ∷ more next
+stepped None more = []
 
 -- the entries that at most n steps from an offset on find
 abbrev pub walked : ℕ → List ℕ → ℕ → List ErrorEntry
@@ -38,7 +35,7 @@ pub record StatusReadsBack : Type 0 where
   pub steps : (n : ℕ) (s : List ℕ) → length s ≤ n → walked n s front_length ≡ status_entries s
   -- above 7 rs counts as 7
   pub fields : (f : StatusFields) (field : StaticErrorBitField) (es : List ErrorEntry) (behind : List ℕ) → f.rs.0 ≤ 7
-      → read_fields (status_bytes (head_bytes f field) es ++ behind) ≡ Status f
+      → read_fields (status_bytes (head_bytes f field) es ++ behind) ≡ Ok f
   pub field : (f : StatusFields) (field : StaticErrorBitField) (es : List ErrorEntry) (behind : List ℕ) → length field.specific_errors ≡ 7
       → field_of (drop 6 (status_bytes (head_bytes f field) es ++ behind)) ≡ field
   -- profiles are asked to be below 4,096: writing masks what lies above

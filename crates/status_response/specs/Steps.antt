@@ -1,13 +1,11 @@
 -- The entries behind the front of a StatusResponse: reading them, by list and by step, and their octets.
 -- Assumes nothing.
-use Rattle.std.specs.Prelude.{ℕ, zero, suc, ◌+◌, ◌*◌, ◌-◌, List, [], ◌∷◌, ◌++◌, length, drop, replicate, leb}
+use Rattle.std.specs.Prelude.{ℕ, zero, suc, ◌+◌, ◌*◌, ◌-◌, List, [], ◌∷◌, ◌++◌, length, drop, replicate, leb, Option, Some, None}
 use Rattle.types.specs.Codes.{need}
 pub use Rattle.types.specs.Modes.{unless_terminator}
 use Rattle.error_entry.specs.Entry.{entry_length, entry_of, entry_bytes}
 use Rattle.error_entry.specs.declared.ErrorEntry.{ErrorEntry}
 use Rattle.status_response.specs.Fields.{front_length}
-use Rattle.status_response.specs.declared.walk.EntryStep.{EntryStep}
-use Rattle.status_response.specs.declared.walk.EntryStep.TheVariants as step
 
 -- at most n entries: reading stops at mode 0 or with fewer octets left than an entry has
 abbrev pub entries_in : ℕ → List ℕ → List ErrorEntry
@@ -21,11 +19,11 @@ unfoldable pub status_entries : List ℕ → List ErrorEntry
 status_entries s = entries_in (length s) (drop front_length s)
 
 -- the entry at an offset with the offset after it, or the end
-unfoldable pub step_at : List ℕ → ℕ → EntryStep
+unfoldable pub step_at : List ℕ → ℕ → Option (ErrorEntry × ℕ)
 step_at s offset =
-    need (leb entry_length (length s)) step.End
-    (need (leb offset (length s - entry_length)) step.End
-    (unless_terminator (entry_of (drop offset s)).entry_type.mode (step.Entry (entry_of (drop offset s)) (offset + entry_length)) step.End))
+    need (leb entry_length (length s)) None
+    (need (leb offset (length s - entry_length)) None
+    (unless_terminator (entry_of (drop offset s)).entry_type.mode (Some ((entry_of (drop offset s)), (offset + entry_length))) None))
 
 -- the octets of entries, one after the other
 abbrev pub entries_bytes : List ErrorEntry → List ℕ

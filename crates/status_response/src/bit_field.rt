@@ -4,7 +4,7 @@ ghost use Rattle.section.specs.Write.{Writes};
 ghost use Rattle.status_response.specs.BitField.{field_of, field_bytes, ReadsField};
 
 use octets::slices::put;
-use section::{WriteAnswer, write};
+use section::write;
 use types::hal::PowerlinkError;
 
 #[derive(Clone, Copy)]
@@ -53,7 +53,7 @@ impl StaticErrorBitField {
     }
 
     // Writes the 8 octets, if they fit.
-    pub fn serialize(self, target: &mut [u8]) -> WriteAnswer
+    pub fn serialize(self, target: &mut [u8]) -> Result<usize, PowerlinkError>
         ensures { Writes (field_bytes self) result target.old target.new }
     {
         write(&self.to_bytes(), target)

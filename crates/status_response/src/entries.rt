@@ -14,7 +14,6 @@ use crate::bit_field::StaticErrorBitField;
 use crate::fields::{FRONT_LEN, StatusFields};
 use error_entry::{ENTRY_LEN, ErrorEntry};
 use octets::slices::put;
-use section::WriteAnswer;
 use types::hal::PowerlinkError;
 
 // The smallest payload: what stands in front, and the terminator.
@@ -59,15 +58,15 @@ pub(crate) fn put_terminator(n: usize, target: &mut [u8])
 }
 
 // Writes the terminator behind `n` entries, if it fits, and answers for them all.
-fn finish(n: usize, target: &mut [u8]) -> WriteAnswer
+fn finish(n: usize, target: &mut [u8]) -> Result<usize, PowerlinkError>
     ensures { (result ≡ entries_answer n (length target.old)) × (target.new ≡ terminated n target.old) }
 {
     let len = target.len();
     if fits(n, len) {
         put_terminator(n, target);
-        return WriteAnswer::Written(status_len(n));
+        return Ok(status_len(n));
     }
-    WriteAnswer::Refused(PowerlinkError::BufferTooShort)
+    Err(PowerlinkError::BufferTooShort)
 }
 
 // Writes each entry at its place.
@@ -84,7 +83,7 @@ fn write_entries(entries: &[ErrorEntry], target: &mut [u8])
 }
 
 // Writes the entries and the terminator behind the front of `target`, which stays, if all of them fit.
-fn write_list(entries: &[ErrorEntry], target: &mut [u8]) -> WriteAnswer
+fn write_list(entries: &[ErrorEntry], target: &mut [u8]) -> Result<usize, PowerlinkError>
     ensures { Writes (status_bytes (take front_length target.old) entries.now) result target.old target.new }
 {
     let n = entries.len();
@@ -99,17 +98,17 @@ fn write_list(entries: &[ErrorEntry], target: &mut [u8]) -> WriteAnswer
 fn put_head(
     fields: StatusFields,
     field: StaticErrorBitField,
-    answer: WriteAnswer,
+    answer: Result<usize, PowerlinkError>,
     target: &mut [u8],
-) -> WriteAnswer
+) -> Result<usize, PowerlinkError>
     ensures { (result ≡ answer) × (target.new ≡ head_put answer (head_bytes fields field) target.old) }
 {
     match answer {
-        WriteAnswer::Written(n) => {
+        Ok(n) => {
             put(target, 0, &fields.to_bytes(field));
-            WriteAnswer::Written(n)
+            Ok(n)
         }
-        WriteAnswer::Refused(e) => WriteAnswer::Refused(e),
+        Err(e) => Err(e),
     }
 }
 
@@ -119,7 +118,7 @@ pub fn serialize(
     field: StaticErrorBitField,
     entries: &[ErrorEntry],
     target: &mut [u8],
-) -> WriteAnswer
+) -> Result<usize, PowerlinkError>
     ensures { Writes (status_bytes (head_bytes fields field) entries.now) result target.old target.new }
 {
     let answer = write_list(entries, target);
@@ -141,7 +140,7 @@ fn lend_batch(
     batch: [ErrorEntry; 4],
     n: usize,
     target: &mut [u8],
-) -> WriteAnswer
+) -> Result<usize, PowerlinkError>
     requires { n ≤ 4 }
     ensures { Writes (status_bytes (head_bytes fields field) (take n batch)) result target.old target.new }
 {
@@ -156,11 +155,11 @@ pub fn serialize_batch(
     batch: [ErrorEntry; 4],
     n: usize,
     target: &mut [u8],
-) -> WriteAnswer
+) -> Result<usize, PowerlinkError>
     ensures { WritesWhole (leb n 4) (status_bytes (head_bytes fields field) (take n batch)) result target.old target.new }
 {
     if 4 < n {
-        return WriteAnswer::Refused(PowerlinkError::BufferTooShort);
+        return Err(PowerlinkError::BufferTooShort);
     }
     lend_batch(fields, field, batch, n, target)
 }

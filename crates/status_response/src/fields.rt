@@ -7,7 +7,7 @@ use octets::slices::tail;
 use section::flag;
 use types::hal::PowerlinkError;
 use types::poll_flags::{PRFlag, RSFlag, poll_octet, priority_at, requests_at};
-use types::states::{NmtState, NmtStateAnswer};
+use types::states::NmtState;
 
 // The octets in front of the entries.
 pub const FRONT_LEN: usize = 14;
@@ -32,17 +32,11 @@ pub struct StatusFields {
     pub nmt_state: NmtState,
 }
 
-#[derive(Clone, Copy)]
-pub enum StatusAnswer {
-    Status(StatusFields),
-    Refused(PowerlinkError),
-}
-
 // The error field stands beside the answer; where the payload is refused, octets past the end count as 0.
 #[derive(Clone, Copy)]
 pub struct DeserializedStatus {
     pub static_error_bit_field: StaticErrorBitField,
-    pub answer: StatusAnswer,
+    pub answer: Result<StatusFields, PowerlinkError>,
 }
 
 // Reads what stands in front of the entries.
@@ -56,15 +50,15 @@ pub fn deserialize(payload: &[u8]) -> DeserializedStatus
 }
 
 // The answer alone: for a caller that does not want the error field.
-pub fn read_fields(payload: &[u8]) -> StatusAnswer
+pub fn read_fields(payload: &[u8]) -> Result<StatusFields, PowerlinkError>
     ensures { ReadsFields payload.now result }
 {
     if payload.len() < FRONT_LEN {
-        return StatusAnswer::Refused(PowerlinkError::BufferTooShort);
+        return Err(PowerlinkError::BufferTooShort);
     }
     match NmtState::from_u8(payload[2]) {
-        NmtStateAnswer::Unknown(b) => StatusAnswer::Refused(PowerlinkError::InvalidNmtState(b)),
-        NmtStateAnswer::Known(state) => StatusAnswer::Status(fields(payload, state)),
+        Err(PowerlinkError::InvalidNmtState(b)) => Err(PowerlinkError::InvalidNmtState(b)),
+        Ok(state) => Ok(fields(payload, state)),
     }
 }
 

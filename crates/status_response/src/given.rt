@@ -13,7 +13,6 @@ use crate::entries::{put_batch, put_terminator, status_len};
 use crate::fields::StatusFields;
 use error_entry::{ENTRY_LEN, ErrorEntry};
 use octets::slices::{put, tail};
-use section::WriteAnswer;
 use types::hal::PowerlinkError;
 
 // The octets of four entries.
@@ -80,15 +79,15 @@ pub fn serialize(
     field: StaticErrorBitField,
     entries: &[u8],
     target: &mut [u8],
-) -> WriteAnswer
+) -> Result<usize, PowerlinkError>
     ensures { WritesWhole (eqb (length entries.now % entry_length) 0) (status_bytes (head_bytes fields field) (entries_given entries.now)) result target.old target.new }
 {
     if !fits(entries, target.len()) {
-        return WriteAnswer::Refused(PowerlinkError::BufferTooShort);
+        return Err(PowerlinkError::BufferTooShort);
     }
     let n = entries.len() / ENTRY_LEN;
     put(target, 0, &fields.to_bytes(field));
     put_groups(entries, target);
     put_terminator(n, target);
-    WriteAnswer::Written(status_len(n))
+    Ok(status_len(n))
 }

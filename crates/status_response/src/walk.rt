@@ -4,14 +4,7 @@ ghost use Rattle.status_response.specs.Fields.{front_length};
 ghost use Rattle.status_response.specs.Steps.{step_at};
 
 use crate::fields::FRONT_LEN;
-use error_entry::{ENTRY_LEN, ErrorEntry, ErrorEntryAnswer};
-
-// What a step finds: an entry with the offset after it, or the end of the list.
-#[derive(Clone, Copy)]
-pub enum EntryStep {
-    Entry(ErrorEntry, usize),
-    End,
-}
+use error_entry::{ENTRY_LEN, ErrorEntry};
 
 #[derive(Clone, Copy)]
 pub struct EntryWalk<'a> {
@@ -20,21 +13,21 @@ pub struct EntryWalk<'a> {
 }
 
 // The work of a step: the entry at an offset with the offset after it, or the end.
-fn entry_step(payload: &[u8], offset: usize) -> EntryStep
+fn entry_step(payload: &[u8], offset: usize) -> Option<(ErrorEntry, usize)>
     ensures { result ≡ step_at payload.now offset }
 {
     if payload.len() < offset {
-        return EntryStep::End;
+        return None;
     }
     match ErrorEntry::deserialize(&payload[offset..]) {
-        ErrorEntryAnswer::Refused(_) => EntryStep::End,
-        ErrorEntryAnswer::Entry(entry) => {
+        Err(_) => None,
+        Ok(entry) => {
             let entry_type = entry.entry_type;
             let mode = entry_type.mode;
             if mode.is_terminator() {
-                return EntryStep::End;
+                return None;
             }
-            EntryStep::Entry(entry, offset + ENTRY_LEN)
+            Some((entry, offset + ENTRY_LEN))
         }
     }
 }
@@ -60,14 +53,14 @@ pub fn moved<'a>(w: EntryWalk<'a>, offset: usize) -> EntryWalk<'a>
 }
 
 // One step: the entry at the walk's offset with the offset after it, or the end.
-pub fn step<'a>(w: EntryWalk<'a>) -> EntryStep
+pub fn step<'a>(w: EntryWalk<'a>) -> Option<(ErrorEntry, usize)>
     ensures { result ≡ step_at w.entry.payload.now w.entry.offset }
 {
     entry_step(w.payload, w.offset)
 }
 
 // A step from a plain slice and an offset, through the walk: whoever calls it needs no struct with a reference.
-pub fn step_from(payload: &[u8], offset: usize) -> EntryStep
+pub fn step_from(payload: &[u8], offset: usize) -> Option<(ErrorEntry, usize)>
     ensures { result ≡ step_at payload.now offset }
 {
     step(moved(new(payload), offset))

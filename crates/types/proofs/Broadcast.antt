@@ -1,27 +1,19 @@
--- The octets that a search for one other than FF h has left.
+-- Octets that are equal to as many FF h: the address of all stations.
 -- Assumes nothing.
-use Prim.Native.Nat.{ℕ, suc, ◌+◌, ◌-◌, ◌<◌}
-use mathlib.Core.Path.{◌≡◌, ap, ◌∙◌}
-use mathlib.Core.Bool.{false}
-use mathlib.Core.List.{List}
-use native.Mathlib.Nat.{add-zero}
+use Rattle.std.proofs.Common.{◌≡◌, ℕ, length, Bool, true, false, List, [], ◌∷◌}
+use Rattle.std.specs.Prelude.{zero, suc, ◌&&◌, eqb, replicate}
+use mathlib.Core.Path.{refl, ap, ◌∙◌}
 use native.Mathlib.Omega.{arith}
-use lib.ListN.{drop, get_or}
-use lib.Seq.{get_or-drop, drop-drop}
-use borrow.Author.Tests.{eq-eqb, ne_eqb}
+use lib.Pointwise.{pointwise}
+use Rattle.types.specs.Codes.{need}
 use Rattle.types.specs.Addresses.{ones}
 
-module _ (a : List ℕ) (n i : ℕ) (h : i < n) where
-  one_more : ones (n - i) (drop i a) ≡ ones (suc (n - (i + 1))) (drop i a)
-  one_more =
-      let e : n - i ≡ suc (n - (i + 1)) = omega arith in
-      ap (λ (k : ℕ). ones k (drop i a)) e
+both : (b c : Bool) → b && c ≡ need b false c
+both true c = refl
+both false c = refl
 
-  first : get_or (drop i a) 0 0 ≡ get_or a i 0
-  first = get_or-drop i a 0 0 ∙ ap (λ (k : ℕ). get_or a k 0) (add-zero i)
-
-  pub ones_next : get_or a i 0 ≡ 0xFF → ones (n - i) (drop i a) ≡ ones (n - (i + 1)) (drop (i + 1) a)
-  ones_next e = one_more ∙ rw (first, eq-eqb (get_or a i 0) 0xFF e, drop-drop 1 i a)
-
-  pub ones_not : (get_or a i 0 ≡ 0xFF → ⊥) → ones (n - i) (drop i a) ≡ false
-  ones_not e = one_more ∙ rw (first, ne_eqb (get_or a i 0) 0xFF e)
+pub all_ones : (n : ℕ) (a : List ℕ) → length a ≡ n → pointwise eqb a (replicate n 0xFF) ≡ ones n a
+all_ones zero [] same = refl
+all_ones zero (x ∷ a) same = let never : ⊥ = omega (arith, same) in elim never [ ]
+all_ones (suc n) [] same = let never : ⊥ = omega (arith, same) in elim never [ ]
+all_ones (suc n) (x ∷ a) same = both (eqb x 0xFF) _ ∙ ap (need (eqb x 0xFF) false) (all_ones n a (omega (arith, same)))

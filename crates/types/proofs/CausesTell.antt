@@ -6,6 +6,7 @@ use mathlib.Core.List.{List}
 use native.Mathlib.Omega.{arith}
 use lib.Dec.{eqb, ltb}
 use lib.ListN.{get_or}
+use Rattle.std.specs.Prelude.{Result, Ok, Err}
 use Rattle.types.specs.Causes.{Cause, row, cause_of, error_told}
 use Rattle.types.specs.CausesTell.{NumbersTell, ErrorsTell, CodesTell}
 use Rattle.types.specs.CodeCauses.{message_cause, state_cause, requested_cause, mode_cause}
@@ -14,18 +15,15 @@ use Rattle.types.specs.Messages.{message_of}
 use Rattle.types.specs.Modes.{mode_of}
 use Rattle.types.specs.RequestedServices.{requested_of}
 use Rattle.types.specs.States.{state_of}
-use Rattle.types.specs.declared.error_mode.ErrorEntryModeAnswer.{ErrorEntryModeAnswer}
-use Rattle.types.specs.declared.error_mode.ErrorEntryModeAnswer.TheVariants as mode
 use Rattle.types.specs.declared.hal.PowerlinkError.{PowerlinkError}
 use Rattle.types.specs.declared.hal.PowerlinkError.TheVariants.{BufferTooShort, InvalidEthernetFrame, InvalidPlFrame, InvalidMessageType, InvalidNmtState, InvalidServiceId, InvalidRequestedServiceId}
-use Rattle.types.specs.declared.message_type.MessageTypeAnswer.{MessageTypeAnswer}
-use Rattle.types.specs.declared.message_type.MessageTypeAnswer.TheVariants as message
-use Rattle.types.specs.declared.requested_service.RequestedServiceIdAnswer.{RequestedServiceIdAnswer}
-use Rattle.types.specs.declared.requested_service.RequestedServiceIdAnswer.TheVariants as requested
-use Rattle.types.specs.declared.states.NmtStateAnswer.{NmtStateAnswer}
-use Rattle.types.specs.declared.states.NmtStateAnswer.TheVariants as state
 use Rattle.types.proofs.Apart.{apart}
 use Rattle.types.proofs.ReadBack.{message_known, state_known, requested_known, mode_known}
+use Rattle.types.specs.declared.states.NmtState.{NmtState}
+use Rattle.types.specs.declared.message_type.MessageType.{MessageType}
+use Rattle.types.specs.declared.requested_service.RequestedServiceId.{RequestedServiceId}
+use Rattle.types.specs.declared.error_mode.UnknownMode.{UnknownMode}
+use Rattle.types.specs.declared.error_mode.ErrorEntryMode.{ErrorEntryMode}
 
 pub numbers_tell : NumbersTell
 numbers_tell =
@@ -118,39 +116,43 @@ errors_tell =
       told = error_told_lem;
     }
 
--- the answer of reading a code: with 0 what the code names, and else the octet
-abbrev pub code_in : {R : Type 0} → (ℕ → R) → (ℕ → R) → Cause → R
-code_in read unknown c = pick (eqb c.number 0) (read (value c)) (unknown (value c))
+-- the answer of reading a code: with 0 what the code names, and else the error
+abbrev pub code_in : {A : Type 0} → (ℕ → Result A PowerlinkError) → Cause → Result A PowerlinkError
+code_in read c = refused_or Err (read (value c)) c
 
-message_back : (a : MessageTypeAnswer) → code_in message_of message.Unknown (message_cause a) ≡ a
-message_back (message.Known m) = message_known m
-message_back (message.Unknown b) = refl
+message_back : (a : Result MessageType PowerlinkError) → code_in message_of (message_cause a) ≡ a
+message_back (Ok m) = message_known m
+message_back (Err e) = refused_back Err _ e
 
-state_back : (a : NmtStateAnswer) → code_in state_of state.Unknown (state_cause a) ≡ a
-state_back (state.Known s) = state_known s
-state_back (state.Unknown b) = refl
+state_back : (a : Result NmtState PowerlinkError) → code_in state_of (state_cause a) ≡ a
+state_back (Ok s) = state_known s
+state_back (Err e) = refused_back Err _ e
 
-requested_back : (a : RequestedServiceIdAnswer) → code_in requested_of requested.Unknown (requested_cause a) ≡ a
-requested_back (requested.Known s) = requested_known s
-requested_back (requested.Unknown b) = refl
+requested_back : (a : Result RequestedServiceId PowerlinkError) → code_in requested_of (requested_cause a) ≡ a
+requested_back (Ok s) = requested_known s
+requested_back (Err e) = refused_back Err _ e
 
-mode_back : (a : ErrorEntryModeAnswer) → code_in mode_of mode.Unknown (mode_cause a) ≡ a
-mode_back (mode.Known m) = mode_known m
-mode_back (mode.Unknown b) = refl
+-- the same of a mode, whose error is the octet
+abbrev pub mode_in_row : Cause → Result ErrorEntryMode UnknownMode
+mode_in_row c = pick (eqb c.number 0) (mode_of (value c)) (Err (record { 0 = value c }))
+
+mode_back : (a : Result ErrorEntryMode UnknownMode) → mode_in_row (mode_cause a) ≡ a
+mode_back (Ok m) = mode_known m
+mode_back (Err e) = refl
 
 pub codes_tell : CodesTell
 codes_tell =
     record {
       a_message = λ m. refl;
       no_message = λ b. refl;
-      messages_apart = apart message_cause (code_in message_of message.Unknown) message_back;
+      messages_apart = apart message_cause (code_in message_of) message_back;
       a_state = λ s. refl;
       no_state = λ b. refl;
-      states_apart = apart state_cause (code_in state_of state.Unknown) state_back;
+      states_apart = apart state_cause (code_in state_of) state_back;
       a_requested = λ s. refl;
       no_requested = λ b. refl;
-      requested_apart = apart requested_cause (code_in requested_of requested.Unknown) requested_back;
+      requested_apart = apart requested_cause (code_in requested_of) requested_back;
       a_mode = λ m. refl;
       no_mode = λ b. refl;
-      modes_apart = apart mode_cause (code_in mode_of mode.Unknown) mode_back;
+      modes_apart = apart mode_cause mode_in_row mode_back;
     }

@@ -7,6 +7,7 @@ use mathlib.Core.List.{List, [], ◌∷◌}
 use borrow.Author.Tests.{eqb-true}
 use lib.Dec.{eqb}
 use lib.ListN.{get_or}
+use Rattle.std.specs.Prelude.{Result, Ok, Err}
 use Rattle.types.specs.CauseNumbers.{unknown_state, unknown_request}
 use Rattle.types.specs.Causes.{Cause, row}
 use Rattle.types.specs.CodeCauses.{code_row, message_cause, state_cause, requested_cause, mode_cause, ReadsMessage, ReadsState, ReadsRequested, ReadsMode}
@@ -15,16 +16,13 @@ use Rattle.types.specs.Messages.{message_code, messages, message_of}
 use Rattle.types.specs.Modes.{mode_code, modes, mode_of}
 use Rattle.types.specs.RequestedServices.{requested_code, requested_services, requested_of}
 use Rattle.types.specs.States.{state_code, states, state_of}
-use Rattle.types.specs.declared.error_mode.ErrorEntryModeAnswer.{ErrorEntryModeAnswer}
-use Rattle.types.specs.declared.error_mode.ErrorEntryModeAnswer.TheVariants as mode
-use Rattle.types.specs.declared.message_type.MessageTypeAnswer.{MessageTypeAnswer}
-use Rattle.types.specs.declared.message_type.MessageTypeAnswer.TheVariants as message
 use Rattle.types.specs.declared.requested_service.RequestedServiceId.{RequestedServiceId}
-use Rattle.types.specs.declared.requested_service.RequestedServiceIdAnswer.{RequestedServiceIdAnswer}
-use Rattle.types.specs.declared.requested_service.RequestedServiceIdAnswer.TheVariants as requested
 use Rattle.types.specs.declared.states.NmtState.{NmtState}
-use Rattle.types.specs.declared.states.NmtStateAnswer.{NmtStateAnswer}
-use Rattle.types.specs.declared.states.NmtStateAnswer.TheVariants as state
+use Rattle.types.specs.declared.hal.PowerlinkError.{PowerlinkError}
+use Rattle.types.specs.declared.hal.PowerlinkError.TheVariants.{InvalidNmtState, InvalidMessageType, InvalidRequestedServiceId}
+use Rattle.types.specs.declared.message_type.MessageType.{MessageType}
+use Rattle.types.specs.declared.error_mode.UnknownMode.{UnknownMode}
+use Rattle.types.specs.declared.error_mode.ErrorEntryMode.{ErrorEntryMode}
 
 -- what is told of a value by its code is told of the octet that was read: one law for every table of codes
 module _ {A R C : Type 0} (code : A → ℕ) (known : A → R) (other : R) (told : R → C) (by : ℕ → C) (b : ℕ) where
@@ -42,38 +40,38 @@ abbrev pub read : ℕ → Cause
 read k = row 0 (k ∷ [])
 
 module _ (b : ℕ) where
-  pub message_told : (r : MessageTypeAnswer) → r ≡ message_of b → ReadsMessage b r
+  pub message_told : (r : Result MessageType PowerlinkError) → r ≡ message_of b → ReadsMessage b r
   unfolding message_of
   message_told r e =
       record {
         answer = e;
-        cause = ap message_cause e ∙ decoded_told message_code message.Known (message.Unknown b) message_cause read b (λ x. refl) messages;
+        cause = ap message_cause e ∙ decoded_told message_code Ok (Err (InvalidMessageType b)) message_cause read b (λ x. refl) messages;
       }
 
-  pub state_told : (r : NmtStateAnswer) → r ≡ state_of b → ReadsState b r
+  pub state_told : (r : Result NmtState PowerlinkError) → r ≡ state_of b → ReadsState b r
   unfolding state_of
   state_told r e =
       record {
         answer = e;
-        cause = ap state_cause e ∙ decoded_told state_code state.Known (state.Unknown b) state_cause read b (λ x. refl) states;
+        cause = ap state_cause e ∙ decoded_told state_code Ok (Err (InvalidNmtState b)) state_cause read b (λ x. refl) states;
       }
 
-  pub requested_told : (r : RequestedServiceIdAnswer) → r ≡ requested_of b → ReadsRequested b r
+  pub requested_told : (r : Result RequestedServiceId PowerlinkError) → r ≡ requested_of b → ReadsRequested b r
   unfolding requested_of
   requested_told r e =
       record {
         answer = e;
         cause =
             ap requested_cause e
-            ∙ decoded_told requested_code requested.Known (requested.Unknown b) requested_cause read b (λ x. refl) requested_services;
+            ∙ decoded_told requested_code Ok (Err (InvalidRequestedServiceId b)) requested_cause read b (λ x. refl) requested_services;
       }
 
-  pub mode_told : (r : ErrorEntryModeAnswer) → r ≡ mode_of b → ReadsMode b r
+  pub mode_told : (r : Result ErrorEntryMode UnknownMode) → r ≡ mode_of b → ReadsMode b r
   unfolding mode_of
   mode_told r e =
       record {
         answer = e;
-        cause = ap mode_cause e ∙ decoded_told mode_code mode.Known (mode.Unknown b) mode_cause read b (λ x. refl) modes;
+        cause = ap mode_cause e ∙ decoded_told mode_code Ok (Err (record { 0 = b })) mode_cause read b (λ x. refl) modes;
       }
 
 -- ---- the code of what an octet was read as is that octet
@@ -86,11 +84,11 @@ same_value code n b (x ∷ xs) = split (eqb b (code x)) (same_value code n b xs)
     split true below = refl
     split false below = below
 
-pub state_code_lem : (b : ℕ) (x : NmtState) → state_of b ≡ state.Known x → state_code x ≡ b
+pub state_code_lem : (b : ℕ) (x : NmtState) → state_of b ≡ Ok x → state_code x ≡ b
 state_code_lem b x e =
     ap (λ (c : Cause). get_or c.returned 0 0) (ap state_cause (sym e) ∙ (state_told b (state_of b) refl).cause) ∙ same_value state_code unknown_state b states
 
-pub requested_code_lem : (b : ℕ) (x : RequestedServiceId) → requested_of b ≡ requested.Known x → requested_code x ≡ b
+pub requested_code_lem : (b : ℕ) (x : RequestedServiceId) → requested_of b ≡ Ok x → requested_code x ≡ b
 requested_code_lem b x e =
     ap (λ (c : Cause). get_or c.returned 0 0) (ap requested_cause (sym e) ∙ (requested_told b (requested_of b) refl).cause)
     ∙ same_value requested_code unknown_request b requested_services

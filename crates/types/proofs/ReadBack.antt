@@ -1,6 +1,7 @@
 -- A code that is written is read back as its value.
 -- Assumes nothing.
 use mathlib.Core.Path.{◌≡◌, refl}
+use Rattle.std.specs.Prelude.{Ok}
 use Rattle.types.specs.Messages.{message_code, message_of}
 use Rattle.types.specs.States.{state_code, state_of}
 use Rattle.types.specs.PollFlags.{priority_code, priority_in}
@@ -9,20 +10,16 @@ use Rattle.types.specs.Modes.{mode_code, mode_of}
 use Rattle.types.specs.ReadBack.{CodesReadBack}
 use Rattle.types.specs.declared.message_type.MessageType.{MessageType}
 use Rattle.types.specs.declared.message_type.MessageType.TheVariants.{SoC, PReq, PRes, SoA, ASnd}
-use Rattle.types.specs.declared.message_type.MessageTypeAnswer.TheVariants as message
 use Rattle.types.specs.declared.states.NmtState.{NmtState}
 use Rattle.types.specs.declared.states.NmtState.TheVariants.{NmtGsOff, NmtGsInitialising, NmtGsResetApplication, NmtGsResetCommunication, NmtGsResetConfiguration, NmtNotActive, NmtPreOperational1, NmtPreOperational2, NmtReadyToOperate, NmtOperational, NmtCsStopped, NmtBasicEthernet}
-use Rattle.types.specs.declared.states.NmtStateAnswer.TheVariants as state
 use Rattle.types.specs.declared.poll_flags.PRFlag.{PRFlag}
 use Rattle.types.specs.declared.poll_flags.PRFlag.TheVariants.{PrioNmtRequest, High3, High2, High1, PrioGenericRequest, Low3, Low2, Low1}
 use Rattle.types.specs.declared.requested_service.RequestedServiceId.{RequestedServiceId}
 use Rattle.types.specs.declared.requested_service.RequestedServiceId.TheVariants.{NoService, IdentRequest, StatusRequest, NmtRequestInvite, UnspecifiedInvite}
-use Rattle.types.specs.declared.requested_service.RequestedServiceIdAnswer.TheVariants as requested
 use Rattle.types.specs.declared.error_mode.ErrorEntryMode.{ErrorEntryMode}
 use Rattle.types.specs.declared.error_mode.ErrorEntryMode.TheVariants.{Terminator, ErrorActive, ErrorCleared, EventOccurred}
-use Rattle.types.specs.declared.error_mode.ErrorEntryModeAnswer.TheVariants as mode
 
-pub message_known : (x : MessageType) → message_of (message_code x) ≡ message.Known x
+pub message_known : (x : MessageType) → message_of (message_code x) ≡ Ok x
 unfolding message_of
 message_known SoC = refl
 message_known PReq = refl
@@ -30,7 +27,7 @@ message_known PRes = refl
 message_known SoA = refl
 message_known ASnd = refl
 
-pub state_known : (x : NmtState) → state_of (state_code x) ≡ state.Known x
+pub state_known : (x : NmtState) → state_of (state_code x) ≡ Ok x
 unfolding state_of
 state_known NmtGsOff = refl
 state_known NmtGsInitialising = refl
@@ -56,7 +53,7 @@ priority_known Low3 = refl
 priority_known Low2 = refl
 priority_known Low1 = refl
 
-pub requested_known : (x : RequestedServiceId) → requested_of (requested_code x) ≡ requested.Known x
+pub requested_known : (x : RequestedServiceId) → requested_of (requested_code x) ≡ Ok x
 unfolding requested_of
 requested_known NoService = refl
 requested_known IdentRequest = refl
@@ -64,7 +61,7 @@ requested_known StatusRequest = refl
 requested_known NmtRequestInvite = refl
 requested_known UnspecifiedInvite = refl
 
-pub mode_known : (x : ErrorEntryMode) → mode_of (mode_code x) ≡ mode.Known x
+pub mode_known : (x : ErrorEntryMode) → mode_of (mode_code x) ≡ Ok x
 unfolding mode_of
 mode_known Terminator = refl
 mode_known ErrorActive = refl

@@ -1,6 +1,6 @@
 -- 01's table of causes, with its own numbers: what the definitions by name come to. And no two answers have the same number and values.
 -- Assumes nothing.
-use Rattle.std.specs.Prelude.{ℕ, ◌≡◌, [], ◌∷◌, get_or}
+use Rattle.std.specs.Prelude.{ℕ, ◌≡◌, [], ◌∷◌, get_or, Result, Ok, Err}
 use Rattle.types.specs.CauseNumbers.{too_short, not_powerlink, invalid_frame, unknown_message, unknown_state, unknown_service, unknown_request, entry_invalid, queue_full, not_status_response, not_registered, book_full, id_out_of_range, id_registered, four_registered, nothing_booked, not_a_journal, unknown_version, record_invalid, not_a_table, not_ascending, without_status_response, is_status_entry}
 use Rattle.types.specs.Causes.{row, cause_of, error_told}
 use Rattle.types.specs.CodeCauses.{message_cause, state_cause, requested_cause, mode_cause}
@@ -9,19 +9,12 @@ use Rattle.types.specs.Modes.{mode_code}
 use Rattle.types.specs.RequestedServices.{requested_code}
 use Rattle.types.specs.States.{state_code}
 use Rattle.types.specs.declared.error_mode.ErrorEntryMode.{ErrorEntryMode}
-use Rattle.types.specs.declared.error_mode.ErrorEntryModeAnswer.{ErrorEntryModeAnswer}
-use Rattle.types.specs.declared.error_mode.ErrorEntryModeAnswer.TheVariants as mode
 use Rattle.types.specs.declared.hal.PowerlinkError.{PowerlinkError}
 use Rattle.types.specs.declared.hal.PowerlinkError.TheVariants.{BufferTooShort, InvalidEthernetFrame, InvalidPlFrame, InvalidMessageType, InvalidNmtState, InvalidServiceId, InvalidRequestedServiceId}
 use Rattle.types.specs.declared.message_type.MessageType.{MessageType}
-use Rattle.types.specs.declared.message_type.MessageTypeAnswer.{MessageTypeAnswer}
-use Rattle.types.specs.declared.message_type.MessageTypeAnswer.TheVariants as message
 use Rattle.types.specs.declared.requested_service.RequestedServiceId.{RequestedServiceId}
-use Rattle.types.specs.declared.requested_service.RequestedServiceIdAnswer.{RequestedServiceIdAnswer}
-use Rattle.types.specs.declared.requested_service.RequestedServiceIdAnswer.TheVariants as requested
 use Rattle.types.specs.declared.states.NmtState.{NmtState}
-use Rattle.types.specs.declared.states.NmtStateAnswer.{NmtStateAnswer}
-use Rattle.types.specs.declared.states.NmtStateAnswer.TheVariants as state
+use Rattle.types.specs.declared.error_mode.UnknownMode.{UnknownMode}
 
 -- the column "Number", line by line
 pub record NumbersTell : Type 0 where
@@ -65,15 +58,15 @@ pub record ErrorsTell : Type 0 where
 
 -- the codes that are read
 pub record CodesTell : Type 0 where
-  pub a_message : (m : MessageType) → message_cause (message.Known m) ≡ row 0 (message_code m ∷ [])
-  pub no_message : (b : ℕ) → message_cause (message.Unknown b) ≡ row 4 (b ∷ [])
-  pub messages_apart : (a b : MessageTypeAnswer) → message_cause a ≡ message_cause b → a ≡ b
-  pub a_state : (s : NmtState) → state_cause (state.Known s) ≡ row 0 (state_code s ∷ [])
-  pub no_state : (b : ℕ) → state_cause (state.Unknown b) ≡ row 5 (b ∷ [])
-  pub states_apart : (a b : NmtStateAnswer) → state_cause a ≡ state_cause b → a ≡ b
-  pub a_requested : (s : RequestedServiceId) → requested_cause (requested.Known s) ≡ row 0 (requested_code s ∷ [])
-  pub no_requested : (b : ℕ) → requested_cause (requested.Unknown b) ≡ row 7 (b ∷ [])
-  pub requested_apart : (a b : RequestedServiceIdAnswer) → requested_cause a ≡ requested_cause b → a ≡ b
-  pub a_mode : (m : ErrorEntryMode) → mode_cause (mode.Known m) ≡ row 0 (mode_code m ∷ [])
-  pub no_mode : (b : ℕ) → mode_cause (mode.Unknown b) ≡ row 8 (b ∷ [])
-  pub modes_apart : (a b : ErrorEntryModeAnswer) → mode_cause a ≡ mode_cause b → a ≡ b
+  pub a_message : (m : MessageType) → message_cause (Ok m) ≡ row 0 (message_code m ∷ [])
+  pub no_message : (b : ℕ) → message_cause (Err (InvalidMessageType b)) ≡ row 4 (b ∷ [])
+  pub messages_apart : (a b : Result MessageType PowerlinkError) → message_cause a ≡ message_cause b → a ≡ b
+  pub a_state : (s : NmtState) → state_cause (Ok s) ≡ row 0 (state_code s ∷ [])
+  pub no_state : (b : ℕ) → state_cause (Err (InvalidNmtState b)) ≡ row 5 (b ∷ [])
+  pub states_apart : (a b : Result NmtState PowerlinkError) → state_cause a ≡ state_cause b → a ≡ b
+  pub a_requested : (s : RequestedServiceId) → requested_cause (Ok s) ≡ row 0 (requested_code s ∷ [])
+  pub no_requested : (b : ℕ) → requested_cause (Err (InvalidRequestedServiceId b)) ≡ row 7 (b ∷ [])
+  pub requested_apart : (a b : Result RequestedServiceId PowerlinkError) → requested_cause a ≡ requested_cause b → a ≡ b
+  pub a_mode : (m : ErrorEntryMode) → mode_cause (Ok m) ≡ row 0 (mode_code m ∷ [])
+  pub no_mode : (b : ℕ) → mode_cause (Err (record { 0 = b })) ≡ row 8 (b ∷ [])
+  pub modes_apart : (a b : Result ErrorEntryMode UnknownMode) → mode_cause a ≡ mode_cause b → a ≡ b

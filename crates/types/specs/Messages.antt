@@ -1,11 +1,11 @@
 -- Message types and their codes (EPSG DS 301, Appendix 3.1).
 -- Assumes nothing.
-use Rattle.std.specs.Prelude.{ℕ, List, [], ◌∷◌}
+use Rattle.std.specs.Prelude.{ℕ, List, [], ◌∷◌, Result, Ok, Err}
 use Rattle.types.specs.Codes.{decoded}
 use Rattle.types.specs.declared.message_type.MessageType.{MessageType}
 use Rattle.types.specs.declared.message_type.MessageType.TheVariants.{SoC, PReq, PRes, SoA, ASnd}
-use Rattle.types.specs.declared.message_type.MessageTypeAnswer.{MessageTypeAnswer}
-use Rattle.types.specs.declared.message_type.MessageTypeAnswer.TheVariants.{Known, Unknown}
+use Rattle.types.specs.declared.hal.PowerlinkError.{PowerlinkError}
+use Rattle.types.specs.declared.hal.PowerlinkError.TheVariants.{InvalidMessageType}
 
 abbrev pub message_code : MessageType → ℕ
 message_code SoC = 1
@@ -18,5 +18,5 @@ abbrev pub messages : List MessageType
 messages = SoC ∷ PReq ∷ PRes ∷ SoA ∷ ASnd ∷ []
 
 -- the message type whose code is b, or b itself where it is the code of none
-unfoldable pub message_of : ℕ → MessageTypeAnswer
-message_of b = decoded message_code Known (Unknown b) messages b
+unfoldable pub message_of : ℕ → Result MessageType PowerlinkError
+message_of b = decoded message_code Ok (Err (InvalidMessageType b)) messages b

@@ -1,11 +1,10 @@
 -- The modes of an error entry and their codes (EPSG DS 301, Table 96).
 -- Assumes nothing.
-use Rattle.std.specs.Prelude.{ℕ, ◌%◌, List, [], ◌∷◌}
+use Rattle.std.specs.Prelude.{ℕ, ◌%◌, List, [], ◌∷◌, Result, Ok, Err}
 use Rattle.types.specs.Codes.{decoded}
 use Rattle.types.specs.declared.error_mode.ErrorEntryMode.{ErrorEntryMode}
 use Rattle.types.specs.declared.error_mode.ErrorEntryMode.TheVariants.{Terminator, ErrorActive, ErrorCleared, EventOccurred}
-use Rattle.types.specs.declared.error_mode.ErrorEntryModeAnswer.{ErrorEntryModeAnswer}
-use Rattle.types.specs.declared.error_mode.ErrorEntryModeAnswer.TheVariants.{Known, Unknown}
+use Rattle.types.specs.declared.error_mode.UnknownMode.{UnknownMode}
 
 abbrev pub mode_code : ErrorEntryMode → ℕ
 mode_code Terminator = 0
@@ -24,8 +23,8 @@ abbrev pub modes : List ErrorEntryMode
 modes = Terminator ∷ ErrorActive ∷ ErrorCleared ∷ EventOccurred ∷ []
 
 -- the mode whose code is b, or b itself where it is the code of none
-unfoldable pub mode_of : ℕ → ErrorEntryModeAnswer
-mode_of b = decoded mode_code Known (Unknown b) modes b
+unfoldable pub mode_of : ℕ → Result ErrorEntryMode UnknownMode
+mode_of b = decoded mode_code Ok (Err (record { 0 = b })) modes b
 
 -- the mode in the two low bits of an octet
 unfoldable pub mode_in : ℕ → ErrorEntryMode

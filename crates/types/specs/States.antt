@@ -1,12 +1,12 @@
 -- NMT states and their codes (EPSG DS 301, Appendix 3.6). A state of both kinds of node has one name and
 -- one code. That only these twelve are read is powerlink-rs's rule.
 -- Assumes nothing.
-use Rattle.std.specs.Prelude.{ℕ, List, [], ◌∷◌}
+use Rattle.std.specs.Prelude.{ℕ, List, [], ◌∷◌, Result, Ok, Err}
 use Rattle.types.specs.Codes.{decoded}
 use Rattle.types.specs.declared.states.NmtState.{NmtState}
 use Rattle.types.specs.declared.states.NmtState.TheVariants.{NmtGsOff, NmtGsInitialising, NmtGsResetApplication, NmtGsResetCommunication, NmtGsResetConfiguration, NmtNotActive, NmtPreOperational1, NmtPreOperational2, NmtReadyToOperate, NmtOperational, NmtCsStopped, NmtBasicEthernet}
-use Rattle.types.specs.declared.states.NmtStateAnswer.{NmtStateAnswer}
-use Rattle.types.specs.declared.states.NmtStateAnswer.TheVariants.{Known, Unknown}
+use Rattle.types.specs.declared.hal.PowerlinkError.{PowerlinkError}
+use Rattle.types.specs.declared.hal.PowerlinkError.TheVariants.{InvalidNmtState}
 
 abbrev pub state_code : NmtState → ℕ
 state_code NmtGsOff = 0x00
@@ -26,5 +26,5 @@ abbrev pub states : List NmtState
 states = NmtGsOff ∷ NmtGsInitialising ∷ NmtGsResetApplication ∷ NmtGsResetCommunication ∷ NmtGsResetConfiguration ∷ NmtNotActive ∷ NmtPreOperational1 ∷ NmtPreOperational2 ∷ NmtReadyToOperate ∷ NmtOperational ∷ NmtCsStopped ∷ NmtBasicEthernet ∷ []
 
 -- the state whose code is b, or b itself where it is the code of none
-unfoldable pub state_of : ℕ → NmtStateAnswer
-state_of b = decoded state_code Known (Unknown b) states b
+unfoldable pub state_of : ℕ → Result NmtState PowerlinkError
+state_of b = decoded state_code Ok (Err (InvalidNmtState b)) states b

@@ -7,31 +7,25 @@ use crate::C_DLL_ETHERTYPE_EPL;
 use octets::big_endian::u16_be;
 
 // The six octets of an address, in the order in which they are sent.
-#[derive(Clone, Copy)]
+#[derive(Clone, Copy, Debug, PartialEq, Eq)]
 pub struct MacAddress(pub [u8; 6]);
 
 impl MacAddress {
+    // The address of all stations.
+    pub const BROADCAST: MacAddress = MacAddress([0xFF; 6]);
+
     // Whether the address is that of a group.
     pub fn is_multicast(self) -> bool
         ensures { result ≡ is_multicast self.0 }
     {
-        let a = self.0;
-        a[0] % 2 == 1
+        self.0[0] % 2 == 1
     }
 
     // Whether the address is that of all stations.
     pub fn is_broadcast(self) -> bool
         ensures { result ≡ is_broadcast self.0 }
     {
-        let a = self.0;
-        let mut i = 0;
-        while i < 6 {
-            if a[i] != 0xFF {
-                return false;
-            }
-            i += 1;
-        }
-        true
+        self == MacAddress::BROADCAST
     }
 }
 
@@ -39,7 +33,7 @@ impl MacAddress {
 pub const ETH_LEN: usize = 14;
 
 // The octets in front of a frame's section.
-#[derive(Clone, Copy)]
+#[derive(Clone, Copy, Debug, PartialEq, Eq)]
 pub struct EthernetHeader {
     pub destination_mac: MacAddress,
     pub source_mac: MacAddress,

@@ -8,7 +8,7 @@ use crate::{
     C_DLL_MULTICAST_ASND, C_DLL_MULTICAST_PRES, C_DLL_MULTICAST_SOA, C_DLL_MULTICAST_SOC,
 };
 
-#[derive(Clone, Copy)]
+#[derive(Clone, Copy, Debug, PartialEq, Eq)]
 pub struct Constants {
     pub ethertype_epl: u16,
     pub max_cn_node_id: u8,

@@ -3,40 +3,40 @@ ghost use Rattle.std.specs.Prelude.{true, false, ◌≡◌};
 ghost use Rattle.types.specs.CodeCauses.{ReadsMode};
 ghost use Rattle.types.specs.Modes.{mode_code, mode_in, unless_terminator};
 
-#[derive(Clone, Copy)]
+#[derive(Clone, Copy, Debug, PartialEq, Eq)]
 pub enum ErrorEntryMode {
-    Terminator,
-    ErrorActive,
-    ErrorCleared,
-    EventOccurred,
+    Terminator = 0,
+    ErrorActive = 1,
+    ErrorCleared = 2,
+    EventOccurred = 3,
 }
 
-// A code that was read: its mode, or the octet that is the code of none.
-#[derive(Clone, Copy)]
-pub enum ErrorEntryModeAnswer {
-    Known(ErrorEntryMode),
-    Unknown(u8),
+// An octet that is the code of no mode.
+#[derive(Clone, Copy, Debug, PartialEq, Eq)]
+pub struct UnknownMode(pub u8);
+
+impl TryFrom<u8> for ErrorEntryMode {
+    type Error = UnknownMode;
+
+    ghost try_from_gives = { ReadsMode };
+
+    fn try_from(b: u8) -> Result<ErrorEntryMode, UnknownMode> {
+        match b {
+            0 => Ok(ErrorEntryMode::Terminator),
+            1 => Ok(ErrorEntryMode::ErrorActive),
+            2 => Ok(ErrorEntryMode::ErrorCleared),
+            3 => Ok(ErrorEntryMode::EventOccurred),
+            _ => Err(UnknownMode(b)),
+        }
+    }
 }
 
 impl ErrorEntryMode {
-    pub fn from_u8(b: u8) -> ErrorEntryModeAnswer
-        ensures { ReadsMode b result }
-    {
-        match b {
-            0 => ErrorEntryModeAnswer::Known(ErrorEntryMode::Terminator),
-            1 => ErrorEntryModeAnswer::Known(ErrorEntryMode::ErrorActive),
-            2 => ErrorEntryModeAnswer::Known(ErrorEntryMode::ErrorCleared),
-            3 => ErrorEntryModeAnswer::Known(ErrorEntryMode::EventOccurred),
-            _ => ErrorEntryModeAnswer::Unknown(b),
-        }
-    }
-
     // The mode in the two low bits of an octet.
     pub fn from_bits(b: u8) -> ErrorEntryMode
         ensures { result ≡ mode_in b }
     {
-        let low = b % 4;
-        match low {
+        match b % 4 {
             0 => ErrorEntryMode::Terminator,
             1 => ErrorEntryMode::ErrorActive,
             2 => ErrorEntryMode::ErrorCleared,
@@ -48,22 +48,14 @@ impl ErrorEntryMode {
     pub fn is_terminator(self) -> bool
         ensures { result ≡ unless_terminator self false true }
     {
-        match self {
-            ErrorEntryMode::Terminator => true,
-            ErrorEntryMode::ErrorActive => false,
-            ErrorEntryMode::ErrorCleared => false,
-            ErrorEntryMode::EventOccurred => false,
-        }
+        self == ErrorEntryMode::Terminator
     }
+}
 
-    pub fn to_u8(self) -> u8
-        ensures { result ≡ mode_code self }
-    {
-        match self {
-            ErrorEntryMode::Terminator => 0,
-            ErrorEntryMode::ErrorActive => 1,
-            ErrorEntryMode::ErrorCleared => 2,
-            ErrorEntryMode::EventOccurred => 3,
-        }
+impl From<ErrorEntryMode> for u8 {
+    ghost from_gives = { λ x b. b ≡ mode_code x };
+
+    fn from(mode: ErrorEntryMode) -> u8 {
+        mode as u8
     }
 }

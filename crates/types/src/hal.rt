@@ -8,7 +8,7 @@ use crate::causes::{
 };
 
 // Why a frame, or a buffer for one, is refused. What stands in brackets is the octet that was found.
-#[derive(Clone, Copy)]
+#[derive(Clone, Copy, Debug, PartialEq, Eq)]
 pub enum PowerlinkError {
     BufferTooShort,
     InvalidEthernetFrame,

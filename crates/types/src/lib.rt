@@ -17,7 +17,7 @@ pub mod requested_service;
 pub mod states;
 
 // A POWERLINK node ID. Any octet is one: what a frame holds is kept as it stands.
-#[derive(Clone, Copy)]
+#[derive(Clone, Copy, Debug, PartialEq, Eq)]
 pub struct NodeId(pub u8);
 
 impl NodeId {
@@ -25,16 +25,12 @@ impl NodeId {
     pub fn is_cn(self) -> bool
         ensures { result ≡ is_cn_node_id self.0 }
     {
-        let id = self.0;
-        if id < 1 {
-            return false;
-        }
-        id <= C_ADR_MAX_CN_NODE_ID
+        1 <= self.0 && self.0 <= C_ADR_MAX_CN_NODE_ID
     }
 }
 
 // The version of POWERLINK (EPSG DS 301, Table 112).
-#[derive(Clone, Copy)]
+#[derive(Clone, Copy, Debug, PartialEq, Eq)]
 pub struct EPLVersion(pub u8);
 
 // The EtherType of POWERLINK frames.

@@ -3,45 +3,38 @@ ghost use Rattle.std.specs.Prelude.{◌≡◌};
 ghost use Rattle.types.specs.CodeCauses.{ReadsMessage};
 ghost use Rattle.types.specs.Messages.{message_code};
 
-#[derive(Clone, Copy)]
+use crate::hal::PowerlinkError;
+
+#[derive(Clone, Copy, Debug, PartialEq, Eq)]
 pub enum MessageType {
-    SoC,
-    PReq,
-    PRes,
-    SoA,
-    ASnd,
+    SoC = 1,
+    PReq = 3,
+    PRes = 4,
+    SoA = 5,
+    ASnd = 6,
 }
 
-// A code that was read: its message type, or the octet that is the code of none.
-#[derive(Clone, Copy)]
-pub enum MessageTypeAnswer {
-    Known(MessageType),
-    Unknown(u8),
-}
+impl TryFrom<u8> for MessageType {
+    type Error = PowerlinkError;
 
-impl MessageType {
-    pub fn from_u8(b: u8) -> MessageTypeAnswer
-        ensures { ReadsMessage b result }
-    {
+    ghost try_from_gives = { ReadsMessage };
+
+    fn try_from(b: u8) -> Result<MessageType, PowerlinkError> {
         match b {
-            1 => MessageTypeAnswer::Known(MessageType::SoC),
-            3 => MessageTypeAnswer::Known(MessageType::PReq),
-            4 => MessageTypeAnswer::Known(MessageType::PRes),
-            5 => MessageTypeAnswer::Known(MessageType::SoA),
-            6 => MessageTypeAnswer::Known(MessageType::ASnd),
-            _ => MessageTypeAnswer::Unknown(b),
+            1 => Ok(MessageType::SoC),
+            3 => Ok(MessageType::PReq),
+            4 => Ok(MessageType::PRes),
+            5 => Ok(MessageType::SoA),
+            6 => Ok(MessageType::ASnd),
+            _ => Err(PowerlinkError::InvalidMessageType(b)),
         }
     }
+}
 
-    pub fn to_u8(self) -> u8
-        ensures { result ≡ message_code self }
-    {
-        match self {
-            MessageType::SoC => 1,
-            MessageType::PReq => 3,
-            MessageType::PRes => 4,
-            MessageType::SoA => 5,
-            MessageType::ASnd => 6,
-        }
+impl From<MessageType> for u8 {
+    ghost from_gives = { λ x b. b ≡ message_code x };
+
+    fn from(message_type: MessageType) -> u8 {
+        message_type as u8
     }
 }

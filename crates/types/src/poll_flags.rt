@@ -3,25 +3,24 @@ ghost use Rattle.std.specs.Prelude.{◌≡◌};
 ghost use Rattle.types.specs.PollFlags.{priority_code, priority_in, requests_to_send, poll_octet, priority_at, requests_at};
 
 // The priority of the oldest request, highest first.
-#[derive(Clone, Copy)]
+#[derive(Clone, Copy, Debug, PartialEq, Eq)]
 pub enum PRFlag {
-    PrioNmtRequest,
-    High3,
-    High2,
-    High1,
-    PrioGenericRequest,
-    Low3,
-    Low2,
-    Low1,
+    PrioNmtRequest = 7,
+    High3 = 6,
+    High2 = 5,
+    High1 = 4,
+    PrioGenericRequest = 3,
+    Low3 = 2,
+    Low2 = 1,
+    Low1 = 0,
 }
 
-impl PRFlag {
+impl From<u8> for PRFlag {
+    ghost from_gives = { λ b p. p ≡ priority_in b };
+
     // The priority in the three low bits of an octet: the others are masked, as in the Rust.
-    pub fn from_u8(b: u8) -> PRFlag
-        ensures { result ≡ priority_in b }
-    {
-        let low = b % 8;
-        match low {
+    fn from(b: u8) -> PRFlag {
+        match b % 8 {
             7 => PRFlag::PrioNmtRequest,
             6 => PRFlag::High3,
             5 => PRFlag::High2,
@@ -32,39 +31,34 @@ impl PRFlag {
             _ => PRFlag::Low1,
         }
     }
+}
 
-    pub fn to_u8(self) -> u8
-        ensures { result ≡ priority_code self }
-    {
-        match self {
-            PRFlag::PrioNmtRequest => 7,
-            PRFlag::High3 => 6,
-            PRFlag::High2 => 5,
-            PRFlag::High1 => 4,
-            PRFlag::PrioGenericRequest => 3,
-            PRFlag::Low3 => 2,
-            PRFlag::Low2 => 1,
-            PRFlag::Low1 => 0,
-        }
+impl From<PRFlag> for u8 {
+    ghost from_gives = { λ p b. b ≡ priority_code p };
+
+    fn from(priority: PRFlag) -> u8 {
+        priority as u8
     }
 }
 
+// The number that the three bits of a count hold at most.
+const MOST: u8 = 7;
+
 // How many requests wait to be sent. Above 7 counts as 7.
-#[derive(Clone, Copy)]
+#[derive(Clone, Copy, Debug, PartialEq, Eq)]
 pub struct RSFlag(pub u8);
 
 impl RSFlag {
     pub fn new(value: u8) -> RSFlag
         ensures { result.0 ≡ requests_to_send value }
     {
-        if value < 7 { RSFlag(value) } else { RSFlag(7) }
+        RSFlag(value.min(MOST))
     }
 
     pub fn get(self) -> u8
         ensures { result ≡ requests_to_send self.0 }
     {
-        let value = self.0;
-        if value < 7 { value } else { 7 }
+        self.0.min(MOST)
     }
 }
 
@@ -72,14 +66,14 @@ impl RSFlag {
 pub fn poll_octet(pr: PRFlag, rs: RSFlag) -> u8
     ensures { result ≡ poll_octet pr rs.0 }
 {
-    8 * pr.to_u8() + rs.get()
+    8 * u8::from(pr) + rs.get()
 }
 
 // And each of them, read from it.
 pub fn priority_at(octet: u8) -> PRFlag
     ensures { result ≡ priority_at octet }
 {
-    PRFlag::from_u8(octet / 8)
+    PRFlag::from(octet / 8)
 }
 
 pub fn requests_at(octet: u8) -> RSFlag

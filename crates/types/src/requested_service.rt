@@ -3,45 +3,38 @@ ghost use Rattle.std.specs.Prelude.{◌≡◌};
 ghost use Rattle.types.specs.CodeCauses.{ReadsRequested};
 ghost use Rattle.types.specs.RequestedServices.{requested_code};
 
-#[derive(Clone, Copy)]
+use crate::hal::PowerlinkError;
+
+#[derive(Clone, Copy, Debug, PartialEq, Eq)]
 pub enum RequestedServiceId {
-    NoService,
-    IdentRequest,
-    StatusRequest,
-    NmtRequestInvite,
-    UnspecifiedInvite,
+    NoService = 0x00,
+    IdentRequest = 0x01,
+    StatusRequest = 0x02,
+    NmtRequestInvite = 0x03,
+    UnspecifiedInvite = 0xFF,
 }
 
-// A code that was read: its requested service, or the octet that is the code of none.
-#[derive(Clone, Copy)]
-pub enum RequestedServiceIdAnswer {
-    Known(RequestedServiceId),
-    Unknown(u8),
-}
+impl TryFrom<u8> for RequestedServiceId {
+    type Error = PowerlinkError;
 
-impl RequestedServiceId {
-    pub fn from_u8(b: u8) -> RequestedServiceIdAnswer
-        ensures { ReadsRequested b result }
-    {
+    ghost try_from_gives = { ReadsRequested };
+
+    fn try_from(b: u8) -> Result<RequestedServiceId, PowerlinkError> {
         match b {
-            0x00 => RequestedServiceIdAnswer::Known(RequestedServiceId::NoService),
-            0x01 => RequestedServiceIdAnswer::Known(RequestedServiceId::IdentRequest),
-            0x02 => RequestedServiceIdAnswer::Known(RequestedServiceId::StatusRequest),
-            0x03 => RequestedServiceIdAnswer::Known(RequestedServiceId::NmtRequestInvite),
-            0xFF => RequestedServiceIdAnswer::Known(RequestedServiceId::UnspecifiedInvite),
-            _ => RequestedServiceIdAnswer::Unknown(b),
+            0x00 => Ok(RequestedServiceId::NoService),
+            0x01 => Ok(RequestedServiceId::IdentRequest),
+            0x02 => Ok(RequestedServiceId::StatusRequest),
+            0x03 => Ok(RequestedServiceId::NmtRequestInvite),
+            0xFF => Ok(RequestedServiceId::UnspecifiedInvite),
+            _ => Err(PowerlinkError::InvalidRequestedServiceId(b)),
         }
     }
+}
 
-    pub fn to_u8(self) -> u8
-        ensures { result ≡ requested_code self }
-    {
-        match self {
-            RequestedServiceId::NoService => 0x00,
-            RequestedServiceId::IdentRequest => 0x01,
-            RequestedServiceId::StatusRequest => 0x02,
-            RequestedServiceId::NmtRequestInvite => 0x03,
-            RequestedServiceId::UnspecifiedInvite => 0xFF,
-        }
+impl From<RequestedServiceId> for u8 {
+    ghost from_gives = { λ x b. b ≡ requested_code x };
+
+    fn from(service: RequestedServiceId) -> u8 {
+        service as u8
     }
 }

@@ -3,66 +3,52 @@ ghost use Rattle.std.specs.Prelude.{◌≡◌};
 ghost use Rattle.types.specs.CodeCauses.{ReadsState};
 ghost use Rattle.types.specs.States.{state_code};
 
-#[derive(Clone, Copy)]
+use crate::hal::PowerlinkError;
+
+#[derive(Clone, Copy, Debug, PartialEq, Eq)]
 pub enum NmtState {
-    NmtGsOff,
-    NmtGsInitialising,
-    NmtGsResetApplication,
-    NmtGsResetCommunication,
-    NmtGsResetConfiguration,
-    NmtNotActive,
-    NmtPreOperational1,
-    NmtPreOperational2,
-    NmtReadyToOperate,
-    NmtOperational,
-    NmtCsStopped,
-    NmtBasicEthernet,
+    NmtGsOff = 0x00,
+    NmtGsInitialising = 0x19,
+    NmtGsResetApplication = 0x29,
+    NmtGsResetCommunication = 0x39,
+    NmtGsResetConfiguration = 0x79,
+    NmtNotActive = 0x1C,
+    NmtPreOperational1 = 0x1D,
+    NmtPreOperational2 = 0x5D,
+    NmtReadyToOperate = 0x6D,
+    NmtOperational = 0xFD,
+    NmtCsStopped = 0x4D,
+    NmtBasicEthernet = 0x1E,
 }
 
-// A code that was read: its state, or the octet that is the code of none.
-#[derive(Clone, Copy)]
-pub enum NmtStateAnswer {
-    Known(NmtState),
-    Unknown(u8),
-}
+impl TryFrom<u8> for NmtState {
+    type Error = PowerlinkError;
 
-impl NmtState {
-    pub fn from_u8(b: u8) -> NmtStateAnswer
-        ensures { ReadsState b result }
-    {
+    ghost try_from_gives = { ReadsState };
+
+    fn try_from(b: u8) -> Result<NmtState, PowerlinkError> {
         match b {
-            0x00 => NmtStateAnswer::Known(NmtState::NmtGsOff),
-            0x19 => NmtStateAnswer::Known(NmtState::NmtGsInitialising),
-            0x29 => NmtStateAnswer::Known(NmtState::NmtGsResetApplication),
-            0x39 => NmtStateAnswer::Known(NmtState::NmtGsResetCommunication),
-            0x79 => NmtStateAnswer::Known(NmtState::NmtGsResetConfiguration),
-            0x1C => NmtStateAnswer::Known(NmtState::NmtNotActive),
-            0x1D => NmtStateAnswer::Known(NmtState::NmtPreOperational1),
-            0x5D => NmtStateAnswer::Known(NmtState::NmtPreOperational2),
-            0x6D => NmtStateAnswer::Known(NmtState::NmtReadyToOperate),
-            0xFD => NmtStateAnswer::Known(NmtState::NmtOperational),
-            0x4D => NmtStateAnswer::Known(NmtState::NmtCsStopped),
-            0x1E => NmtStateAnswer::Known(NmtState::NmtBasicEthernet),
-            _ => NmtStateAnswer::Unknown(b),
+            0x00 => Ok(NmtState::NmtGsOff),
+            0x19 => Ok(NmtState::NmtGsInitialising),
+            0x29 => Ok(NmtState::NmtGsResetApplication),
+            0x39 => Ok(NmtState::NmtGsResetCommunication),
+            0x79 => Ok(NmtState::NmtGsResetConfiguration),
+            0x1C => Ok(NmtState::NmtNotActive),
+            0x1D => Ok(NmtState::NmtPreOperational1),
+            0x5D => Ok(NmtState::NmtPreOperational2),
+            0x6D => Ok(NmtState::NmtReadyToOperate),
+            0xFD => Ok(NmtState::NmtOperational),
+            0x4D => Ok(NmtState::NmtCsStopped),
+            0x1E => Ok(NmtState::NmtBasicEthernet),
+            _ => Err(PowerlinkError::InvalidNmtState(b)),
         }
     }
+}
 
-    pub fn to_u8(self) -> u8
-        ensures { result ≡ state_code self }
-    {
-        match self {
-            NmtState::NmtGsOff => 0x00,
-            NmtState::NmtGsInitialising => 0x19,
-            NmtState::NmtGsResetApplication => 0x29,
-            NmtState::NmtGsResetCommunication => 0x39,
-            NmtState::NmtGsResetConfiguration => 0x79,
-            NmtState::NmtNotActive => 0x1C,
-            NmtState::NmtPreOperational1 => 0x1D,
-            NmtState::NmtPreOperational2 => 0x5D,
-            NmtState::NmtReadyToOperate => 0x6D,
-            NmtState::NmtOperational => 0xFD,
-            NmtState::NmtCsStopped => 0x4D,
-            NmtState::NmtBasicEthernet => 0x1E,
-        }
+impl From<NmtState> for u8 {
+    ghost from_gives = { λ x b. b ≡ state_code x };
+
+    fn from(state: NmtState) -> u8 {
+        state as u8
     }
 }

@@ -5,16 +5,16 @@ use mathlib.Core.Bool.{Bool, false}
 use mathlib.Core.List.{List}
 use Prim.Native.Nat.{ℕ}
 use native.Mathlib.Omega.{arith}
+use Rattle.std.specs.Prelude.{Option, Some}
 use Rattle.types.specs.declared.NodeId.{NodeId}
 use Rattle.collector.specs.Calls.{Flags}
 use Rattle.collector.specs.Layout.{slot_of, ea_in, account_of}
 use Rattle.collector.specs.Rules.{flags_answer, flags_cause}
-use Rattle.collector.specs.declared.FlagsAnswer.{FlagsAnswer}
-use Rattle.collector.specs.declared.FlagsAnswer.TheVariants as flagging
 use Rattle.collector.proofs.IdLaws.{place_none, place_some}
 use Rattle.collector.proofs.flags.Goals as goal
+use Rattle.control.specs.declared.soa.SoAFlags.{SoAFlags}
 
-flags : (i : NodeId) (r : FlagsAnswer) (s : List ℕ) → r ≡ flags_answer (account_of s i.0) → Flags i r s
+flags : (i : NodeId) (r : Option SoAFlags) (s : List ℕ) → r ≡ flags_answer (account_of s i.0) → Flags i r s
 flags i r s a = record { answer = a; cause = ap flags_cause a }
 
 pub returns-then-k-ge-NODES : goal.returns-then-k-ge-NODES
@@ -29,4 +29,4 @@ returns c =
     let i = a.id.0 in
     let e : c.ea.result ≡ ea_in s (slot_of s i) = c.ea.ensures ∙ ap (ea_in s) c.slot-k.ensures.0 in
     flags a.id _ s
-    (rw (place_some s i (omega (arith, c.slot-k.ensures.0))) (ap (λ (x : Bool). flagging.Flags (record { ea = x; er = false })) e))
+    (rw (place_some s i (omega (arith, c.slot-k.ensures.0))) (ap (λ (x : Bool). Some (record { ea = x; er = false })) e))

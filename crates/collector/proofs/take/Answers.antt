@@ -4,8 +4,8 @@ use Prim.Native.Nat.{ℕ, ◌<◌}
 use mathlib.Core.Path.{refl, sym, ap, ◌∙◌}
 use native.Mathlib.Omega.{arith}
 use borrow.Author.Rules.{rules}
+use Rattle.std.specs.Prelude.{Ok}
 use Rattle.collector.specs.Layout.{slot_of, count_in, start_in, entry_in, taken_bytes}
-use Rattle.collector.specs.declared.TakeAnswer.TheVariants.{Taken}
 use Rattle.collector.proofs.AnswerLaws.{take_unknown, take_nothing, take_one}
 use Rattle.collector.proofs.CallLaws.{takes}
 use Rattle.collector.proofs.take.Goals as goal
@@ -35,5 +35,5 @@ returns c =
     let more : 0 < count_in s (slot_of s a.id.0) = omega (arith, ap (count_in s) (sym e), c.count.ensures.0) in
     let f = c.take_first.ensures in
     takes a.id _ s _ c.slot-k.ensures.2
-    (ap Taken (f.0 ∙ ap (λ (j : ℕ). entry_in s j (start_in s j)) e) ∙ take_one s a.id.0 (omega (arith, e)) c.slot-k.ensures.2 more)
+    (ap Ok (f.0 ∙ ap (λ (j : ℕ). entry_in s j (start_in s j)) e) ∙ take_one s a.id.0 (omega (arith, e)) c.slot-k.ensures.2 more)
     (f.1 ∙ ap (taken_bytes s) e)

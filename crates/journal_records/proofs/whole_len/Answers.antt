@@ -2,12 +2,13 @@
 -- Assumes nothing.
 use mathlib.Core.Path.{◌≡◌, ap}
 use Prim.Native.Nat.{ℕ}
+use Rattle.std.specs.Prelude.{Result}
 use Rattle.journal_records.specs.Whole.{whole_len, whole_len_cause, TellsWhole}
-use Rattle.journal_records.specs.declared.WholeLenAnswer.{WholeLenAnswer}
 use Rattle.journal_records.proofs.Whole.{whole_cut, whole_version, whole_known}
 use Rattle.journal_records.proofs.whole_len.Goals as goal
+use Rattle.journal_records.specs.declared.WholeLenError.{WholeLenError}
 
-tells : (version len : ℕ) (r : WholeLenAnswer) → r ≡ whole_len version len → TellsWhole version len r
+tells : (version len : ℕ) (r : Result ℕ WholeLenError) → r ≡ whole_len version len → TellsWhole version len r
 tells version len r a = record { answer = a; cause = ap whole_len_cause a }
 
 pub returns-then-len-lt-JOURNAL_START_LEN : goal.returns-then-len-lt-JOURNAL_START_LEN

@@ -5,16 +5,17 @@ use mathlib.Core.Path.{◌≡◌, sym, ap, ◌∙◌}
 use mathlib.Core.Bool.{Bool}
 use mathlib.Core.List.{List}
 use borrow.Author.Tests.{eq-eqb, ne_eqb}
+use Rattle.std.specs.Prelude.{Result, Ok, Some, None}
 use Rattle.types.specs.Codes.{pick}
 use Rattle.services.specs.Ids.{status_response}
 use Rattle.codec.specs.Frame.{read_frame}
-use Rattle.codec.specs.declared.FrameAnswer.{FrameAnswer}
 use Rattle.collector.specs.Rules.{response_in_answer, response_in_frame, response_in}
-use Rattle.collector.specs.declared.reading.Heard.TheVariants.{Status, Other}
 use Rattle.collector.proofs.reading.hear.Goals as goal
+use Rattle.frame.specs.declared.PowerlinkFrame.{PowerlinkFrame}
+use Rattle.types.specs.declared.hal.PowerlinkError.{PowerlinkError}
 
 -- by the answer of the frame that was read
-by_answer : (services f : List ℕ) (r a : FrameAnswer) → r ≡ read_frame services f → r ≡ a → response_in_answer a ≡ response_in services f
+by_answer : (services f : List ℕ) (r a : Result PowerlinkFrame PowerlinkError) → r ≡ read_frame services f → r ≡ a → response_in_answer a ≡ response_in services f
 by_answer services f r a read is = ap response_in_answer (sym is ∙ read)
 
 pub returns-in-Refused : goal.returns-in-Refused
@@ -22,12 +23,12 @@ returns-in-Refused c = by_answer _ _ _ _ c.read_frame.ensures.answer c.in-Refuse
 
 pub returns-then-f-ne-STATUS_RESPONSE : goal.returns-then-f-ne-STATUS_RESPONSE
 returns-then-f-ne-STATUS_RESPONSE c =
-    sym (ap (λ (b : Bool). pick b (Status c.in-ASnd.f.source) Other) (ne_eqb _ status_response c.if-f-ne-STATUS_RESPONSE.true))
+    sym (ap (λ (b : Bool). pick b (Ok (Some c.in)-ASnd.f.source) (Ok None)) (ne_eqb _ status_response c.if-f-ne-STATUS_RESPONSE.true))
     ∙ ap response_in_frame (sym c.in-ASnd.is)
     ∙ by_answer _ _ _ _ c.read_frame.ensures.answer c.in-Frame.is
 
 pub returns : goal.returns
 returns c =
-    sym (ap (λ (b : Bool). pick b (Status c.in-ASnd.f.source) Other) (eq-eqb _ status_response c.if-f-ne-STATUS_RESPONSE.false))
+    sym (ap (λ (b : Bool). pick b (Ok (Some c.in)-ASnd.f.source) (Ok None)) (eq-eqb _ status_response c.if-f-ne-STATUS_RESPONSE.false))
     ∙ ap response_in_frame (sym c.in-ASnd.is)
     ∙ by_answer _ _ _ _ c.read_frame.ensures.answer c.in-Frame.is

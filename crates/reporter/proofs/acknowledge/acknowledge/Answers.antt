@@ -1,7 +1,8 @@
 -- `acknowledge::acknowledge` meets its contract.
 -- Assumes nothing.
 use mathlib.Core.Path.{refl}
-use Rattle.reporter.specs.declared.ReadAnswer.TheVariants.{Closed, Kept}
+use Rattle.std.specs.Prelude.{Ok}
+use Rattle.reporter.specs.declared.ReadOutcome.TheVariants.{Closed, Kept}
 use Rattle.reporter.proofs.CallLaws.{acknowledges, none_open, other_ea, same_ea}
 use Rattle.reporter.proofs.acknowledge.acknowledge.Goals as goal
 
@@ -9,13 +10,13 @@ pub returns-then-open-eq0 : goal.returns-then-open-eq0
 returns-then-open-eq0 c =
     let a = c.args in
     let s = a.state.now in
-    acknowledges a.ea s c.«open».ensures.2 Kept (none_open a.ea s _ c.«open».ensures.0 c.if-open-eq0.true) _ refl
+    acknowledges a.ea s c.«open».ensures.2 (Ok Kept) (none_open a.ea s _ c.«open».ensures.0 c.if-open-eq0.true) _ refl
 
 pub returns-then-en-ea : goal.returns-then-en-ea
 returns-then-en-ea c =
     let a = c.args in
     let s = a.state.now in
-    acknowledges a.ea s c.«open».ensures.2 Kept
+    acknowledges a.ea s c.«open».ensures.2 (Ok Kept)
     (other_ea a.ea s _ c.«open».ensures.0 c.if-open-eq0.false _ c.en.ensures c.if-en-ea.true)
     _ refl
 
@@ -23,6 +24,6 @@ pub returns : goal.returns
 returns c =
     let a = c.args in
     let s = a.state.now in
-    acknowledges a.ea s c.«open».ensures.2 Closed
+    acknowledges a.ea s c.«open».ensures.2 (Ok Closed)
     (same_ea a.ea s _ c.«open».ensures.0 c.if-open-eq0.false _ c.en.ensures c.if-en-ea.false)
     _ c.close.ensures

@@ -2,7 +2,7 @@
 -- Assumes nothing.
 use mathlib.Core.Path.{refl, sym, ap, ◌∙◌}
 use native.Mathlib.Omega.{arith}
-use Rattle.section.specs.declared.WriteAnswer.TheVariants.{Written}
+use Rattle.std.specs.Prelude.{Ok}
 use Rattle.status_response.proofs.Places.{fit_true}
 use Rattle.status_response.proofs.entries.finish.Goals as goal
 
@@ -16,7 +16,7 @@ status_len-requires c =
 
 pub returns-then-fits : goal.returns-then-fits
 returns-then-fits c =
-    rw (sym c.fits.ensures ∙ c.if-fits.true) (ap Written c.status_len.ensures, c.put_terminator.ensures)
+    rw (sym c.fits.ensures ∙ c.if-fits.true) (ap Ok c.status_len.ensures, c.put_terminator.ensures)
 
 pub returns : goal.returns
 returns c = rw (sym c.fits.ensures ∙ c.if-fits.false) (refl, refl)

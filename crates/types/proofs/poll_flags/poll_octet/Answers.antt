@@ -7,10 +7,10 @@ use Rattle.types.proofs.poll_flags.poll_octet.Goals as goal
 
 pub returns : goal.returns
 unfolding poll_octet
-returns c = omega (arith, c.to_u8.ensures, c.get.ensures)
+returns c = omega (arith, c.from.ensures, c.get.ensures)
 
 pub overflow_mul-result : goal.overflow_mul-result
-overflow_mul-result c = record { fits = omega (arith, priority_small c.args.pr, c.to_u8.ensures) }
+overflow_mul-result c = record { fits = omega (arith, priority_small c.args.pr, c.from.ensures) }
 
 pub overflow_add-result : goal.overflow_add-result
-overflow_add-result c = omega (arith, priority_small c.args.pr, c.to_u8.ensures, c.get.ensures)
+overflow_add-result c = omega (arith, priority_small c.args.pr, c.from.ensures, c.get.ensures)

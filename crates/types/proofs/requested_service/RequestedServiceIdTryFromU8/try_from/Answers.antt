@@ -1,10 +1,10 @@
--- `RequestedServiceId::from_u8` meets its contract: each arm is a code of the table, and the default arm none.
+-- `RequestedServiceId::try_from` meets its contract: each arm is a code of the table, and the default arm none.
 -- Assumes nothing.
+use Rattle.std.specs.Prelude.{Ok}
 use Rattle.types.specs.RequestedServices.{requested_code, requested_services, requested_of}
-use Rattle.types.specs.declared.requested_service.RequestedServiceIdAnswer.TheVariants.{Known}
 use Rattle.types.proofs.CodeCauses.{requested_told}
 use Rattle.types.proofs.Codes.{unlisted}
-use Rattle.types.proofs.requested_service.RequestedServiceId.from_u8.Goals as goal
+use Rattle.types.proofs.requested_service.RequestedServiceIdTryFromU8.try_from.Goals as goal
 
 pub returns-in-0 : goal.returns-in-0
 unfolding requested_of
@@ -28,4 +28,4 @@ returns-in-255 c = requested_told c.args.b _ (rw c.in-255.is)
 
 pub returns-in_default : goal.returns-in_default
 unfolding requested_of
-returns-in_default c = requested_told c.args.b _ (unlisted requested_code Known _ _ Unit requested_services c.in_default.in_default-own.rest).1
+returns-in_default c = requested_told c.args.b _ (unlisted requested_code Ok _ _ Unit requested_services c.in_default.in_default-own.rest).1

@@ -1,4 +1,4 @@
--- `PRFlag::from_u8` meets its contract: each arm is a code of the table, and the default arm its last value.
+-- `PRFlag::from` meets its contract: each arm is a code of the table, and the default arm its last value.
 -- Assumes nothing.
 use Prim.Native.Nat.{◌%◌}
 use mathlib.Core.Path.{◌∙◌}
@@ -6,7 +6,7 @@ use lib.ListN.{take}
 use Rattle.types.specs.PollFlags.{priority_code, priorities, priority_in}
 use Rattle.types.specs.declared.poll_flags.PRFlag.TheVariants.{Low1}
 use Rattle.types.proofs.Codes.{unlisted, last_unlisted}
-use Rattle.types.proofs.poll_flags.PRFlag.from_u8.Goals as goal
+use Rattle.types.proofs.poll_flags.PRFlagFromU8.from.Goals as goal
 
 pub returns-in-7 : goal.returns-in-7
 unfolding priority_in

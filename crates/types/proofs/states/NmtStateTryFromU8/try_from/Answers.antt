@@ -1,10 +1,10 @@
--- `NmtState::from_u8` meets its contract: each arm is a code of the table, and the default arm none.
+-- `NmtState::try_from` meets its contract: each arm is a code of the table, and the default arm none.
 -- Assumes nothing.
+use Rattle.std.specs.Prelude.{Ok}
 use Rattle.types.specs.States.{state_code, states, state_of}
-use Rattle.types.specs.declared.states.NmtStateAnswer.TheVariants.{Known}
 use Rattle.types.proofs.CodeCauses.{state_told}
 use Rattle.types.proofs.Codes.{unlisted}
-use Rattle.types.proofs.states.NmtState.from_u8.Goals as goal
+use Rattle.types.proofs.states.NmtStateTryFromU8.try_from.Goals as goal
 
 pub returns-in-0 : goal.returns-in-0
 unfolding state_of
@@ -56,4 +56,4 @@ returns-in-30 c = state_told c.args.b _ (rw c.in-30.is)
 
 pub returns-in_default : goal.returns-in_default
 unfolding state_of
-returns-in_default c = state_told c.args.b _ (unlisted state_code Known _ _ Unit states c.in_default.in_default-own.rest).1
+returns-in_default c = state_told c.args.b _ (unlisted state_code Ok _ _ Unit states c.in_default.in_default-own.rest).1

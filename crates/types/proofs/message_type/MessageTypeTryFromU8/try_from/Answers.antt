@@ -1,10 +1,10 @@
--- `MessageType::from_u8` meets its contract: each arm is a code of the table, and the default arm none.
+-- `MessageType::try_from` meets its contract: each arm is a code of the table, and the default arm none.
 -- Assumes nothing.
+use Rattle.std.specs.Prelude.{Ok}
 use Rattle.types.specs.Messages.{message_code, messages, message_of}
-use Rattle.types.specs.declared.message_type.MessageTypeAnswer.TheVariants.{Known}
 use Rattle.types.proofs.CodeCauses.{message_told}
 use Rattle.types.proofs.Codes.{unlisted}
-use Rattle.types.proofs.message_type.MessageType.from_u8.Goals as goal
+use Rattle.types.proofs.message_type.MessageTypeTryFromU8.try_from.Goals as goal
 
 pub returns-in-1 : goal.returns-in-1
 unfolding message_of
@@ -28,4 +28,4 @@ returns-in-6 c = message_told c.args.b _ (rw c.in-6.is)
 
 pub returns-in_default : goal.returns-in_default
 unfolding message_of
-returns-in_default c = message_told c.args.b _ (unlisted message_code Known _ _ Unit messages c.in_default.in_default-own.rest).1
+returns-in_default c = message_told c.args.b _ (unlisted message_code Ok _ _ Unit messages c.in_default.in_default-own.rest).1
