@@ -21,7 +21,7 @@ pub fn entry_values(e: ErrorEntry) -> [u64; 8]
     [
         number(entry_type.is_status_entry),
         number(entry_type.send_to_queue),
-        mode.to_u8() as u64,
+        u8::from(mode) as u64,
         entry_type.profile as u64,
         e.error_code as u64,
         e.timestamp.seconds as u64,

@@ -13,7 +13,7 @@ use types::NodeId;
 use types::hal::PowerlinkError;
 
 // What the tests of a section come to: it is read, or why it is refused.
-#[derive(Clone, Copy)]
+#[derive(Clone, Copy, Debug, PartialEq, Eq)]
 pub enum ASndVerdict {
     Read,
     TooShort,

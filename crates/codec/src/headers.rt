@@ -13,21 +13,21 @@ use types::message_type::MessageType;
 // The message type is the low seven bits of octet 0, which is the octet modulo this.
 pub(crate) const MESSAGE_TYPES: u8 = 0x80;
 
-#[derive(Clone, Copy)]
+#[derive(Clone, Copy, Debug, PartialEq, Eq)]
 pub enum EthHeaderAnswer {
     Read,
     Refused(PowerlinkError),
 }
 
 // The header stands beside the answer; where it is refused, octets past the end count as 0.
-#[derive(Clone, Copy)]
+#[derive(Clone, Copy, Debug, PartialEq, Eq)]
 pub struct DeserializedEthHeader {
     pub eth_header: EthernetHeader,
     pub answer: EthHeaderAnswer,
 }
 
 // The octets that every section begins with.
-#[derive(Clone, Copy)]
+#[derive(Clone, Copy, Debug, PartialEq, Eq)]
 pub struct PlHeader {
     pub message_type: MessageType,
     pub destination: NodeId,
@@ -102,7 +102,7 @@ pub fn deserialize_pl_header(s: &[u8]) -> Result<PlHeader, PowerlinkError>
     if s.len() < 3 {
         return Err(PowerlinkError::BufferTooShort);
     }
-    match MessageType::from_u8(s[0] % MESSAGE_TYPES) {
+    match MessageType::try_from(s[0] % MESSAGE_TYPES) {
         Err(PowerlinkError::InvalidMessageType(b)) => Err(PowerlinkError::InvalidMessageType(
             b,
         )),

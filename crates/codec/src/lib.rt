@@ -24,7 +24,7 @@ use types::hal::PowerlinkError;
 use types::message_type::MessageType;
 
 // Where a payload lies in the bytes of its frame.
-#[derive(Clone, Copy)]
+#[derive(Clone, Copy, Debug, PartialEq, Eq)]
 pub struct PayloadPlace {
     pub start: usize,
     pub len: usize,
@@ -32,7 +32,7 @@ pub struct PayloadPlace {
 
 // What reading a frame gives. Arrays cannot stand in an answer, so the header stands beside it; where the frame is refused,
 // it is what the bytes give, those past the end counting as 0.
-#[derive(Clone, Copy)]
+#[derive(Clone, Copy, Debug, PartialEq, Eq)]
 pub struct DeserializedFrame {
     pub eth_header: EthernetHeader,
     pub answer: Result<PowerlinkFrame, PowerlinkError>,

@@ -13,7 +13,7 @@ use types::hal::PowerlinkError;
 use types::mapping::PDOVersion;
 
 // What the tests of a section come to: the codes and the size that its fields are read with, or why it is refused.
-#[derive(Clone, Copy)]
+#[derive(Clone, Copy, Debug, PartialEq, Eq)]
 pub enum PReqVerdict {
     Read(u16),
     TooShort,

@@ -15,7 +15,7 @@ use types::states::NmtState;
 use types::{C_ADR_BROADCAST_NODE_ID, NodeId};
 
 // What the tests of a section come to: the codes and the size that its fields are read with, or why it is refused.
-#[derive(Clone, Copy)]
+#[derive(Clone, Copy, Debug, PartialEq, Eq)]
 pub enum PResVerdict {
     Read(NmtState, u16),
     TooShort,
@@ -32,7 +32,7 @@ pub fn judge(s: &[u8]) -> PResVerdict
     if s[1] != C_ADR_BROADCAST_NODE_ID {
         return PResVerdict::NotToAll;
     }
-    match NmtState::from_u8(s[STATE_AT]) {
+    match NmtState::try_from(s[STATE_AT]) {
         Err(PowerlinkError::InvalidNmtState(b)) => PResVerdict::NoState(b),
         Ok(nmt_state) => {
             let size = get_u16_le(s, 8);

@@ -12,7 +12,7 @@ use types::states::NmtState;
 use types::{EPLVersion, NodeId};
 
 // What the tests of a section come to: the codes and the size that its fields are read with, or why it is refused.
-#[derive(Clone, Copy)]
+#[derive(Clone, Copy, Debug, PartialEq, Eq)]
 pub enum SoAVerdict {
     Read(NmtState, RequestedServiceId),
     TooShort,
@@ -26,9 +26,9 @@ pub fn judge(s: &[u8]) -> SoAVerdict
     if s.len() < FIELDS_LEN {
         return SoAVerdict::TooShort;
     }
-    match NmtState::from_u8(s[STATE_AT]) {
+    match NmtState::try_from(s[STATE_AT]) {
         Err(PowerlinkError::InvalidNmtState(b)) => SoAVerdict::NoState(b),
-        Ok(state) => match RequestedServiceId::from_u8(s[SERVICE_AT]) {
+        Ok(state) => match RequestedServiceId::try_from(s[SERVICE_AT]) {
             Err(PowerlinkError::InvalidRequestedServiceId(b)) => SoAVerdict::NoService(b),
             Ok(service) => SoAVerdict::Read(state, service),
         },

@@ -12,7 +12,7 @@ use types::common::{NetTime, RelativeTime};
 use types::hal::PowerlinkError;
 
 // What the tests of a section come to: its times, which are read where its length is known, or why it is refused.
-#[derive(Clone, Copy)]
+#[derive(Clone, Copy, Debug, PartialEq, Eq)]
 pub enum SocVerdict {
     Read(NetTime, RelativeTime),
     TooShort,

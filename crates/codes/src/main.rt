@@ -17,7 +17,7 @@ use tables::Listed;
 use types::constants;
 use types::poll_flags::RSFlag;
 
-#[derive(Clone, Copy)]
+#[derive(Clone, Copy, Debug, PartialEq, Eq)]
 enum Table {
     Messages,
     States,

@@ -20,7 +20,7 @@ pub enum Listed {
 }
 
 pub fn message(b: u8) -> Listed {
-    let Ok(value) = MessageType::from_u8(b) else {
+    let Ok(value) = MessageType::try_from(b) else {
         return Listed::Nothing;
     };
     let place = match value {
@@ -31,13 +31,13 @@ pub fn message(b: u8) -> Listed {
         MessageType::ASnd => 5,
     };
     Listed::Value {
-        code: value.to_u8(),
+        code: u8::from(value),
         place,
     }
 }
 
 pub fn state(b: u8) -> Listed {
-    let Ok(value) = NmtState::from_u8(b) else {
+    let Ok(value) = NmtState::try_from(b) else {
         return Listed::Nothing;
     };
     let place = match value {
@@ -55,7 +55,7 @@ pub fn state(b: u8) -> Listed {
         NmtState::NmtBasicEthernet => 12,
     };
     Listed::Value {
-        code: value.to_u8(),
+        code: u8::from(value),
         place,
     }
 }
@@ -84,7 +84,7 @@ pub fn service(b: u8) -> Listed {
 }
 
 pub fn requested_service(b: u8) -> Listed {
-    let Ok(value) = RequestedServiceId::from_u8(b) else {
+    let Ok(value) = RequestedServiceId::try_from(b) else {
         return Listed::Nothing;
     };
     let place = match value {
@@ -95,13 +95,13 @@ pub fn requested_service(b: u8) -> Listed {
         RequestedServiceId::UnspecifiedInvite => 5,
     };
     Listed::Value {
-        code: value.to_u8(),
+        code: u8::from(value),
         place,
     }
 }
 
 pub fn priority(b: u8) -> Listed {
-    let value = PRFlag::from_u8(b);
+    let value = PRFlag::from(b);
     let place = match value {
         PRFlag::PrioNmtRequest => 1,
         PRFlag::High3 => 2,
@@ -113,13 +113,13 @@ pub fn priority(b: u8) -> Listed {
         PRFlag::Low1 => 8,
     };
     Listed::Value {
-        code: value.to_u8(),
+        code: u8::from(value),
         place,
     }
 }
 
 pub fn mode(b: u8) -> Listed {
-    let Ok(value) = ErrorEntryMode::from_u8(b) else {
+    let Ok(value) = ErrorEntryMode::try_from(b) else {
         return Listed::Nothing;
     };
     let place = match value {
@@ -129,7 +129,7 @@ pub fn mode(b: u8) -> Listed {
         ErrorEntryMode::EventOccurred => 4,
     };
     Listed::Value {
-        code: value.to_u8(),
+        code: u8::from(value),
         place,
     }
 }

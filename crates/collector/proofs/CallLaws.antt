@@ -12,7 +12,8 @@ use Rattle.types.specs.declared.hal.PowerlinkError.{PowerlinkError}
 use Rattle.types.specs.Header.{eth_bytes}
 use Rattle.section.specs.Write.{padded, write_answer, overwritten, Writes}
 use Rattle.control.specs.SoA.{soa_bytes, soa_section}
-use Rattle.control.specs.declared.soa.NewSoAFrame.{NewSoAFrame}
+use Rattle.types.specs.declared.basic.NewFrame.{NewFrame}
+use Rattle.control.specs.declared.soa.SoAFrame.{SoAFrame}
 use Rattle.frame.specs.Write.{frame_bytes}
 use Rattle.frame.specs.declared.PowerlinkFrame.TheVariants.{SoA}
 use Rattle.status_response.specs.Fields.{read_fields}
@@ -99,13 +100,13 @@ module _ (services s f : List ℕ) where
 -- ---- request
 
 -- the answer and the octets of writing the SoA that `new` makes
-module _ (i : ℕ) (f : RequestFields) (ea : Bool) (soa : NewSoAFrame) (made : soa ≡ request_soa i f ea) (r : Result ℕ PowerlinkError) (target after : List ℕ) where
+module _ (i : ℕ) (f : RequestFields) (ea : Bool) (soa : NewFrame SoAFrame) (made : soa ≡ request_soa i f ea) (r : Result ℕ PowerlinkError) (target after : List ℕ) where
   pub request_writes : Writes (eth_bytes soa.eth_header ++ padded (soa_bytes soa.frame ++ [])) r target after
       → (as_request r ≡ request_written (request_frame i f ea) target) × (after ≡ overwritten (request_frame i f ea) target)
   unfolding request_frame frame_bytes soa_section
   request_writes w =
       let e : frame_bytes soa.eth_header (SoA soa.frame) [] ≡ request_frame i f ea =
-      ap (λ (x : NewSoAFrame). frame_bytes x.eth_header (SoA x.frame) []) made in
+      ap (λ (x : NewFrame SoAFrame). frame_bytes x.eth_header (SoA x.frame) []) made in
       (ap as_request w.answer ∙ ap (λ (bs : List ℕ). as_request (write_answer bs target)) e, w.holds ∙ ap (λ (bs : List ℕ). overwritten bs target) e)
 
 pub requests : (i : NodeId) (f : RequestFields) → length f.source_mac.0 ≡ 6 → (r : Result ℕ RequestError) (s target written : List ℕ)

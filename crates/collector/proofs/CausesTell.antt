@@ -1,7 +1,7 @@
 -- Number and values of an answer tell which it is.
 -- Assumes nothing.
 use mathlib.Core.Path.{◌≡◌, refl, ap, ◌∙◌}
-use Rattle.std.specs.Prelude.{Result, Ok, Err, Option, Some, None}
+use Rattle.std.specs.Prelude.{Result, Ok, Err, Option, Some, None, ℕ}
 use Rattle.types.proofs.Apart.{apart}
 use Rattle.types.proofs.CausesTell.{not_0, below_8, error_told_lem}
 use Rattle.error_entry.proofs.Values.{flag_told_lem, values_tell}

@@ -14,7 +14,8 @@ use Rattle.services.specs.declared.ServiceId.{ServiceId}
 use Rattle.section.specs.Write.{write_answer, overwritten}
 use Rattle.control.specs.ASnd.{asnd_payload_at}
 use Rattle.control.specs.SoA.{new_soa}
-use Rattle.control.specs.declared.soa.NewSoAFrame.{NewSoAFrame}
+use Rattle.types.specs.declared.basic.NewFrame.{NewFrame}
+use Rattle.control.specs.declared.soa.SoAFrame.{SoAFrame}
 use Rattle.frame.specs.Write.{frame_bytes}
 use Rattle.frame.specs.declared.PowerlinkFrame.{PowerlinkFrame}
 use Rattle.frame.specs.declared.PowerlinkFrame.TheVariants.{Soc, PReq, PRes, SoA, ASnd}
@@ -231,7 +232,7 @@ flags_cause None = row cause.not_registered []
 
 -- ---- request
 
-abbrev pub request_soa : ℕ → RequestFields → Bool → NewSoAFrame
+abbrev pub request_soa : ℕ → RequestFields → Bool → NewFrame SoAFrame
 request_soa i f ea =
     new_soa f.source_mac f.nmt_state (record { ea = ea; er = false }) StatusRequest (record { 0 = i }) f.epl_version
 

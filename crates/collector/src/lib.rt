@@ -68,7 +68,7 @@ const PLACES: u8 = BOOK_LEN as u8;
 pub type Collector = [u8; COLLECTOR_LEN];
 
 @@DECL RegisterAnswer@@
-#[derive(Clone, Copy)]
+#[derive(Clone, Copy, Debug, PartialEq, Eq)]
 pub enum RegisterAnswer {
     Registered,
     IdOutOfRange,
@@ -79,7 +79,7 @@ pub enum RegisterAnswer {
 
 @@DECL ReadAnswer@@
 // What reading a frame comes to: its batch is booked; EN equals EA, so its batch is known; or why nothing is booked.
-#[derive(Clone, Copy)]
+#[derive(Clone, Copy, Debug, PartialEq, Eq)]
 pub enum ReadAnswer {
     Booked,
     Known,
@@ -91,7 +91,7 @@ pub enum ReadAnswer {
 }
 
 // What a request holds beside the node and EA.
-#[derive(Clone, Copy)]
+#[derive(Clone, Copy, Debug, PartialEq, Eq)]
 pub struct RequestFields {
     pub source_mac: MacAddress,
     pub nmt_state: NmtState,
@@ -99,7 +99,7 @@ pub struct RequestFields {
 }
 
 @@DECL RequestAnswer@@
-#[derive(Clone, Copy)]
+#[derive(Clone, Copy, Debug, PartialEq, Eq)]
 pub enum RequestAnswer {
     Written(usize),
     NotRegistered,
@@ -107,7 +107,7 @@ pub enum RequestAnswer {
 }
 
 @@DECL TakeAnswer@@
-#[derive(Clone, Copy)]
+#[derive(Clone, Copy, Debug, PartialEq, Eq)]
 pub enum TakeAnswer {
     Taken(ErrorEntry),
     NotRegistered,

@@ -12,10 +12,10 @@ use Rattle.services.specs.Table.{holds}
 use Rattle.services.specs.declared.ServiceId.{ServiceId}
 use Rattle.section.specs.Write.{padded, Coded, octets, unnamed}
 use Rattle.control.specs.declared.asnd.ASndFrame.{ASndFrame}
-use Rattle.control.specs.declared.asnd.NewASndFrame.{NewASndFrame}
+use Rattle.types.specs.declared.basic.NewFrame.{NewFrame}
 
 -- all addresses and IDs are given
-abbrev pub new_asnd : MacAddress → MacAddress → NodeId → NodeId → ServiceId → NewASndFrame
+abbrev pub new_asnd : MacAddress → MacAddress → NodeId → NodeId → ServiceId → NewFrame ASndFrame
 new_asnd from to target source service =
     record {
       eth_header = powerlink_header to from;

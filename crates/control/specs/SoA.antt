@@ -14,12 +14,12 @@ use Rattle.types.specs.declared.message_type.MessageType.TheVariants as message
 use Rattle.types.specs.declared.requested_service.RequestedServiceId.{RequestedServiceId}
 use Rattle.types.specs.declared.states.NmtState.{NmtState}
 use Rattle.section.specs.Write.{at_bit, padded}
-use Rattle.control.specs.declared.soa.NewSoAFrame.{NewSoAFrame}
+use Rattle.types.specs.declared.basic.NewFrame.{NewFrame}
 use Rattle.control.specs.declared.soa.SoAFlags.{SoAFlags}
 use Rattle.control.specs.declared.soa.SoAFrame.{SoAFrame}
 
 -- from the managing node to all nodes, and to the multicast address of SoA
-abbrev pub new_soa : MacAddress → NmtState → SoAFlags → RequestedServiceId → NodeId → EPLVersion → NewSoAFrame
+abbrev pub new_soa : MacAddress → NmtState → SoAFlags → RequestedServiceId → NodeId → EPLVersion → NewFrame SoAFrame
 new_soa from state flags service target version =
     record {
       eth_header = powerlink_header (record { 0 = multicast_soa }) from;

@@ -11,12 +11,12 @@ use Rattle.types.specs.declared.common.NetTime.{NetTime}
 use Rattle.types.specs.declared.common.RelativeTime.{RelativeTime}
 use Rattle.types.specs.declared.message_type.MessageType.TheVariants as message
 use Rattle.section.specs.Write.{at_bit, padded}
-use Rattle.control.specs.declared.soc.NewSocFrame.{NewSocFrame}
+use Rattle.types.specs.declared.basic.NewFrame.{NewFrame}
 use Rattle.control.specs.declared.soc.SocFlags.{SocFlags}
 use Rattle.control.specs.declared.soc.SocFrame.{SocFrame}
 
 -- from the managing node to all nodes, and to the multicast address of SoC
-abbrev pub new_soc : MacAddress → SocFlags → NetTime → RelativeTime → NewSocFrame
+abbrev pub new_soc : MacAddress → SocFlags → NetTime → RelativeTime → NewFrame SocFrame
 new_soc from flags net relative =
     record {
       eth_header = powerlink_header (record { 0 = multicast_soc }) from;

@@ -7,7 +7,7 @@ ghost use Rattle.control.specs.ASnd.{new_asnd, asnd_bytes, asnd_section, served}
 use section::{fits, write_behind};
 use services::ServiceId;
 use services::table::{Services, contains};
-use types::basic::{ETH_LEN, EthernetHeader, MacAddress};
+use types::basic::{ETH_LEN, EthernetHeader, MacAddress, NewFrame};
 use types::hal::PowerlinkError;
 use types::message_type::MessageType;
 use types::{C_DLL_MULTICAST_ASND, NodeId};
@@ -21,18 +21,11 @@ pub const PAYLOAD_AT: usize = ETH_LEN + FIELDS_LEN;
 pub const SERVICE_AT: usize = 3;
 
 // The fields in front of the payload, which stands beside them.
-#[derive(Clone, Copy)]
+#[derive(Clone, Copy, Debug, PartialEq, Eq)]
 pub struct ASndFrame {
     pub destination: NodeId,
     pub source: NodeId,
     pub service_id: ServiceId,
-}
-
-// A frame with the header that goes in front of it.
-#[derive(Clone, Copy)]
-pub struct NewASndFrame {
-    pub eth_header: EthernetHeader,
-    pub frame: ASndFrame,
 }
 
 impl ASndFrame {
@@ -54,10 +47,10 @@ impl ASndFrame {
         target_node_id: NodeId,
         source_node_id: NodeId,
         service_id: ServiceId,
-    ) -> NewASndFrame
+    ) -> NewFrame<ASndFrame>
         ensures { result ≡ new_asnd source_mac dest_mac target_node_id source_node_id service_id }
     {
-        NewASndFrame {
+        NewFrame {
             eth_header: EthernetHeader::new(dest_mac, source_mac),
             frame: ASndFrame {
                 destination: target_node_id,
@@ -72,7 +65,7 @@ impl ASndFrame {
         ensures { result ≡ asnd_bytes self }
     {
         [
-            MessageType::ASnd.to_u8(),
+            MessageType::u8::from(ASnd),
             self.destination.0,
             self.source.0,
             self.service_id.0,

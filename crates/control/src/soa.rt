@@ -5,7 +5,7 @@ ghost use Rattle.control.specs.SoA.{new_soa, soa_bytes, soa_section};
 
 use octets::slices::put;
 use section::{flag, write_section};
-use types::basic::{EthernetHeader, MacAddress};
+use types::basic::{EthernetHeader, MacAddress, NewFrame};
 use types::message_type::MessageType;
 use types::requested_service::RequestedServiceId;
 use types::states::NmtState;
@@ -23,7 +23,7 @@ pub const STATE_AT: usize = 3;
 pub const SERVICE_AT: usize = 6;
 
 // The flags (EPSG DS 301, Table 22).
-#[derive(Clone, Copy)]
+#[derive(Clone, Copy, Debug, PartialEq, Eq)]
 pub struct SoAFlags {
     // Exception acknowledge.
     pub ea: bool,
@@ -36,7 +36,7 @@ pub const EA: u8 = 4;
 
 pub const ER: u8 = 2;
 
-#[derive(Clone, Copy)]
+#[derive(Clone, Copy, Debug, PartialEq, Eq)]
 pub struct SoAFrame {
     pub destination: NodeId,
     pub source: NodeId,
@@ -45,13 +45,6 @@ pub struct SoAFrame {
     pub req_service_id: RequestedServiceId,
     pub target_node_id: NodeId,
     pub epl_version: EPLVersion,
-}
-
-// A frame with the header that goes in front of it.
-#[derive(Clone, Copy)]
-pub struct NewSoAFrame {
-    pub eth_header: EthernetHeader,
-    pub frame: SoAFrame,
 }
 
 impl SoAFrame {
@@ -67,10 +60,10 @@ impl SoAFrame {
         requested_service: RequestedServiceId,
         target_node_id: NodeId,
         epl_version: EPLVersion,
-    ) -> NewSoAFrame
+    ) -> NewFrame<SoAFrame>
         ensures { result ≡ new_soa source_mac nmt_state flags requested_service target_node_id epl_version }
     {
-        NewSoAFrame {
+        NewFrame {
             eth_header: EthernetHeader::new(MacAddress(SoAFrame::MULTICAST), source_mac),
             frame: SoAFrame {
                 destination: NodeId(C_ADR_BROADCAST_NODE_ID),
@@ -110,13 +103,13 @@ fn first_octets(frame: SoAFrame) -> [u8; 8]
     let state = frame.nmt_state;
     let service = frame.req_service_id;
     [
-        MessageType::SoA.to_u8(),
+        MessageType::u8::from(SoA),
         frame.destination.0,
         frame.source.0,
-        state.to_u8(),
+        u8::from(state),
         flag(frame.flags.ea, EA) + flag(frame.flags.er, ER),
         0,
-        service.to_u8(),
+        u8::from(service),
         frame.target_node_id.0,
     ]
 }

@@ -7,7 +7,7 @@ ghost use Rattle.control.specs.SoC.{new_soc, soc_bytes, soc_section};
 use octets::little_endian::{put_u32_le, put_u64_le};
 use octets::slices::put;
 use section::{flag, write_section};
-use types::basic::{EthernetHeader, MacAddress};
+use types::basic::{EthernetHeader, MacAddress, NewFrame};
 use types::common::{NetTime, RelativeTime};
 use types::message_type::MessageType;
 use types::{C_ADR_BROADCAST_NODE_ID, C_ADR_MN_DEF_NODE_ID, C_DLL_MULTICAST_SOC, NodeId};
@@ -17,7 +17,7 @@ use types::hal::PowerlinkError;
 pub const FIELDS_LEN: usize = 22;
 
 // The flags (EPSG DS 301, Table 16).
-#[derive(Clone, Copy)]
+#[derive(Clone, Copy, Debug, PartialEq, Eq)]
 pub struct SocFlags {
     // Multiplexed cycle completed.
     pub mc: bool,
@@ -30,20 +30,13 @@ pub const MC: u8 = 0x80;
 
 pub const PS: u8 = 0x40;
 
-#[derive(Clone, Copy)]
+#[derive(Clone, Copy, Debug, PartialEq, Eq)]
 pub struct SocFrame {
     pub destination: NodeId,
     pub source: NodeId,
     pub flags: SocFlags,
     pub net_time: NetTime,
     pub relative_time: RelativeTime,
-}
-
-// A frame with the header that goes in front of it.
-#[derive(Clone, Copy)]
-pub struct NewSocFrame {
-    pub eth_header: EthernetHeader,
-    pub frame: SocFrame,
 }
 
 impl SocFrame {
@@ -56,10 +49,10 @@ impl SocFrame {
         flags: SocFlags,
         net_time: NetTime,
         relative_time: RelativeTime,
-    ) -> NewSocFrame
+    ) -> NewFrame<SocFrame>
         ensures { result ≡ new_soc source_mac flags net_time relative_time }
     {
-        NewSocFrame {
+        NewFrame {
             eth_header: EthernetHeader::new(MacAddress(SocFrame::MULTICAST), source_mac),
             frame: SocFrame {
                 destination: NodeId(C_ADR_BROADCAST_NODE_ID),
@@ -98,7 +91,7 @@ fn node_octets(frame: SocFrame) -> [u8; 4]
     ensures { result ≡ take 4 (soc_bytes frame) }
 {
     [
-        MessageType::SoC.to_u8(),
+        MessageType::u8::from(SoC),
         frame.destination.0,
         frame.source.0,
         0,

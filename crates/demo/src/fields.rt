@@ -25,7 +25,7 @@ pub fn answer_fields(id: u8, some: u8) -> AnswerFields {
         source_mac: station(id),
         dest_mac: ASndFrame::multicast(),
         ec_flag: some % 2 == 1,
-        pr: PRFlag::from_u8(some % 8),
+        pr: PRFlag::from(some % 8),
         rs: RSFlag(some % 8),
         nmt_state,
         static_error_bit_field: StaticErrorBitField {

@@ -7,7 +7,7 @@ use std::io::{ErrorKind, Write};
 use types::NodeId;
 
 // Where records go.
-#[derive(Clone, Copy)]
+#[derive(Clone, Copy, Debug, PartialEq, Eq)]
 pub enum Journal {
     // Records are made, and go nowhere.
     Nowhere,

@@ -48,7 +48,7 @@ use text::say;
 use types::NodeId;
 
 // A head's account: what 01's rules make of the calls, counted from their answers alone.
-#[derive(Clone, Copy)]
+#[derive(Clone, Copy, Debug, PartialEq, Eq)]
 pub struct Head {
     // The head as a sender on the line, and as the maker of its entries.
     pub number: usize,
@@ -78,7 +78,7 @@ pub struct Head {
 }
 
 // What the line keeps of a frame that was sent.
-#[derive(Clone, Copy)]
+#[derive(Clone, Copy, Debug, PartialEq, Eq)]
 pub struct Frame {
     pub octets: Space,
     pub len: usize,
@@ -86,7 +86,7 @@ pub struct Frame {
 
 // What a call works on. It goes from call to call by value: a function that lends five states one by one costs the prover
 // several times as much, and so does a type with a long name.
-#[derive(Clone, Copy)]
+#[derive(Clone, Copy, Debug, PartialEq, Eq)]
 pub struct World {
     // The head whose turn it is: its account, and its state, for which another supplier's has no use.
     pub head: Head,
@@ -115,14 +115,14 @@ pub struct World {
     pub journal: Journal,
 }
 
-#[derive(Clone, Copy)]
+#[derive(Clone, Copy, Debug, PartialEq, Eq)]
 pub struct Node {
     pub head: Head,
     pub state: Reporter,
 }
 
 // The world with all heads, of which it holds none that is newer.
-#[derive(Clone, Copy)]
+#[derive(Clone, Copy, Debug, PartialEq, Eq)]
 pub struct Scene {
     pub nodes: [Node; 5],
     pub world: World,

@@ -23,7 +23,7 @@ const STATUS_ENTRY: u16 = 0x8000;
 const SEND_TO_QUEUE: u16 = 0x4000;
 
 // The type of an entry (EPSG DS 301, Table 96).
-#[derive(Clone, Copy)]
+#[derive(Clone, Copy, Debug, PartialEq, Eq)]
 pub struct EntryType {
     // A status entry shows what is wrong now; any other is an entry of the history.
     pub is_status_entry: bool,
@@ -34,7 +34,7 @@ pub struct EntryType {
 }
 
 // An entry (EPSG DS 301, Table 94).
-#[derive(Clone, Copy)]
+#[derive(Clone, Copy, Debug, PartialEq, Eq)]
 pub struct ErrorEntry {
     pub entry_type: EntryType,
     pub error_code: u16,
@@ -100,7 +100,7 @@ fn bit(on: bool, weight: u16) -> u16
 fn mode_bits(mode: ErrorEntryMode) -> u16
     ensures { (result ≡ mode_code mode) × (result ≤ 3) }
 {
-    mode.to_u8() as u16
+    u8::from(mode) as u16
 }
 
 impl ErrorEntry {

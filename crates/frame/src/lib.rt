@@ -17,7 +17,7 @@ use section::write_behind;
 use services::table::Services;
 use types::hal::PowerlinkError;
 
-#[derive(Clone, Copy)]
+#[derive(Clone, Copy, Debug, PartialEq, Eq)]
 pub enum PowerlinkFrame {
     Soc(SocFrame),
     PReq(PReqFrame),

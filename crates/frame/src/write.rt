@@ -27,7 +27,7 @@ pub fn serialize_pl_header(
 ) -> Result<usize, PowerlinkError>
     ensures { Writes (pl_header_bytes message_type destination source) result target.old target.new }
 {
-    let octets = [message_type.to_u8(), destination.0, source.0];
+    let octets = [u8::from(message_type), destination.0, source.0];
     write(&octets, target)
 }
 

@@ -13,7 +13,7 @@ use std::io::{ErrorKind, Input, Read};
 // Counts up to this leave room for what a turn adds to them, and no run reaches it.
 const COUNT_MAX: usize = usize::MAX / 2;
 
-#[derive(Clone, Copy)]
+#[derive(Clone, Copy, Debug, PartialEq, Eq)]
 pub(crate) struct Streams {
     got: usize,
     said: usize,

@@ -3,7 +3,7 @@
 use mathlib.Core.Path.{◌≡◌, refl}
 use lib.Dec.{eqb}
 use lib.ListN.{get_or}
-use Rattle.std.specs.Prelude.{Result, Ok, Err}
+use Rattle.std.specs.Prelude.{Result, Ok, Err, ℕ}
 use Rattle.types.specs.Causes.{Cause}
 use Rattle.types.specs.Codes.{pick}
 use Rattle.types.proofs.Apart.{apart}

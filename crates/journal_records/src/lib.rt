@@ -21,7 +21,7 @@ pub const JOURNAL_START_LEN: usize = 5;
 pub const JOURNAL_RECORD_LEN: usize = 1 + ENTRY_LEN;
 
 @@DECL JournalAnswer@@
-#[derive(Clone, Copy)]
+#[derive(Clone, Copy, Debug, PartialEq, Eq)]
 pub enum JournalAnswer {
     Written(usize),
     BufferTooShort,
@@ -30,7 +30,7 @@ pub enum JournalAnswer {
 }
 
 @@DECL WholeLenAnswer@@
-#[derive(Clone, Copy)]
+#[derive(Clone, Copy, Debug, PartialEq, Eq)]
 pub enum WholeLenAnswer {
     Whole(usize),
     // Mark and version are not there.

@@ -22,7 +22,7 @@ pub const LINE_MAX: usize = 55;
 const NOT_REFUSED: u8 = 0;
 
 // What the octets to come are.
-#[derive(Clone, Copy)]
+#[derive(Clone, Copy, Debug, PartialEq, Eq)]
 pub enum Phase {
     Header,
     Records,
@@ -30,7 +30,7 @@ pub enum Phase {
 
 @@DECL ListAnswer@@
 // Why a call listed no further.
-#[derive(Clone, Copy)]
+#[derive(Clone, Copy, Debug, PartialEq, Eq)]
 pub enum ListAnswer {
     // Octets have to come. The next call gets those that are not consumed, with more behind them.
     More,
@@ -50,7 +50,7 @@ pub enum ListAnswer {
 
 // What was done with a part: how many of its octets are dealt with, how many of text were written, why it was no more,
 // and what is to come if calls go on.
-#[derive(Clone, Copy)]
+#[derive(Clone, Copy, Debug, PartialEq, Eq)]
 pub struct Part {
     pub answer: Result<Stop, ListError>,
     pub phase: Phase,

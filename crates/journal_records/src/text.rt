@@ -79,7 +79,7 @@ pub(crate) fn put_line(node: NodeId, entry: ErrorEntry, out: &mut [u8]) -> usize
 {
     let entry_type = entry.entry_type;
     let mode = entry_type.mode;
-    let mode_code = mode.to_u8() as u32;
+    let mode_code = u8::from(mode) as u32;
     let profile = entry_type.profile as u32;
     let mut at = put_number(node.0 as u32, b' ', 0, out);
     at = put_code(entry.error_code as u64, 4, b' ', at, out);

@@ -11,12 +11,12 @@ use Rattle.types.specs.declared.mapping.PDOVersion.{PDOVersion}
 use Rattle.types.specs.declared.message_type.MessageType.TheVariants as message
 use Rattle.section.specs.Write.{at_bit, padded}
 use Rattle.poll.specs.Poll.{ms_bit, rd_bit}
-use Rattle.poll.specs.declared.preq.NewPReqFrame.{NewPReqFrame}
+use Rattle.types.specs.declared.basic.NewFrame.{NewFrame}
 use Rattle.poll.specs.declared.preq.PReqFlags.{PReqFlags}
 use Rattle.poll.specs.declared.preq.PReqFrame.{PReqFrame}
 
 -- from the managing node, with both addresses given; the size is the payload's length n modulo 65,536
-abbrev pub new_preq : MacAddress → MacAddress → NodeId → PReqFlags → PDOVersion → ℕ → NewPReqFrame
+abbrev pub new_preq : MacAddress → MacAddress → NodeId → PReqFlags → PDOVersion → ℕ → NewFrame PReqFrame
 new_preq from to target flags version n =
     record {
       eth_header = powerlink_header to from;

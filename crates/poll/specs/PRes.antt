@@ -15,12 +15,12 @@ use Rattle.types.specs.declared.message_type.MessageType.TheVariants as message
 use Rattle.types.specs.declared.states.NmtState.{NmtState}
 use Rattle.section.specs.Write.{at_bit, padded}
 use Rattle.poll.specs.Poll.{ms_bit, rd_bit}
-use Rattle.poll.specs.declared.pres.NewPResFrame.{NewPResFrame}
+use Rattle.types.specs.declared.basic.NewFrame.{NewFrame}
 use Rattle.poll.specs.declared.pres.PResFlags.{PResFlags}
 use Rattle.poll.specs.declared.pres.PResFrame.{PResFrame}
 
 -- to all nodes and the multicast address of PRes; the size is the payload's length n modulo 65,536
-abbrev pub new_pres : MacAddress → NodeId → NmtState → PResFlags → PDOVersion → ℕ → NewPResFrame
+abbrev pub new_pres : MacAddress → NodeId → NmtState → PResFlags → PDOVersion → ℕ → NewFrame PResFrame
 new_pres from source state flags version n =
     record {
       eth_header = powerlink_header (record { 0 = multicast_pres }) from;

@@ -7,14 +7,14 @@ use crate::{FIELDS_LEN, MS, RD};
 use octets::little_endian::put_u16_le;
 use octets::slices::put;
 use section::{flag, write_section};
-use types::basic::{EthernetHeader, MacAddress};
+use types::basic::{EthernetHeader, MacAddress, NewFrame};
 use types::mapping::PDOVersion;
 use types::message_type::MessageType;
 use types::{C_ADR_MN_DEF_NODE_ID, NodeId};
 use types::hal::PowerlinkError;
 
 // The flags (EPSG DS 301, Table 18).
-#[derive(Clone, Copy)]
+#[derive(Clone, Copy, Debug, PartialEq, Eq)]
 pub struct PReqFlags {
     // Multiplexed slot.
     pub ms: bool,
@@ -29,20 +29,13 @@ pub struct PReqFlags {
 pub const EA: u8 = 4;
 
 // The fields in front of the payload, which stands beside them.
-#[derive(Clone, Copy)]
+#[derive(Clone, Copy, Debug, PartialEq, Eq)]
 pub struct PReqFrame {
     pub destination: NodeId,
     pub source: NodeId,
     pub flags: PReqFlags,
     pub pdo_version: PDOVersion,
     pub payload_size: u16,
-}
-
-// A frame with the header that goes in front of it.
-#[derive(Clone, Copy)]
-pub struct NewPReqFrame {
-    pub eth_header: EthernetHeader,
-    pub frame: PReqFrame,
 }
 
 impl PReqFrame {
@@ -54,10 +47,10 @@ impl PReqFrame {
         flags: PReqFlags,
         pdo_version: PDOVersion,
         payload: &[u8],
-    ) -> NewPReqFrame
+    ) -> NewFrame<PReqFrame>
         ensures { result ≡ new_preq source_mac dest_mac target_node_id flags pdo_version (length payload.now) }
     {
-        NewPReqFrame {
+        NewFrame {
             eth_header: EthernetHeader::new(dest_mac, source_mac),
             frame: PReqFrame {
                 destination: target_node_id,
@@ -93,7 +86,7 @@ fn first_octets(frame: PReqFrame) -> [u8; 8]
 {
     let flags = frame.flags;
     [
-        MessageType::PReq.to_u8(),
+        MessageType::u8::from(PReq),
         frame.destination.0,
         frame.source.0,
         0,

@@ -7,7 +7,7 @@ use crate::{FIELDS_LEN, MS, RD};
 use octets::little_endian::put_u16_le;
 use octets::slices::put;
 use section::{flag, write_section};
-use types::basic::{EthernetHeader, MacAddress};
+use types::basic::{EthernetHeader, MacAddress, NewFrame};
 use types::mapping::PDOVersion;
 use types::message_type::MessageType;
 use types::poll_flags::{PRFlag, RSFlag, poll_octet};
@@ -16,7 +16,7 @@ use types::{C_ADR_BROADCAST_NODE_ID, C_DLL_MULTICAST_PRES, NodeId};
 use types::hal::PowerlinkError;
 
 // The flags (EPSG DS 301, Table 20).
-#[derive(Clone, Copy)]
+#[derive(Clone, Copy, Debug, PartialEq, Eq)]
 pub struct PResFlags {
     // Multiplexed slot.
     pub ms: bool,
@@ -35,7 +35,7 @@ pub const STATE_AT: usize = 3;
 pub const EN: u8 = 0x10;
 
 // The fields in front of the payload, which stands beside them.
-#[derive(Clone, Copy)]
+#[derive(Clone, Copy, Debug, PartialEq, Eq)]
 pub struct PResFrame {
     pub destination: NodeId,
     pub source: NodeId,
@@ -43,13 +43,6 @@ pub struct PResFrame {
     pub flags: PResFlags,
     pub pdo_version: PDOVersion,
     pub payload_size: u16,
-}
-
-// A frame with the header that goes in front of it.
-#[derive(Clone, Copy)]
-pub struct NewPResFrame {
-    pub eth_header: EthernetHeader,
-    pub frame: PResFrame,
 }
 
 impl PResFrame {
@@ -64,10 +57,10 @@ impl PResFrame {
         flags: PResFlags,
         pdo_version: PDOVersion,
         payload: &[u8],
-    ) -> NewPResFrame
+    ) -> NewFrame<PResFrame>
         ensures { result ≡ new_pres source_mac source_node_id nmt_state flags pdo_version (length payload.now) }
     {
-        NewPResFrame {
+        NewFrame {
             eth_header: EthernetHeader::new(MacAddress(PResFrame::MULTICAST), source_mac),
             frame: PResFrame {
                 destination: NodeId(C_ADR_BROADCAST_NODE_ID),
@@ -107,10 +100,10 @@ fn first_octets(frame: PResFrame) -> [u8; 8]
     let pr = flags.pr;
     let rs = flags.rs;
     [
-        MessageType::PRes.to_u8(),
+        MessageType::u8::from(PRes),
         frame.destination.0,
         frame.source.0,
-        state.to_u8(),
+        u8::from(state),
         flag(flags.ms, MS) + flag(flags.en, EN) + flag(flags.rd, RD),
         poll_octet(pr, rs),
         frame.pdo_version.0,

@@ -92,7 +92,7 @@ pub fn powerlink_collector_request(
 ) -> u8
     ensures { CollectorRequests id (request_fields source_mac.now epl_version) nmt_state result state.now target.old target.new written.old written.new octet.old octet.new }
 {
-    match NmtState::from_u8(nmt_state) {
+    match NmtState::try_from(nmt_state) {
         Err(PowerlinkError::InvalidNmtState(b)) => {
             if !is_registered(state, NodeId(id)) {
                 return NOT_REGISTERED;

@@ -108,7 +108,7 @@ pub fn powerlink_new_pres(
 ) -> u8
     ensures { WritesCoded (new_pres_writing source_mac.now source state (pres_flags_given ms en rd pr rs) pdo_version payload.now) result target.old target.new written.old written.new octet.old octet.new }
 {
-    match NmtState::from_u8(state) {
+    match NmtState::try_from(state) {
         Err(PowerlinkError::InvalidNmtState(b)) => {
             let needed = padded_len(MIN_FRAME, poll::PAYLOAD_AT + payload.len());
             unnamed(
@@ -127,7 +127,7 @@ pub fn powerlink_new_pres(
                     ms,
                     en,
                     rd,
-                    pr: PRFlag::from_u8(pr),
+                    pr: PRFlag::from(pr),
                     rs: RSFlag(rs),
                 },
                 PDOVersion(pdo_version),
@@ -157,7 +157,7 @@ pub fn powerlink_new_soa(
 ) -> u8
     ensures { WritesCoded (new_soa_writing source_mac.now state (soa_flags_given ea er) requested_service target_node epl_version) result target.old target.new written.old written.new octet.old octet.new }
 {
-    match NmtState::from_u8(state) {
+    match NmtState::try_from(state) {
         Err(PowerlinkError::InvalidNmtState(b)) => {
             unnamed(
                 PowerlinkError::InvalidNmtState(b),
@@ -166,7 +166,7 @@ pub fn powerlink_new_soa(
                 octet,
             )
         }
-        Ok(nmt_state) => match RequestedServiceId::from_u8(requested_service) {
+        Ok(nmt_state) => match RequestedServiceId::try_from(requested_service) {
             Err(PowerlinkError::InvalidRequestedServiceId(b)) => unnamed(
                 PowerlinkError::InvalidRequestedServiceId(b),
                 MIN_FRAME,

@@ -48,7 +48,7 @@ pub fn powerlink_deserialize_pl_header(buffer: &[u8], values: &mut [u64; 3], oct
         Ok(h) => {
             let message = h.message_type;
             *values = [
-                message.to_u8() as u64,
+                u8::from(message) as u64,
                 h.destination.0 as u64,
                 h.source.0 as u64,
             ];
@@ -87,7 +87,7 @@ pub fn powerlink_serialize_pl_header(
 ) -> u8
     ensures { WritesCoded (pl_header_writing message_type destination source) result target.old target.new written.old written.new octet.old octet.new }
 {
-    match MessageType::from_u8(message_type) {
+    match MessageType::try_from(message_type) {
         Err(PowerlinkError::InvalidMessageType(b)) => {
             unnamed(
                 PowerlinkError::InvalidMessageType(b),

@@ -24,7 +24,7 @@ pub fn powerlink_journal_record(
 ) -> u8
     ensures { JournalRecords id status_entry send_to_queue mode profile code (time seconds nanoseconds) information result target.old target.new written.old written.new }
 {
-    match ErrorEntryMode::from_u8(mode) {
+    match ErrorEntryMode::try_from(mode) {
         Err(UnknownMode(_)) => {
             if target.len() < JOURNAL_RECORD_LEN {
                 return TOO_SHORT;

@@ -42,7 +42,7 @@ pub fn powerlink_reporter_raise(
 ) -> u8
     ensures { ReporterRaises status_entry send_to_queue mode profile code (time seconds nanoseconds) information result state.old state.new }
 {
-    match ErrorEntryMode::from_u8(mode) {
+    match ErrorEntryMode::try_from(mode) {
         Err(UnknownMode(_)) => ENTRY_INVALID,
         Ok(mode) => {
             let entry = entry_given(
@@ -82,7 +82,7 @@ pub fn powerlink_reporter_answer_v2(
 ) -> u8
     ensures { ReporterAnswers services.now (answer_fields source_mac.now dest_mac.now ec pr rs field.now) nmt_state result state.old state.new target.old target.new written.old written.new octet.old octet.new }
 {
-    match NmtState::from_u8(nmt_state) {
+    match NmtState::try_from(nmt_state) {
         Err(PowerlinkError::InvalidNmtState(b)) => {
             let needed = answer_len(state);
             unnamed(
@@ -97,7 +97,7 @@ pub fn powerlink_reporter_answer_v2(
                 source_mac: MacAddress(*source_mac),
                 dest_mac: MacAddress(*dest_mac),
                 ec_flag: ec,
-                pr: PRFlag::from_u8(pr),
+                pr: PRFlag::from(pr),
                 rs: RSFlag(rs),
                 nmt_state,
                 static_error_bit_field: StaticErrorBitField::from_bytes(field),

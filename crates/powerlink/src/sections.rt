@@ -94,7 +94,7 @@ pub fn powerlink_serialize_pres(
 ) -> u8
     ensures { WritesCoded (pres_writing destination source state (pres_flags_given ms en rd pr rs) pdo_version payload_size payload.now) result target.old target.new written.old written.new octet.old octet.new }
 {
-    match NmtState::from_u8(state) {
+    match NmtState::try_from(state) {
         Err(PowerlinkError::InvalidNmtState(b)) => {
             let needed = padded_len(MIN_SECTION, poll::FIELDS_LEN + payload.len());
             unnamed(
@@ -113,7 +113,7 @@ pub fn powerlink_serialize_pres(
                     ms,
                     en,
                     rd,
-                    pr: PRFlag::from_u8(pr),
+                    pr: PRFlag::from(pr),
                     rs: RSFlag(rs),
                 },
                 pdo_version: PDOVersion(pdo_version),
@@ -141,7 +141,7 @@ pub fn powerlink_serialize_soa(
 ) -> u8
     ensures { WritesCoded (soa_writing destination source state (soa_flags_given ea er) requested_service target_node epl_version) result target.old target.new written.old written.new octet.old octet.new }
 {
-    match NmtState::from_u8(state) {
+    match NmtState::try_from(state) {
         Err(PowerlinkError::InvalidNmtState(b)) => {
             unnamed(
                 PowerlinkError::InvalidNmtState(b),
@@ -150,7 +150,7 @@ pub fn powerlink_serialize_soa(
                 octet,
             )
         }
-        Ok(nmt_state) => match RequestedServiceId::from_u8(requested_service) {
+        Ok(nmt_state) => match RequestedServiceId::try_from(requested_service) {
             Err(PowerlinkError::InvalidRequestedServiceId(b)) => unnamed(
                 PowerlinkError::InvalidRequestedServiceId(b),
                 MIN_SECTION,

@@ -106,7 +106,7 @@ pub fn powerlink_serialize_entry(
 ) -> u8
     ensures { EntryWrites status_entry send_to_queue mode profile code (time seconds nanoseconds) information result target.old target.new written.old written.new }
 {
-    match ErrorEntryMode::from_u8(mode) {
+    match ErrorEntryMode::try_from(mode) {
         Err(UnknownMode(_)) => {
             if target.len() < ENTRY_LEN {
                 return TOO_SHORT;
@@ -159,7 +159,7 @@ pub fn powerlink_serialize_status(
 ) -> u8
     ensures { WritesCoded (status_writing en ec pr rs state field.now entries.now) result target.old target.new written.old written.new octet.old octet.new }
 {
-    match NmtState::from_u8(state) {
+    match NmtState::try_from(state) {
         // Cause 1 comes first; where the code is a state's, the writer tests for it.
         Err(PowerlinkError::InvalidNmtState(b)) => {
             if !given::fits(entries, target.len()) {
@@ -171,7 +171,7 @@ pub fn powerlink_serialize_status(
             let fields = StatusFields {
                 en_flag: en,
                 ec_flag: ec,
-                pr: PRFlag::from_u8(pr),
+                pr: PRFlag::from(pr),
                 rs: RSFlag(rs),
                 nmt_state,
             };

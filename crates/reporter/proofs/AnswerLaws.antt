@@ -19,7 +19,8 @@ use Rattle.section.proofs.Coded.{serializes}
 use Rattle.section.proofs.Behind.{refused, written}
 use Rattle.section.proofs.Sections.{refuses, writes}
 use Rattle.control.specs.ASnd.{asnd_bytes, asnd_section}
-use Rattle.control.specs.declared.asnd.NewASndFrame.{NewASndFrame}
+use Rattle.types.specs.declared.basic.NewFrame.{NewFrame}
+use Rattle.control.specs.declared.asnd.ASndFrame.{ASndFrame}
 use Rattle.frame.specs.Write.{frame_bytes}
 use Rattle.error_entry.specs.declared.ErrorEntry.{ErrorEntry}
 use Rattle.status_response.specs.Fields.{head_bytes}
@@ -81,7 +82,7 @@ unfolding eth_bytes
 front_length f i = simp length-append (omega arith)
 
 -- 14 octets, and 4 behind them
-pub front_put : (f : AnswerFields) (i : ℕ) (a : NewASndFrame) (t t₁ t₂ : List ℕ) → a ≡ answer_asnd f i → t₁ ≡ sets t 0 (eth_bytes a.eth_header)
+pub front_put : (f : AnswerFields) (i : ℕ) (a : NewFrame ASndFrame) (t t₁ t₂ : List ℕ) → a ≡ answer_asnd f i → t₁ ≡ sets t 0 (eth_bytes a.eth_header)
     → t₂ ≡ sets t₁ 14 (asnd_bytes a.frame) → t₂ ≡ sets t 0 (answer_front f i)
 unfolding eth_bytes
 front_put f i a t t₁ t₂ ea e₁ e₂ =

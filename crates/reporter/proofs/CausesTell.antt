@@ -1,7 +1,7 @@
 -- Number and values of an answer tell which it is.
 -- Assumes nothing.
 use mathlib.Core.Path.{◌≡◌, refl, ap, ◌∙◌}
-use Rattle.std.specs.Prelude.{Result, Ok, Err}
+use Rattle.std.specs.Prelude.{Result, Ok, Err, ℕ}
 use Rattle.section.specs.Write.{write_cause}
 use Rattle.types.proofs.Apart.{apart}
 use Rattle.types.proofs.CausesTell.{not_0, error_told_lem}

@@ -10,7 +10,8 @@ use Rattle.types.specs.Nodes.{is_cn_node_id, managing_node, broadcast_node}
 use Rattle.services.specs.Ids.{status_response}
 use Rattle.section.specs.Write.{min_frame, Coded}
 use Rattle.control.specs.ASnd.{new_asnd, asnd_bytes, asnd_payload_at}
-use Rattle.control.specs.declared.asnd.NewASndFrame.{NewASndFrame}
+use Rattle.types.specs.declared.basic.NewFrame.{NewFrame}
+use Rattle.control.specs.declared.asnd.ASndFrame.{ASndFrame}
 use Rattle.frame.specs.Write.{frame_bytes, under_table}
 use Rattle.frame.specs.declared.PowerlinkFrame.{PowerlinkFrame}
 use Rattle.frame.specs.declared.PowerlinkFrame.TheVariants.{Soc, PReq, PRes, SoA, ASnd}
@@ -122,7 +123,7 @@ status_fields f en =
 unfoldable pub answer_payload : AnswerFields → Head → List ℕ
 answer_payload f h = status_bytes (head_bytes (status_fields f h.en) f.static_error_bit_field) h.batch
 
-abbrev pub answer_asnd : AnswerFields → ℕ → NewASndFrame
+abbrev pub answer_asnd : AnswerFields → ℕ → NewFrame ASndFrame
 answer_asnd f i = new_asnd f.source_mac f.dest_mac (record { 0 = broadcast_node }) (record { 0 = i }) (record { 0 = status_response })
 
 -- "an Ethernet frame from its ID to node 255, service 2"

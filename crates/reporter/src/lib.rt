@@ -71,14 +71,14 @@ const BARE_ANSWER_LEN: usize = PAYLOAD_AT + FRONT_LEN + ENTRY_LEN;
 pub type Reporter = [u8; REPORTER_LEN];
 
 @@DECL NewAnswer@@
-#[derive(Clone, Copy)]
+#[derive(Clone, Copy, Debug, PartialEq, Eq)]
 pub enum NewAnswer {
     Made,
     IdOutOfRange,
 }
 
 @@DECL RaiseAnswer@@
-#[derive(Clone, Copy)]
+#[derive(Clone, Copy, Debug, PartialEq, Eq)]
 pub enum RaiseAnswer {
     Raised,
     // The mode is the terminator's, or the profile has more than 12 bits.
@@ -90,7 +90,7 @@ pub enum RaiseAnswer {
 }
 
 // What an answer holds beside the entries and EN.
-#[derive(Clone, Copy)]
+#[derive(Clone, Copy, Debug, PartialEq, Eq)]
 pub struct AnswerFields {
     pub source_mac: MacAddress,
     pub dest_mac: MacAddress,
@@ -104,7 +104,7 @@ pub struct AnswerFields {
 @@DECL ReadAnswer@@
 // What reading a frame comes to: the open batch is acknowledged and closed; EA was read and closes nothing; the frame
 // holds no EA for this node; or it cannot be read.
-#[derive(Clone, Copy)]
+#[derive(Clone, Copy, Debug, PartialEq, Eq)]
 pub enum ReadAnswer {
     Closed,
     Kept,

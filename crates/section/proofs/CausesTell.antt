@@ -1,7 +1,7 @@
 -- The answer of a writer can be read back from its number and values.
 -- Assumes nothing.
 use mathlib.Core.Path.{◌≡◌, refl}
-use Rattle.std.specs.Prelude.{Result, Ok, Err}
+use Rattle.std.specs.Prelude.{Result, Ok, Err, ℕ}
 use Rattle.types.specs.Causes.{Cause}
 use Rattle.types.proofs.Apart.{apart}
 use Rattle.types.proofs.CausesTell.{value, refused_or, refused_back}

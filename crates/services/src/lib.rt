@@ -9,7 +9,7 @@ pub mod load;
 pub mod table;
 
 // The service of an ASnd frame, any octet: which of them are known, a table says.
-#[derive(Clone, Copy)]
+#[derive(Clone, Copy, Debug, PartialEq, Eq)]
 pub struct ServiceId(pub u8);
 
 // The twelve that powerlink-rs lists (EPSG DS 301, Appendix 3.3 and Table 138).

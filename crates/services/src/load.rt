@@ -21,7 +21,7 @@ const VERSION_AT: usize = 3;
 const START_LEN: usize = 5;
 
 @@DECL LoadAnswer@@
-#[derive(Clone, Copy)]
+#[derive(Clone, Copy, Debug, PartialEq, Eq)]
 pub enum LoadAnswer {
     Loaded,
     // Under 5 octets, or the mark or the version is another.

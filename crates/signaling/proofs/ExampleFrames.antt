@@ -25,11 +25,12 @@ use Rattle.services.specs.Table.{holds, ds301}
 use Rattle.services.proofs.Tables.{table_holds, tables_hold}
 use Rattle.section.specs.Write.{padded}
 use Rattle.control.specs.ASnd.{new_asnd, asnd_section}
-use Rattle.control.specs.declared.asnd.NewASndFrame.{NewASndFrame}
+use Rattle.types.specs.declared.basic.NewFrame.{NewFrame}
+use Rattle.poll.specs.declared.pres.PResFrame.{PResFrame}
+use Rattle.poll.specs.declared.preq.PReqFrame.{PReqFrame}
+use Rattle.control.specs.declared.asnd.ASndFrame.{ASndFrame}
 use Rattle.poll.specs.PReq.{new_preq}
 use Rattle.poll.specs.PRes.{new_pres}
-use Rattle.poll.specs.declared.preq.NewPReqFrame.{NewPReqFrame}
-use Rattle.poll.specs.declared.pres.NewPResFrame.{NewPResFrame}
 use Rattle.frame.specs.Write.{frame_bytes}
 use Rattle.frame.specs.declared.PowerlinkFrame.TheVariants.{PReq, PRes, ASnd}
 use Rattle.codec.specs.ASnd.{read_asnd}
@@ -188,7 +189,7 @@ hears_ea services ea = request_here services 7 7 asked ea refl refl
 
 -- ---- frames of another head, and one of the box's host
 
-unfoldable other : NewPResFrame
+unfoldable other : NewFrame PResFrame
 other =
     new_pres (record { 0 = 2 ∷ 0 ∷ 0 ∷ 0 ∷ 0 ∷ 9 ∷ [] }) (node 9) NmtOperational
     (record { ms = false; en = false; rd = true; pr = Low1; rs = record { 0 = 0 } })
@@ -215,7 +216,7 @@ module _ (services : List ℕ) where
   pub pres_ignored : ea_told services 7 pres_frame ≡ Ok None
   pres_ignored = rw pres_reads
 
-unfoldable packer : NewASndFrame
+unfoldable packer : NewFrame ASndFrame
 packer =
     new_asnd (record { 0 = 2 ∷ 0 ∷ 0 ∷ 0 ∷ 0 ∷ 9 ∷ [] }) (record { 0 = multicast_asnd }) (node 255) (node 9) (record { 0 = 0x20 })
 
@@ -245,7 +246,7 @@ pub house_refused : response_in ds301 house_frame ≡ Err (InvalidServiceId 0x20
 unfolding is_listed
 house_refused = rw (house_reads ds301, tables_hold.twelve 0x20)
 
-unfoldable poll : Bool → NewPReqFrame
+unfoldable poll : Bool → NewFrame PReqFrame
 poll ea =
     new_preq (record { 0 = 2 ∷ 0 ∷ 0 ∷ 0 ∷ 0 ∷ 240 ∷ [] }) (record { 0 = 2 ∷ 0 ∷ 0 ∷ 0 ∷ 0 ∷ 7 ∷ [] }) (node 7)
     (record { ms = false; ea = ea; rd = true })

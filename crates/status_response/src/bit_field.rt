@@ -7,21 +7,21 @@ use octets::slices::put;
 use section::write;
 use types::hal::PowerlinkError;
 
-#[derive(Clone, Copy)]
+#[derive(Clone, Copy, Debug, PartialEq, Eq)]
 pub struct StaticErrorBitField {
     pub error_register: u8,
     // Bits of the device profile or of the vendor.
     pub specific_errors: [u8; 7],
 }
 
-#[derive(Clone, Copy)]
+#[derive(Clone, Copy, Debug, PartialEq, Eq)]
 pub enum ErrorFieldAnswer {
     Read,
     Refused(PowerlinkError),
 }
 
 // The field stands beside the answer; where it is refused, octets past the end count as 0.
-#[derive(Clone, Copy)]
+#[derive(Clone, Copy, Debug, PartialEq, Eq)]
 pub struct DeserializedErrorField {
     pub field: StaticErrorBitField,
     pub answer: ErrorFieldAnswer,

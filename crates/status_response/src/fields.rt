@@ -21,7 +21,7 @@ pub const EN: u8 = 0x20;
 pub const EC: u8 = 0x10;
 
 // What stands in front of the entries, but for the error field, which stands beside it.
-#[derive(Clone, Copy)]
+#[derive(Clone, Copy, Debug, PartialEq, Eq)]
 pub struct StatusFields {
     // Exception new.
     pub en_flag: bool,
@@ -33,7 +33,7 @@ pub struct StatusFields {
 }
 
 // The error field stands beside the answer; where the payload is refused, octets past the end count as 0.
-#[derive(Clone, Copy)]
+#[derive(Clone, Copy, Debug, PartialEq, Eq)]
 pub struct DeserializedStatus {
     pub static_error_bit_field: StaticErrorBitField,
     pub answer: Result<StatusFields, PowerlinkError>,
@@ -56,7 +56,7 @@ pub fn read_fields(payload: &[u8]) -> Result<StatusFields, PowerlinkError>
     if payload.len() < FRONT_LEN {
         return Err(PowerlinkError::BufferTooShort);
     }
-    match NmtState::from_u8(payload[2]) {
+    match NmtState::try_from(payload[2]) {
         Err(PowerlinkError::InvalidNmtState(b)) => Err(PowerlinkError::InvalidNmtState(b)),
         Ok(state) => Ok(fields(payload, state)),
     }
@@ -88,7 +88,7 @@ impl StatusFields {
         [
             flag(self.en_flag, EN) + flag(self.ec_flag, EC),
             poll_octet(pr, rs),
-            state.to_u8(),
+            u8::from(state),
             0,
             0,
             0,

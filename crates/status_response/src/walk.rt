@@ -6,7 +6,7 @@ ghost use Rattle.status_response.specs.Steps.{step_at};
 use crate::fields::FRONT_LEN;
 use error_entry::{ENTRY_LEN, ErrorEntry};
 
-#[derive(Clone, Copy)]
+#[derive(Clone, Copy, Debug, PartialEq, Eq)]
 pub struct EntryWalk<'a> {
     pub payload: &'a [u8],
     pub offset: usize,

@@ -72,3 +72,10 @@ impl EthernetHeader {
         ]
     }
 }
+
+// A frame with the header that goes in front of it.
+#[derive(Clone, Copy, Debug, PartialEq, Eq)]
+pub struct NewFrame<F> {
+    pub eth_header: EthernetHeader,
+    pub frame: F,
+}
