@@ -40,7 +40,7 @@ pres_of s state size =
     }
 
 abbrev pub pres_by_state : List ℕ → Result NmtState PowerlinkError → Result PowerlinkFrame PowerlinkError
-pres_by_state s (Err (InvalidNmtState b)) = Err (InvalidNmtState b)
+pres_by_state s (Err e) = Err e
 pres_by_state s (Ok state) =
     need (leb (le_at 2 8 s) (length s - poll_fields_length)) (Err BufferTooShort)
     (Ok (PRes (pres_of s state (le_at 2 8 s))))
