@@ -5,12 +5,11 @@ use lib.ListN.{get_or}
 use Rattle.std.specs.Prelude.{Result, Ok, Err}
 use Rattle.types.specs.Causes.{Cause, cause_of}
 use Rattle.types.specs.Messages.{message_of}
-use Rattle.types.specs.declared.hal.PowerlinkError.TheVariants.{InvalidMessageType}
 use Rattle.types.proofs.Apart.{apart}
 use Rattle.types.proofs.CausesTell.{error_told_lem, error_of, refused_not_0, refused_or, refused_back}
 use Rattle.types.proofs.ReadBack.{message_known}
 use Rattle.codec.specs.CausesTell.{CausesTell}
-use Rattle.codec.specs.Headers.{eth_header_cause, pl_header_cause}
+use Rattle.codec.specs.Headers.{pl_header_cause}
 use Rattle.types.specs.declared.message_type.MessageType.{MessageType}
 use Rattle.types.specs.declared.hal.PowerlinkError.{PowerlinkError}
 use Rattle.codec.specs.declared.headers.PlHeader.{PlHeader}

@@ -7,7 +7,7 @@ use Rattle.types.specs.Codes.{need}
 use Rattle.types.specs.Header.{eth_length, eth_header_of, ethertype_epl}
 use Rattle.types.specs.Messages.{message_of}
 use Rattle.types.specs.declared.hal.PowerlinkError.{PowerlinkError}
-use Rattle.types.specs.declared.hal.PowerlinkError.TheVariants.{BufferTooShort, InvalidEthernetFrame, InvalidPlFrame, InvalidMessageType}
+use Rattle.types.specs.declared.hal.PowerlinkError.TheVariants.{BufferTooShort, InvalidEthernetFrame, InvalidPlFrame}
 use Rattle.types.specs.declared.message_type.MessageType.{MessageType}
 use Rattle.types.specs.declared.message_type.MessageType.TheVariants as message
 use Rattle.control.specs.ASnd.{asnd_payload_at}

@@ -7,7 +7,7 @@ use Rattle.types.specs.Codes.{need, decoded}
 use Rattle.types.specs.Header.{eth_length, eth_header_of}
 use Rattle.types.specs.Messages.{message_code, messages, message_of}
 use Rattle.types.specs.declared.basic.EthernetHeader.{EthernetHeader}
-use Rattle.types.specs.declared.hal.PowerlinkError.TheVariants.{BufferTooShort, InvalidMessageType}
+use Rattle.types.specs.declared.hal.PowerlinkError.TheVariants.{BufferTooShort}
 use Rattle.types.specs.declared.message_type.MessageType.{MessageType}
 use Rattle.types.specs.declared.hal.PowerlinkError.{PowerlinkError}
 use Rattle.codec.specs.declared.headers.PlHeader.{PlHeader}

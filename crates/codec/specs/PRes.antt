@@ -6,7 +6,7 @@ use Rattle.types.specs.Codes.{need}
 use Rattle.types.specs.Nodes.{broadcast_node}
 use Rattle.types.specs.PollFlags.{priority_at, requests_at}
 use Rattle.types.specs.States.{state_of}
-use Rattle.types.specs.declared.hal.PowerlinkError.TheVariants.{BufferTooShort, InvalidPlFrame, InvalidNmtState}
+use Rattle.types.specs.declared.hal.PowerlinkError.TheVariants.{BufferTooShort, InvalidPlFrame}
 use Rattle.types.specs.declared.states.NmtState.{NmtState}
 use Rattle.poll.specs.Poll.{poll_fields_length, ms_bit, rd_bit}
 use Rattle.poll.specs.PRes.{en_bit}

@@ -5,7 +5,7 @@ use Rattle.octets.specs.Numbers.{bit}
 use Rattle.types.specs.Codes.{need}
 use Rattle.types.specs.RequestedServices.{requested_of}
 use Rattle.types.specs.States.{state_of}
-use Rattle.types.specs.declared.hal.PowerlinkError.TheVariants.{BufferTooShort, InvalidNmtState, InvalidRequestedServiceId}
+use Rattle.types.specs.declared.hal.PowerlinkError.TheVariants.{BufferTooShort}
 use Rattle.types.specs.declared.requested_service.RequestedServiceId.{RequestedServiceId}
 use Rattle.types.specs.declared.states.NmtState.{NmtState}
 use Rattle.control.specs.SoA.{ea_bit, er_bit, soa_fields_length}

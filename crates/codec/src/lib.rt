@@ -43,7 +43,8 @@ impl DeserializedFrame {
     pub fn ethernet_header(self) -> EthernetHeader
         ensures { result ≡ self.eth_header }
     {
-        self.eth_header
+        let header = self.eth_header;
+        header
     }
 }
 
@@ -67,7 +68,9 @@ pub fn deserialize_frame(
 pub fn payload(place: PayloadPlace, buffer: &[u8]) -> &[u8]
     ensures { Part buffer.entry place.start (payload_of place buffer.now) result }
 {
-    front(tail(buffer, place.start), place.len)
+    let start = place.start;
+    let len = place.len;
+    front(tail(buffer, start), len)
 }
 
 // The frame, or why it is refused: for a caller that wants neither header nor payload.
@@ -116,7 +119,11 @@ fn kind_in(s: &[u8]) -> Result<MessageType, PowerlinkError>
 }
 
 // The section `s` of a frame of a kind.
-fn read_kind(services: &Services, kind: MessageType, s: &[u8]) -> Result<PowerlinkFrame, PowerlinkError>
+fn read_kind(
+    services: &Services,
+    kind: MessageType,
+    s: &[u8],
+) -> Result<PowerlinkFrame, PowerlinkError>
     ensures { result ≡ by_kind services.now kind s.now }
 {
     match kind {
