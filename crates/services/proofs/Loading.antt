@@ -8,6 +8,7 @@ use native.Mathlib.Omega.{arith}
 use lib.Dec.{eqb}
 use lib.ListN.{length, replicate}
 use borrow.Author.Tests.{not-true, not-false, lt-leb, le-leb}
+use Rattle.std.specs.List.{list_any}
 use Rattle.std.specs.Prelude.{Result, Ok, Err}
 use Rattle.octets.specs.Mark.{is_marked}
 use Rattle.octets.specs.Numbers.{le_at}
@@ -19,6 +20,7 @@ use Rattle.services.specs.Load.{table_start, is_table, ids_in, is_ascending, ids
 use Rattle.services.specs.Load.{table_mark, TablesLoad}
 use Rattle.services.specs.Table.{services_length, marked, table_of}
 use Rattle.services.specs.declared.load.LoadError.TheVariants.{NotATable, NotAscending, WithoutStatusResponse}
+use Rattle.services.proofs.Laws.{is_in-any}
 use Rattle.services.proofs.Tables.{table_holds}
 use Rattle.services.specs.declared.load.LoadError.{LoadError}
 
@@ -46,21 +48,24 @@ pub ruleset tables = (unmarked, versioned)
 -- ---- the answer to the IDs, from the results of the tests
 
 module _ (ids : List ℕ) {t : Bool} (sorted : t ≡ is_ascending ids) where
-  pub not_ascending_lem : not t ≡ true → (Err NotAscending) ≡ ids_answer ids
+  pub not_ascending_lem : not t ≡ true → Err NotAscending ≡ ids_answer ids
   unfolding ids_answer
   not_ascending_lem taken = let e : is_ascending ids ≡ false = sym sorted ∙ not-true t taken in rw e
 
-  module _ (left : not t ≡ false) {u : Bool} (two : u ≡ is_in status_response ids) where
-    ascends : is_ascending ids ≡ true
-    ascends = sym sorted ∙ not-false t left
+  module _ (left : not t ≡ false) {u : Bool} (two : u ≡ list_any (λ x. eqb x status_response) ids) where
+    rises : is_ascending ids ≡ true
+    rises = sym sorted ∙ not-false t left
 
-    pub no_status_response : not u ≡ true → (Err WithoutStatusResponse) ≡ ids_answer ids
-    unfolding ids_answer
-    no_status_response taken = let i : is_in status_response ids ≡ false = sym two ∙ not-true u taken in rw (ascends, i)
+    told_two : u ≡ is_in status_response ids
+    told_two = two ∙ is_in-any status_response ids
 
-    pub loaded : not u ≡ false → (Ok tt) ≡ ids_answer ids
+    pub no_status_response : not u ≡ true → Err WithoutStatusResponse ≡ ids_answer ids
     unfolding ids_answer
-    loaded last = let i : is_in status_response ids ≡ true = sym two ∙ not-false u last in rw (ascends, i)
+    no_status_response taken = let i : is_in status_response ids ≡ false = sym told_two ∙ not-true u taken in rw (rises, i)
+
+    pub loaded : not u ≡ false → Ok tt ≡ ids_answer ids
+    unfolding ids_answer
+    loaded last = let i : is_in status_response ids ≡ true = sym told_two ∙ not-false u last in rw (rises, i)
 
 pub ruleset answers = (not_ascending_lem, no_status_response, loaded)
 
@@ -69,7 +74,9 @@ loaded_two : (ids : List ℕ) → ids_answer ids ≡ Ok tt → is_in status_resp
 unfolding ids_answer
 loaded_two ids e = split (is_ascending ids) (is_in status_response ids) e
   where
-    split : (a b : Bool) → need a (Err NotAscending) (need b (Err WithoutStatusResponse) (Ok tt)) ≡ Ok tt → b ≡ true
+    split : (a b : Bool)
+        → ◌≡◌ {A = Result Unit LoadError} (need a (Err NotAscending) (need b (Err WithoutStatusResponse) (Ok tt))) (Ok tt)
+        → b ≡ true
     split a true p = refl
     split true false p = cc
     split false false p = cc
@@ -105,12 +112,12 @@ module _ (f services : List ℕ) {t : Bool} (is : t ≡ is_table f) where
         bytes = kept;
       }
 
-  module _ (left : not t ≡ false) {s : List ℕ} (part : s ≡ ids_in f) {j : (Result Unit LoadError)} (judged : j ≡ ids_answer s) where
+  module _ (left : not t ≡ false) {s : List ℕ} (part : s ≡ ids_in f) {j : Result Unit LoadError} (judged : j ≡ ids_answer s) where
     answered : j ≡ load_answer f
     unfolding load_answer
     answered = let e : is_table f ≡ true = sym is ∙ not-false t left in rw e (judged ∙ ap ids_answer part)
 
-    pub loads_by : {r : (Result Unit LoadError)} {after : List ℕ} → j ≡ r → after ≡ load_bytes r f services → Loads f r services after
+    pub loads_by : {r : Result Unit LoadError} {after : List ℕ} → j ≡ r → after ≡ load_bytes r f services → Loads f r services after
     loads_by {r} told kept =
         let e : r ≡ load_answer f = sym told ∙ answered in
         let two : r ≡ Ok tt → is_in status_response (ids_in f) ≡ true = λ q. loaded_two (ids_in f) (sym (judged ∙ ap ids_answer part) ∙ told ∙ q) in

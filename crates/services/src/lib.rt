@@ -43,11 +43,7 @@ impl ServiceId {
     pub fn is_ds301(self) -> bool
         ensures { result ≡ is_listed self.0 }
     {
-        let id = self.0;
-        match id {
-            0x01..=0x05 | 0x0B | 0x0D..=0x12 => true,
-            _ => false,
-        }
+        matches!(self.0, 0x01..=0x05 | 0x0B | 0x0D..=0x12)
     }
 }
 
