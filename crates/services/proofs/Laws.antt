@@ -8,22 +8,15 @@ use native.Mathlib.Numerals.{add-one}
 use native.Mathlib.Omega.{arith}
 use lib.ListN.{length, get_or, set, drop, drop_of_length-le}
 use lib.Seq.{drop-cons}
-use lib.Dec.{ltb, eqb}
-use Rattle.std.proofs.Common.{tests}
-use Rattle.std.specs.List.{IsAllAdjacentAnswer, list_any}
-use Rattle.services.specs.Ids.{is_in}
+use lib.Dec.{ltb}
+use Rattle.std.specs.List.{IsAllAdjacentAnswer}
 use Rattle.services.specs.Load.{is_ascending}
 use Rattle.services.specs.Table.{marked}
-
--- `contains` tells whether an ID is one of them
-pub is_in-any : (b : ℕ) (ids : List ℕ) → list_any (λ x. eqb x b) ids ≡ is_in b ids
-is_in-any b [] = refl
-is_in-any b (x ∷ ids) = let e : eqb x b ≡ eqb b x = grind (arith, tests) in rw (e, is_in-any b ids)
 
 ltb_next : (x : ℕ) (ids : List ℕ) (k d : ℕ) → ltb (get_or ids k d) (get_or (x ∷ ids) (suc k + 1) d) ≡ ltb (get_or ids k d) (get_or ids (k + 1) d)
 ltb_next x ids k d = let e : suc k + 1 ≡ suc (k + 1) = omega arith in ap (λ n. ltb (get_or ids k d) (get_or (x ∷ ids) n d)) e
 
--- and `is_sorted_by` whether they ascend
+-- `is_sorted_by` tells whether IDs ascend
 pub ascends : (ids : List ℕ) (r : Bool) → IsAllAdjacentAnswer (λ x y b. b ≡ ltb x y) ids r → r ≡ is_ascending ids
 unfolding is_ascending
 ascends [] true h = refl

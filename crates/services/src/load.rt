@@ -43,6 +43,7 @@ pub fn load(file: &[u8], services: &mut Services) -> Result<(), LoadError>
 }
 
 // Whether mark and version are there and right.
+#[tactic(auto, unfolding(crate::specs::Load::is_table))]
 fn is_table(file: &[u8]) -> bool
     ensures { result ≡ is_table file.now }
 {
@@ -56,6 +57,7 @@ fn is_table(file: &[u8]) -> bool
 }
 
 // What loading answers of the IDs.
+#[tactic(auto, unfolding(crate::specs::Load::ids_answer))]
 fn judge(ids: &[u8]) -> Result<(), LoadError>
     ensures { result ≡ ids_answer ids.now }
 {

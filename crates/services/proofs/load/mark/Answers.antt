@@ -1,6 +1,6 @@
 -- `load::mark` meets its contract: at each turn what is marked by then, with the IDs that are left, gives the whole.
 -- Assumes nothing.
-use mathlib.Core.Path.{refl, ◌∙◌, sym}
+use mathlib.Core.Path.{◌∙◌, sym}
 use native.Mathlib.Omega.{arith}
 use Rattle.services.proofs.Laws.{mark_next, mark_end}
 use Rattle.services.proofs.load.mark.Goals as goal
