@@ -16,7 +16,7 @@ load_back c =
     pick (eqb c.number 0) (Ok tt) (pick (eqb c.number 20) (Err NotATable) (pick (eqb c.number 21) (Err NotAscending) (Err WithoutStatusResponse)))
 
 pub load_back_lem : (a : Result Unit LoadError) → load_back (load_cause a) ≡ a
-load_back_lem (Ok tt) = cc
+load_back_lem (Ok _) = cc
 load_back_lem (Err NotATable) = cc
 load_back_lem (Err NotAscending) = cc
 load_back_lem (Err WithoutStatusResponse) = cc

@@ -39,14 +39,14 @@ load_answer f = need (is_table f) (Err NotATable) (ids_answer (ids_in f))
 
 -- 02's number for each case: 0 where nothing is refused
 abbrev pub load_cause : Result Unit LoadError → Cause
-load_cause (Ok tt) = row 0 []
+load_cause (Ok _) = row 0 []
 load_cause (Err NotATable) = row not_a_table []
 load_cause (Err NotAscending) = row not_ascending []
 load_cause (Err WithoutStatusResponse) = row without_status_response []
 
 -- the table of the IDs, or what was lent
 abbrev pub load_bytes : Result Unit LoadError → List ℕ → List ℕ → List ℕ
-load_bytes (Ok tt) f services = table_of (ids_in f)
+load_bytes (Ok _) f services = table_of (ids_in f)
 load_bytes (Err NotATable) f services = services
 load_bytes (Err NotAscending) f services = services
 load_bytes (Err WithoutStatusResponse) f services = services

@@ -20,10 +20,9 @@ const VERSION_AT: usize = 3;
 // The octets of mark and version.
 const START_LEN: usize = 5;
 
-@@DECL LoadAnswer@@
+// Why a table is not loaded.
 #[derive(Clone, Copy, Debug, PartialEq, Eq)]
-pub enum LoadAnswer {
-    Loaded,
+pub enum LoadError {
     // Under 5 octets, or the mark or the version is another.
     NotATable,
     NotAscending,
