@@ -39,13 +39,13 @@ use Rattle.collector.specs.declared.ReadError.{ReadError}
 -- ---- numbers alone
 
 pub raise_number : (a : Result Unit RaiseError) → raise_told (row (raise_cause a).number []) ≡ a
-raise_number (Ok tt) = refl
+raise_number (Ok _) = refl
 raise_number (Err EntryInvalid) = refl
 raise_number (Err StatusEntry) = refl
 raise_number (Err QueueFull) = refl
 
 pub register_number : (a : Result Unit RegisterError) → box.register_told (row (rules.register_cause a).number []) ≡ a
-register_number (Ok tt) = refl
+register_number (Ok _) = refl
 register_number (Err IdOutOfRange) = refl
 register_number (Err IdRegistered) = refl
 register_number (Err Full) = refl

@@ -21,7 +21,7 @@ use Rattle.collector.specs.declared.ReadOutcome.{ReadOutcome}
 use Rattle.collector.specs.declared.ReadError.{ReadError}
 
 pub register_told_lem : (a : Result Unit RegisterError) → register_told (register_cause a) ≡ a
-register_told_lem (Ok tt) = refl
+register_told_lem (Ok _) = refl
 register_told_lem (Err IdOutOfRange) = refl
 register_told_lem (Err IdRegistered) = refl
 register_told_lem (Err Full) = refl

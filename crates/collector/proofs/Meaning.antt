@@ -101,7 +101,7 @@ register_means s size i = by_id (is_cn_node_id i) refl
         (le_or_lt heads (find_of s i))
 
 pub register_length : (r : Result Unit RegisterError) (i : ℕ) (s : List ℕ) → length (register_bytes r i s) ≡ length s
-register_length (Ok tt) i s = placed_length s (find_of s 0) i
+register_length (Ok _) i s = placed_length s (find_of s 0) i
 register_length (Err IdOutOfRange) i s = refl
 register_length (Err IdRegistered) i s = refl
 register_length (Err Full) i s = refl

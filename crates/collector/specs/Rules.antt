@@ -96,13 +96,13 @@ register_answer i b = need (is_cn_node_id i) (Err IdOutOfRange) (register_vacant
 
 -- 01's number for each case: 0 where nothing is refused
 abbrev pub register_cause : Result Unit RegisterError → Cause
-register_cause (Ok tt) = row 0 []
+register_cause (Ok _) = row 0 []
 register_cause (Err IdOutOfRange) = row cause.id_out_of_range []
 register_cause (Err IdRegistered) = row cause.id_registered []
 register_cause (Err Full) = row cause.four_registered []
 
 abbrev pub when_registered : {A : Type 0} → Result Unit RegisterError → A → A → A
-when_registered (Ok tt) a b = a
+when_registered (Ok _) a b = a
 when_registered (Err IdOutOfRange) a b = b
 when_registered (Err IdRegistered) a b = b
 when_registered (Err Full) a b = b

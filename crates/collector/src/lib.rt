@@ -67,24 +67,27 @@ const PLACES: u8 = BOOK_LEN as u8;
 // What Take hands out goes into a journal whose length is saved with the state; after a restart the journal is cut to it.
 pub type Collector = [u8; COLLECTOR_LEN];
 
-@@DECL RegisterAnswer@@
+// Why a node gets no place.
 #[derive(Clone, Copy, Debug, PartialEq, Eq)]
-pub enum RegisterAnswer {
-    Registered,
+pub enum RegisterError {
     IdOutOfRange,
     IdRegistered,
     // Four nodes are registered.
     Full,
 }
 
-@@DECL ReadAnswer@@
-// What reading a frame comes to: its batch is booked; EN equals EA, so its batch is known; or why nothing is booked.
+// What reading a StatusResponse comes to: its batch is booked; or EN equals EA, so its batch is known.
 #[derive(Clone, Copy, Debug, PartialEq, Eq)]
-pub enum ReadAnswer {
+pub enum ReadOutcome {
     Booked,
     Known,
+}
+
+// Why nothing is booked.
+#[derive(Clone, Copy, Debug, PartialEq, Eq)]
+pub enum ReadError {
     // The frame cannot be read, or its payload is no StatusResponse that can be.
-    Refused(PowerlinkError),
+    Frame(PowerlinkError),
     NotStatusResponse,
     NotRegistered,
     BookFull,
@@ -98,18 +101,16 @@ pub struct RequestFields {
     pub epl_version: EPLVersion,
 }
 
-@@DECL RequestAnswer@@
+// Why no request is written.
 #[derive(Clone, Copy, Debug, PartialEq, Eq)]
-pub enum RequestAnswer {
-    Written(usize),
+pub enum RequestError {
     NotRegistered,
-    Refused(PowerlinkError),
+    Frame(PowerlinkError),
 }
 
-@@DECL TakeAnswer@@
+// Why no entry is handed out.
 #[derive(Clone, Copy, Debug, PartialEq, Eq)]
-pub enum TakeAnswer {
-    Taken(ErrorEntry),
+pub enum TakeError {
     NotRegistered,
     NothingBooked,
 }

@@ -65,7 +65,7 @@ impl ASndFrame {
         ensures { result ≡ asnd_bytes self }
     {
         [
-            MessageType::u8::from(ASnd),
+            u8::from(MessageType::ASnd),
             self.destination.0,
             self.source.0,
             self.service_id.0,

@@ -103,7 +103,7 @@ fn first_octets(frame: SoAFrame) -> [u8; 8]
     let state = frame.nmt_state;
     let service = frame.req_service_id;
     [
-        MessageType::u8::from(SoA),
+        u8::from(MessageType::SoA),
         frame.destination.0,
         frame.source.0,
         u8::from(state),

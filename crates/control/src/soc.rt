@@ -91,7 +91,7 @@ fn node_octets(frame: SocFrame) -> [u8; 4]
     ensures { result ≡ take 4 (soc_bytes frame) }
 {
     [
-        MessageType::u8::from(SoC),
+        u8::from(MessageType::SoC),
         frame.destination.0,
         frame.source.0,
         0,

@@ -20,19 +20,17 @@ pub const JOURNAL_START_LEN: usize = 5;
 // The octets of a record: the node ID, and the entry's 20.
 pub const JOURNAL_RECORD_LEN: usize = 1 + ENTRY_LEN;
 
-@@DECL JournalAnswer@@
+// Why no record is written.
 #[derive(Clone, Copy, Debug, PartialEq, Eq)]
-pub enum JournalAnswer {
-    Written(usize),
+pub enum JournalError {
     BufferTooShort,
     // The entry's mode is that of a terminator, or the ID is not that of a controlled node.
     RecordInvalid,
 }
 
-@@DECL WholeLenAnswer@@
+// Why a journal has no whole part.
 #[derive(Clone, Copy, Debug, PartialEq, Eq)]
-pub enum WholeLenAnswer {
-    Whole(usize),
+pub enum WholeLenError {
     // Mark and version are not there.
     TooShort,
     UnknownVersion,

@@ -28,10 +28,9 @@ pub enum Phase {
     Records,
 }
 
-@@DECL ListAnswer@@
-// Why a call listed no further.
+// Why a call listed no further, of a journal that is not refused.
 #[derive(Clone, Copy, Debug, PartialEq, Eq)]
-pub enum ListAnswer {
+pub enum Stop {
     // Octets have to come. The next call gets those that are not consumed, with more behind them.
     More,
     // There is a line to write, and no room for it behind those that were written. The next call gets room, and the octets
@@ -39,6 +38,11 @@ pub enum ListAnswer {
     Full,
     // The journal is at its end, and all of it is listed.
     End,
+}
+
+// Why a journal is refused, or a call lists nothing.
+#[derive(Clone, Copy, Debug, PartialEq, Eq)]
+pub enum ListError {
     // There is a line to write, and under `LINE_MAX` octets of room: nothing was done.
     BufferTooShort,
     // The journal is refused, and the line that says so is written: under 5 octets or the mark wrong.

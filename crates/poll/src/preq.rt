@@ -86,7 +86,7 @@ fn first_octets(frame: PReqFrame) -> [u8; 8]
 {
     let flags = frame.flags;
     [
-        MessageType::u8::from(PReq),
+        u8::from(MessageType::PReq),
         frame.destination.0,
         frame.source.0,
         0,

@@ -100,7 +100,7 @@ fn first_octets(frame: PResFrame) -> [u8; 8]
     let pr = flags.pr;
     let rs = flags.rs;
     [
-        MessageType::u8::from(PRes),
+        u8::from(MessageType::PRes),
         frame.destination.0,
         frame.source.0,
         u8::from(state),

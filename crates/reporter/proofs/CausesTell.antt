@@ -16,11 +16,11 @@ use Rattle.reporter.specs.declared.NewError.{NewError}
 use Rattle.reporter.specs.declared.ReadOutcome.{ReadOutcome}
 
 pub new_told_lem : (a : Result Unit NewError) → new_told (new_cause a) ≡ a
-new_told_lem (Ok tt) = refl
+new_told_lem (Ok _) = refl
 new_told_lem (Err IdOutOfRange) = refl
 
 pub raise_told_lem : (a : Result Unit RaiseError) → raise_told (raise_cause a) ≡ a
-raise_told_lem (Ok tt) = refl
+raise_told_lem (Ok _) = refl
 raise_told_lem (Err EntryInvalid) = refl
 raise_told_lem (Err StatusEntry) = refl
 raise_told_lem (Err QueueFull) = refl

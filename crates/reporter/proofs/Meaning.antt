@@ -70,7 +70,7 @@ raisable_range e w h =
 
 module _ (e : ErrorEntry) (s : List ℕ) where
   pub raises_length : (r : Result Unit RaiseError) → length (raise_bytes r e s) ≡ length s
-  raises_length (Ok tt) = raised_length s e
+  raises_length (Ok _) = raised_length s e
   raises_length (Err EntryInvalid) = refl
   raises_length (Err StatusEntry) = refl
   raises_length (Err QueueFull) = refl

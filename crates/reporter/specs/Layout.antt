@@ -77,7 +77,7 @@ head_of s =
 -- ---- what the calls leave
 
 abbrev pub new_bytes : Result Unit NewError → ℕ → List ℕ → List ℕ
-new_bytes (Ok tt) i s = set (replicate reporter_length 0) id_at i
+new_bytes (Ok _) i s = set (replicate reporter_length 0) id_at i
 new_bytes (Err IdOutOfRange) i s = s
 
 -- the entry's record behind the waiting ones

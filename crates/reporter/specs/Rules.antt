@@ -65,7 +65,7 @@ new_answer i = need (is_cn_node_id i) (Err IdOutOfRange) (Ok tt)
 
 -- 01's number for each case: 0 where nothing is refused
 abbrev pub new_cause : Result Unit NewError → Cause
-new_cause (Ok tt) = row 0 []
+new_cause (Ok _) = row 0 []
 new_cause (Err IdOutOfRange) = row cause.id_out_of_range []
 
 -- ---- Raise
@@ -82,13 +82,13 @@ unfoldable pub raise_answer : ErrorEntry → Head → Result Unit RaiseError
 raise_answer e h = raise_by (is_raisable e) e.entry_type.is_status_entry (ltb (length h.waiting) queue_length)
 
 abbrev pub raise_cause : Result Unit RaiseError → Cause
-raise_cause (Ok tt) = row 0 []
+raise_cause (Ok _) = row 0 []
 raise_cause (Err EntryInvalid) = row cause.entry_invalid []
 raise_cause (Err StatusEntry) = row cause.is_status_entry []
 raise_cause (Err QueueFull) = row cause.queue_full []
 
 abbrev pub when_raised : {A : Type 0} → Result Unit RaiseError → A → A → A
-when_raised (Ok tt) a b = a
+when_raised (Ok _) a b = a
 when_raised (Err EntryInvalid) a b = b
 when_raised (Err StatusEntry) a b = b
 when_raised (Err QueueFull) a b = b

@@ -70,17 +70,15 @@ const BARE_ANSWER_LEN: usize = PAYLOAD_AT + FRONT_LEN + ENTRY_LEN;
 // No other StatusResponse goes out under its ID, since each tells the box EN.
 pub type Reporter = [u8; REPORTER_LEN];
 
-@@DECL NewAnswer@@
+// Why no state is made.
 #[derive(Clone, Copy, Debug, PartialEq, Eq)]
-pub enum NewAnswer {
-    Made,
+pub enum NewError {
     IdOutOfRange,
 }
 
-@@DECL RaiseAnswer@@
+// Why an entry is not raised.
 #[derive(Clone, Copy, Debug, PartialEq, Eq)]
-pub enum RaiseAnswer {
-    Raised,
+pub enum RaiseError {
     // The mode is the terminator's, or the profile has more than 12 bits.
     EntryInvalid,
     // Bit 15 of its type is set: a node of ours reports history entries alone (02, CR 2).
@@ -101,15 +99,13 @@ pub struct AnswerFields {
     pub static_error_bit_field: StaticErrorBitField,
 }
 
-@@DECL ReadAnswer@@
-// What reading a frame comes to: the open batch is acknowledged and closed; EA was read and closes nothing; the frame
-// holds no EA for this node; or it cannot be read.
+// What reading a frame comes to: the open batch is acknowledged and closed; EA was read and closes nothing; or the frame
+// holds no EA for this node.
 #[derive(Clone, Copy, Debug, PartialEq, Eq)]
-pub enum ReadAnswer {
+pub enum ReadOutcome {
     Closed,
     Kept,
     Ignored,
-    Refused(PowerlinkError),
 }
 
 // Makes a fresh state for a node.

@@ -17,7 +17,7 @@ load_back c =
     (pick (eqb c.number 20) (Err NotATable) (pick (eqb c.number 21) (Err NotAscending) (Err WithoutStatusResponse)))
 
 pub load_back_lem : (a : Result Unit LoadError) → load_back (load_cause a) ≡ a
-load_back_lem (Ok u) = refl
+load_back_lem (Ok _) = refl
 load_back_lem (Err NotATable) = refl
 load_back_lem (Err NotAscending) = refl
 load_back_lem (Err WithoutStatusResponse) = refl

@@ -39,15 +39,15 @@ load_answer f = need (is_table f) (Err NotATable) (ids_answer (ids_in f))
 
 -- 02's number for each case: 0 where nothing is refused
 abbrev pub load_cause : Result Unit LoadError → Cause
-load_cause (Ok u) = row 0 []
+load_cause (Ok _) = row 0 []
 load_cause (Err NotATable) = row not_a_table []
 load_cause (Err NotAscending) = row not_ascending []
 load_cause (Err WithoutStatusResponse) = row without_status_response []
 
 -- the table of the IDs, or what was lent
 abbrev pub load_bytes : Result Unit LoadError → List ℕ → List ℕ → List ℕ
-load_bytes (Ok u) f services = table_of (ids_in f)
-load_bytes (Err e) f services = services
+load_bytes (Ok _) f services = table_of (ids_in f)
+load_bytes (Err _) f services = services
 
 pub record Loads (f : List ℕ) (r : Result Unit LoadError) (services after : List ℕ) : Type 0 where
   pub answer : r ≡ load_answer f

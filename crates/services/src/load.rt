@@ -19,7 +19,7 @@ const VERSION_AT: usize = 3;
 // The octets of mark and version.
 const START_LEN: usize = 5;
 
-// Why a file is not loaded.
+// Why a table is not loaded.
 #[derive(Clone, Copy, Debug, PartialEq, Eq)]
 pub enum LoadError {
     // Under 5 octets, or the mark or the version is another.

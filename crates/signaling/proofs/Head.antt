@@ -80,7 +80,7 @@ module _ {i : ℕ} {ea : Bool} {book : List ErrorEntry} {c : Tally} (t : Inv i e
       }
 
   pub raise_keeps : (e : ErrorEntry) (r : Result Unit RaiseError) → r ≡ raise_answer e h → Numbers e → Inv i ea book (adds i (raised e r) c)
-  raise_keeps e (Ok tt) a n = rw (← a) (raise_joins e (raisable e h a) n)
+  raise_keeps e (Ok _) a n = rw (← a) (raise_joins e (raisable e h a) n)
   raise_keeps e (Err EntryInvalid) a n = rw (← a) t
   raise_keeps e (Err StatusEntry) a n = rw (← a) t
   raise_keeps e (Err QueueFull) a n = rw (← a) t

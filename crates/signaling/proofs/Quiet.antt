@@ -50,7 +50,7 @@ module _ (i : ℕ) (b : Box) (is : IsPlace (b.accounts i)) where
   with_stays j p = either (eqb i j) (λ here. rw here tt) (λ away. rw away is)
 
   register_stays : (j : ℕ) (r : Result Unit RegisterError) → IsPlace ((after_register r j b).accounts i)
-  register_stays j (Ok tt) = with_stays j _
+  register_stays j (Ok _) = with_stays j _
   register_stays j (Err IdOutOfRange) = is
   register_stays j (Err IdRegistered) = is
   register_stays j (Err Full) = is
@@ -119,7 +119,7 @@ room_stays {i} {w} (takes j r after c) k y = omega (arith, y, hands_on (eqb j i)
 room_stays (hosts bs told) k y = y
 
 pub quiet_raises_not : (i : ℕ) (x : Event) → Quiet i x → NoRaise i x
-quiet_raises_not i (raised e (Ok tt)) k = absurd (omega arith)
+quiet_raises_not i (raised e (Ok _)) k = absurd (omega arith)
 quiet_raises_not i (raised e (Err EntryInvalid)) k = λ t. refl
 quiet_raises_not i (raised e (Err StatusEntry)) k = λ t. refl
 quiet_raises_not i (raised e (Err QueueFull)) k = λ t. refl
@@ -162,7 +162,7 @@ take_bit i j b (Err taking.NothingBooked) = refl
 
 -- a Raise that accepts nothing leaves the head
 pub not_raised : (i : ℕ) (e : ErrorEntry) (r : Result Unit RaiseError) → NoRaise i (raised e r) → (h : Head) → after_raise r e h ≡ h
-not_raised i e (Ok tt) k h = let some-raised : e ∷ [] ≡ [] = k (nothing_yet i) in clash cc
+not_raised i e (Ok _) k h = let some-raised : e ∷ [] ≡ [] = k (nothing_yet i) in clash cc
 not_raised i e (Err EntryInvalid) k h = refl
 not_raised i e (Err StatusEntry) k h = refl
 not_raised i e (Err QueueFull) k h = refl

@@ -22,7 +22,7 @@ pending i w = (ruled i w.log).batch ++ (ruled i w.log).waiting
 -- reads no answer of this head. The head may read whatever the box and its host sent, in the order of sending (`Delivered`), also what
 -- gives it an EA: this is wider than 01. All else may be called.
 abbrev pub Quiet : ℕ → Event → Type 0
-Quiet i (raised e (Ok tt)) = ⊥
+Quiet i (raised e (Ok _)) = ⊥
 Quiet i (raised e (Err EntryInvalid)) = Unit {0}
 Quiet i (raised e (Err StatusEntry)) = Unit {0}
 Quiet i (raised e (Err QueueFull)) = Unit {0}

@@ -3,4 +3,4 @@
 use Rattle.control.proofs.soa.first_octets.Goals as goal
 
 pub returns : goal.returns
-returns c = rw (c.to_u8-3.ensures, c.flag-2.ensures.0, c.flag.ensures.0, c.to_u8-2.ensures, c.to_u8.ensures)
+returns c = rw (c.from-3.ensures, c.flag-2.ensures.0, c.flag.ensures.0, c.from-2.ensures, c.from.ensures)
