@@ -1,7 +1,6 @@
 pub mod CausesTell
 pub mod Fields
 pub mod Front
-pub mod Numbers
 pub mod Places
 pub mod ReadBack
 pub mod TypeBack

@@ -1,6 +1,7 @@
 -- The 20 octets of an error entry (EPSG DS 301, Tables 94 and 96).
 -- Assumes nothing.
 use Rattle.std.specs.Prelude.{ℕ, ◌+◌, ◌*◌, ◌/◌, ◌%◌, false, ◌≡◌, List, [], ◌++◌, length, leb, Result, Ok, Err}
+use Rattle.std.specs.Result.{result_unwrap_or}
 use Rattle.octets.specs.Numbers.{bit, le_at, le_bytes}
 use Rattle.types.specs.CauseNumbers.{too_short}
 use Rattle.types.specs.Causes.{Cause, row, cause_of}
@@ -80,5 +81,4 @@ pub record ReadsEntry (s : List ℕ) (r : Result ErrorEntry PowerlinkError) : Ty
 
 -- the entry that was read, or a terminator
 abbrev pub or_terminator : Result ErrorEntry PowerlinkError → ErrorEntry
-or_terminator (Ok e) = e
-or_terminator (Err e) = terminator
+or_terminator r = result_unwrap_or r terminator

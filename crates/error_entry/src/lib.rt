@@ -1,15 +1,14 @@
 // An entry of the error list of a StatusResponse (powerlink-rs: frame/error/status_response.rs).
 #![tactic(auto)]
 
-ghost use Rattle.std.specs.Prelude.{◌≡◌, ◌+◌, ◌*◌, ◌≤◌, length};
+ghost use Rattle.std.specs.Prelude.{◌≡◌};
 ghost use Rattle.std.proofs.lemmas.List.Edits.{sets};
-ghost use Rattle.octets.specs.Numbers.{le_at};
-ghost use Rattle.types.specs.Codes.{pick};
-ghost use Rattle.types.specs.Modes.{mode_code};
 ghost use Rattle.section.specs.Write.{Writes};
-ghost use Rattle.error_entry.specs.Entry.{entry_length, entry_type_of, type_number, entry_of, entry_bytes, or_terminator, ReadsEntry};
+ghost use Rattle.error_entry.specs.Entry.{entry_type_of, type_number, entry_of, entry_bytes, or_terminator, ReadsEntry};
 
-use octets::little_endian::{put_u16_le, put_u32_le, put_u64_le};
+use octets::little_endian::{
+    get_u16_le, get_u32_le, get_u64_le, put_u16_le, put_u32_le, put_u64_le,
+};
 use types::common::NetTime;
 use types::error_mode::ErrorEntryMode;
 use types::hal::PowerlinkError;
@@ -42,35 +41,26 @@ pub struct ErrorEntry {
     pub additional_information: u64,
 }
 
-impl Result<ErrorEntry, PowerlinkError> {
-    // The entry, or a terminator where there is none: for a caller that counts its entries itself.
-    pub fn or_terminator(self) -> ErrorEntry
-        ensures { result ≡ or_terminator self }
-    {
-        match self {
-            Ok(e) => e,
-            Err(_) => ErrorEntry {
-                entry_type: EntryType {
-                    is_status_entry: false,
-                    send_to_queue: false,
-                    mode: ErrorEntryMode::Terminator,
-                    profile: 0,
-                },
-                error_code: 0,
-                timestamp: NetTime {
-                    seconds: 0,
-                    nanoseconds: 0,
-                },
-                additional_information: 0,
-            },
-        }
-    }
-}
+// The entry of zeros that ends a list.
+const TERMINATOR: ErrorEntry = ErrorEntry {
+    entry_type: EntryType {
+        is_status_entry: false,
+        send_to_queue: false,
+        mode: ErrorEntryMode::Terminator,
+        profile: 0,
+    },
+    error_code: 0,
+    timestamp: NetTime {
+        seconds: 0,
+        nanoseconds: 0,
+    },
+    additional_information: 0,
+};
 
-impl EntryType {
-    pub fn from_u16(value: u16) -> EntryType
-        ensures { result ≡ entry_type_of value }
-    {
+impl From<u16> for EntryType {
+    ghost from_gives = { λ n t. t ≡ entry_type_of n };
+
+    fn from(value: u16) -> EntryType {
         EntryType {
             is_status_entry: value / STATUS_ENTRY % 2 == 1,
             send_to_queue: value / SEND_TO_QUEUE % 2 == 1,
@@ -78,29 +68,21 @@ impl EntryType {
             profile: value % 0x1000,
         }
     }
+}
+
+impl From<EntryType> for u16 {
+    ghost from_gives = { λ t n. n ≡ type_number t };
 
     // The profile loses what lies above its 12 bits.
-    pub fn to_u16(self) -> u16
-        ensures { result ≡ type_number self }
-    {
-        let mode = self.mode;
-        let high = bit(self.is_status_entry, STATUS_ENTRY) + bit(self.send_to_queue, SEND_TO_QUEUE);
-        high + 0x1000 * mode_bits(mode) + self.profile % 0x1000
+    fn from(entry_type: EntryType) -> u16 {
+        let status_entry = u16::from(entry_type.is_status_entry);
+        let send_to_queue = u16::from(entry_type.send_to_queue);
+        let mode = u16::from(u8::from(entry_type.mode));
+        STATUS_ENTRY * status_entry
+            + SEND_TO_QUEUE * send_to_queue
+            + 0x1000 * mode
+            + entry_type.profile % 0x1000
     }
-}
-
-// The weight of a flag in the 16 bits of the type.
-fn bit(on: bool, weight: u16) -> u16
-    ensures { (result ≡ pick on weight 0) × (result ≤ weight) }
-{
-    if on { weight } else { 0 }
-}
-
-// The mode as the two bits that it takes.
-fn mode_bits(mode: ErrorEntryMode) -> u16
-    ensures { (result ≡ mode_code mode) × (result ≤ 3) }
-{
-    u8::from(mode) as u16
 }
 
 impl ErrorEntry {
@@ -112,6 +94,14 @@ impl ErrorEntry {
             return Err(PowerlinkError::BufferTooShort);
         }
         Ok(entry_in(buffer))
+    }
+
+    // The entry that was read, or a terminator where there is none: for a caller that counts its entries itself. It stands here,
+    // and not as `unwrap_or` at each caller, since a constant has no contract that says what it is.
+    pub fn or_terminator(read: Result<ErrorEntry, PowerlinkError>) -> ErrorEntry
+        ensures { result ≡ or_terminator read }
+    {
+        read.unwrap_or(TERMINATOR)
     }
 
     // Writes the 20 octets, if they fit.
@@ -129,8 +119,7 @@ impl ErrorEntry {
     fn put(self, target: &mut [u8])
         ensures { target.new ≡ sets target.old 0 (entry_bytes self) }
     {
-        let entry_type = self.entry_type;
-        put_u16_le(target, 0, entry_type.to_u16());
+        put_u16_le(target, 0, u16::from(self.entry_type));
         put_u16_le(target, 2, self.error_code);
         put_u32_le(target, 4, self.timestamp.seconds);
         put_u32_le(target, 8, self.timestamp.nanoseconds);
@@ -138,48 +127,18 @@ impl ErrorEntry {
     }
 }
 
-// The number that two octets make, low octet first.
-fn u16_of(low: u8, high: u8) -> u16
-    ensures { result ≡ low + 256 * high }
-{
-    (low as u16) + 0x100 * (high as u16)
-}
-
-// The number that 2, 4 or 8 octets make, all of which lie in `s`: who reads many of them tests the length once.
-fn u16_in(s: &[u8], at: usize) -> u16
-    requires { at + 2 ≤ length s.now }
-    ensures { result ≡ le_at 2 at s.now }
-{
-    u16_of(s[at], s[at + 1])
-}
-
-fn u32_in(s: &[u8], at: usize) -> u32
-    requires { at + 4 ≤ length s.now }
-    ensures { result ≡ le_at 4 at s.now }
-{
-    (u16_in(s, at) as u32) + 0x1_0000 * (u16_in(s, at + 2) as u32)
-}
-
-fn u64_in(s: &[u8], at: usize) -> u64
-    requires { at + 8 ≤ length s.now }
-    ensures { result ≡ le_at 8 at s.now }
-{
-    (u32_in(s, at) as u64) + 0x1_0000_0000 * (u32_in(s, at + 4) as u64)
-}
-
-// The entry that 20 octets are.
+// The entry that 20 octets are. Their number was tested, and the compiler drops the tests in these reads.
 fn entry_in(s: &[u8]) -> ErrorEntry
-    requires { entry_length ≤ length s.now }
     ensures { result ≡ entry_of s.now }
 {
-    let entry_type = EntryType::from_u16(u16_in(s, 0));
+    let entry_type = EntryType::from(get_u16_le(s, 0));
     ErrorEntry {
         entry_type,
-        error_code: u16_in(s, 2),
+        error_code: get_u16_le(s, 2),
         timestamp: NetTime {
-            seconds: u32_in(s, 4),
-            nanoseconds: u32_in(s, 8),
+            seconds: get_u32_le(s, 4),
+            nanoseconds: get_u32_le(s, 8),
         },
-        additional_information: u64_in(s, 12),
+        additional_information: get_u64_le(s, 12),
     }
 }

@@ -7,10 +7,10 @@ pub returns : goal.returns
 unfolding entry_of
 returns c =
     rw (
-      c.from_u16-entry_type.ensures,
-      c.u16_in.ensures,
-      c.u16_in-2.ensures,
-      c.u32_in.ensures,
-      c.u32_in-2.ensures,
-      c.u64_in.ensures,
+      c.from-entry_type.ensures,
+      c.get_u16_le.ensures,
+      c.get_u16_le-2.ensures,
+      c.get_u32_le.ensures,
+      c.get_u32_le-2.ensures,
+      c.get_u64_le.ensures,
     )

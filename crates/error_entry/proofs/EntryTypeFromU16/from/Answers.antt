@@ -1,7 +1,7 @@
--- `EntryType::from_u16` meets its contract.
+-- `EntryType::from` meets its contract.
 -- Assumes nothing.
 use Rattle.error_entry.specs.Entry.{entry_type_of}
-use Rattle.error_entry.proofs.EntryType.from_u16.Goals as goal
+use Rattle.error_entry.proofs.EntryTypeFromU16.from.Goals as goal
 
 pub returns : goal.returns
 unfolding entry_type_of
