@@ -4,7 +4,7 @@ ghost use Rattle.poll.specs.PReq.{preq_section};
 ghost use Rattle.powerlink.specs.Given.{soc_given, preq_flags_given, preq_given, pres_flags_given, pres_writing, soa_flags_given, soa_writing, asnd_writing};
 ghost use Rattle.powerlink.specs.Writing.{WritesTo, WritesCoded};
 
-use c_values::answers::{padded_len, told, unnamed, written_or};
+use c_values::answers::{told, unnamed, written_or};
 use control::asnd::ASndFrame;
 use control::soa::{SoAFlags, SoAFrame};
 use control::soc::{SocFlags, SocFrame};
@@ -95,14 +95,9 @@ pub fn powerlink_serialize_pres(
     ensures { WritesCoded (pres_writing destination source state (pres_flags_given ms en rd pr rs) pdo_version payload_size payload.now) result target.old target.new written.old written.new octet.old octet.new }
 {
     match NmtState::try_from(state) {
-        Err(PowerlinkError::InvalidNmtState(b)) => {
-            let needed = padded_len(MIN_SECTION, poll::FIELDS_LEN + payload.len());
-            unnamed(
-                PowerlinkError::InvalidNmtState(b),
-                needed,
-                target.len(),
-                octet,
-            )
+        Err(e) => {
+            let needed = MIN_SECTION.max(poll::FIELDS_LEN + payload.len());
+            unnamed(e, needed, target.len(), octet)
         }
         Ok(nmt_state) => {
             let frame = PResFrame {
@@ -142,21 +137,9 @@ pub fn powerlink_serialize_soa(
     ensures { WritesCoded (soa_writing destination source state (soa_flags_given ea er) requested_service target_node epl_version) result target.old target.new written.old written.new octet.old octet.new }
 {
     match NmtState::try_from(state) {
-        Err(PowerlinkError::InvalidNmtState(b)) => {
-            unnamed(
-                PowerlinkError::InvalidNmtState(b),
-                MIN_SECTION,
-                target.len(),
-                octet,
-            )
-        }
+        Err(e) => unnamed(e, MIN_SECTION, target.len(), octet),
         Ok(nmt_state) => match RequestedServiceId::try_from(requested_service) {
-            Err(PowerlinkError::InvalidRequestedServiceId(b)) => unnamed(
-                PowerlinkError::InvalidRequestedServiceId(b),
-                MIN_SECTION,
-                target.len(),
-                octet,
-            ),
+            Err(e) => unnamed(e, MIN_SECTION, target.len(), octet),
             Ok(req_service_id) => {
                 let frame = SoAFrame {
                     destination: NodeId(destination),
