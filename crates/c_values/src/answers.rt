@@ -1,5 +1,5 @@
 // Answers as a caller in C gets them: a number, and what goes with it through out-parameters.
-ghost use Rattle.std.specs.Prelude.{◌≡◌};
+ghost use Rattle.std.specs.Prelude.{◌≡◌, max};
 ghost use Rattle.types.specs.Causes.{cause_number};
 ghost use Rattle.section.specs.Write.{write_cause, unnamed_answer};
 ghost use Rattle.c_values.specs.Answers.{length_after, error_octet, octet_after};
@@ -58,4 +58,11 @@ pub fn unnamed(e: PowerlinkError, needed: usize, len: usize, octet: &mut u8) -> 
         return TOO_SHORT;
     }
     refusal(e, octet)
+}
+
+// What is needed for `used` octets, where fewer than `least` are padded.
+pub fn padded_len(least: usize, used: usize) -> usize
+    ensures { result ≡ max least used }
+{
+    least.max(used)
 }

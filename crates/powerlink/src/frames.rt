@@ -5,7 +5,7 @@ ghost use Rattle.section.specs.Write.{padded};
 ghost use Rattle.powerlink.specs.Given.{time, soc_flags_given, new_soc_frame, preq_flags_given, new_preq_frame, pres_flags_given, new_pres_writing, soa_flags_given, new_soa_writing, new_asnd_writing};
 ghost use Rattle.powerlink.specs.Writing.{WritesTo, WritesCoded};
 
-use c_values::answers::{told, unnamed, written_or};
+use c_values::answers::{padded_len, told, unnamed, written_or};
 use control::asnd::ASndFrame;
 use control::soa::{SoAFlags, SoAFrame};
 use control::soc::{SocFlags, SocFrame};
@@ -110,7 +110,7 @@ pub fn powerlink_new_pres(
 {
     match NmtState::try_from(state) {
         Err(e) => {
-            let needed = MIN_FRAME.max(poll::PAYLOAD_AT + payload.len());
+            let needed = padded_len(MIN_FRAME, poll::PAYLOAD_AT + payload.len());
             unnamed(e, needed, target.len(), octet)
         }
         Ok(nmt_state) => {

@@ -23,7 +23,7 @@ pub fn powerlink_reporter_new_v2(state: &mut Reporter, id: u8) -> u8
     ensures { ReporterMakes id result state.old state.new }
 {
     match new(state, NodeId(id)) {
-        Ok(()) => 0,
+        Ok(_) => 0,
         Err(NewError::IdOutOfRange) => ID_OUT_OF_RANGE,
     }
 }

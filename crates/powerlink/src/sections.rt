@@ -4,7 +4,7 @@ ghost use Rattle.poll.specs.PReq.{preq_section};
 ghost use Rattle.powerlink.specs.Given.{soc_given, preq_flags_given, preq_given, pres_flags_given, pres_writing, soa_flags_given, soa_writing, asnd_writing};
 ghost use Rattle.powerlink.specs.Writing.{WritesTo, WritesCoded};
 
-use c_values::answers::{told, unnamed, written_or};
+use c_values::answers::{padded_len, told, unnamed, written_or};
 use control::asnd::ASndFrame;
 use control::soa::{SoAFlags, SoAFrame};
 use control::soc::{SocFlags, SocFrame};
@@ -96,7 +96,7 @@ pub fn powerlink_serialize_pres(
 {
     match NmtState::try_from(state) {
         Err(e) => {
-            let needed = MIN_SECTION.max(poll::FIELDS_LEN + payload.len());
+            let needed = padded_len(MIN_SECTION, poll::FIELDS_LEN + payload.len());
             unnamed(e, needed, target.len(), octet)
         }
         Ok(nmt_state) => {

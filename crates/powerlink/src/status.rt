@@ -45,7 +45,7 @@ pub fn powerlink_deserialize_error_field(buffer: &[u8], field: &mut [u8; 8]) -> 
     ensures { FieldRead buffer.now result field.old field.new }
 {
     match StaticErrorBitField::deserialize(buffer) {
-        Err(e) => e.number(),
+        Err(error) => error.number(),
         Ok(bits) => {
             *field = bits.to_bytes();
             0
