@@ -75,6 +75,9 @@ fields_read field (Ok f) d q =
     (ap (λ (x : DeserializedStatus). Ok x.fields) same, ap (λ (x : DeserializedStatus). x.static_error_bit_field) same)
 fields_read field (Err e) d q = let z : ◌≡◌ {A = ℕ} 0 1 = cc in absurd (omega arith)
 
+pub read_in : (s : List ℕ) (d : DeserializedStatus) → read_status s ≡ Ok d → Ok d.fields ≡ read_fields s
+read_in s d q = sym (fields_read _ (read_fields s) d q).0
+
 module _ (s v g : List ℕ) where
   pub status_refused : (r o o' : ℕ) (e : PowerlinkError) → read_status s ≡ Err e → Told e r o o' → StatusRead s r v v g g o o'
   status_refused r o o' e q t =
