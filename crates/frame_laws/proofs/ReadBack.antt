@@ -1,12 +1,11 @@
 -- A frame that is written is read back: header, fields and payload, under every table that holds its service.
 -- Assumes nothing.
 use Prim.Native.Nat.{ℕ, ◌+◌, ◌-◌}
-use mathlib.Core.Path.{◌≡◌, refl, sym, ◌∙◌}
+use mathlib.Core.Path.{◌≡◌, refl, sym, ap, ◌∙◌}
 use mathlib.Core.List.{List}
 use native.Mathlib.Omega.{arith}
 use lib.ListN.{length, replicate, length-append}
 use lib.Seq.{take_at}
-use Rattle.std.specs.Prelude.{Ok}
 use Rattle.types.specs.Header.{eth_bytes}
 use Rattle.types.specs.declared.basic.EthernetHeader.{EthernetHeader}
 use Rattle.section.specs.Write.{padded}
@@ -23,6 +22,7 @@ use Rattle.frame_laws.proofs.ASndBack.{asnd_back, asnd_payload}
 use Rattle.frame_laws.proofs.Sizes.{from_section, sizes_read_back}
 use Rattle.frame_laws.proofs.SoABack.{soa_back}
 use Rattle.frame_laws.proofs.SoCBack.{soc_back}
+use Rattle.frame_laws.proofs.Tests.{one_value}
 
 module _ (services : List ℕ) where
   -- a size that is the payload's length gives the payload
@@ -30,7 +30,7 @@ module _ (services : List ℕ) where
       → ReadsAs services (frame_bytes h f p) h f p
   own_size h f n p sized e =
       let r = sized.enough (omega (arith, length-append p (replicate (46 - (10 + length p)) 0))) in
-      record { header = r.header; frame = r.frame; octets = r.octets ∙ take_at p _ n (sym e) }
+      record { place = r.place; read = r.read; octets = r.octets ∙ take_at p _ n (sym e) }
 
   -- under a table that holds its service
   asnd_reads : (h : EthernetHeader) (f : ASndFrame) (p : List ℕ) → IsHeader h → Faithful services (ASnd f) p
@@ -55,11 +55,8 @@ frames_read_back =
       same =
           λ services h k f g p q ih ff ik fg e.
           let a = reads services h f p ih ff in
-          let b = reads services k g q ik fg in (
-            sym a.header ∙ rw e b.header,
-            (
-              let z : Ok f ≡ Ok g = sym a.frame ∙ rw e b.frame in cc,
-              sym a.octets ∙ rw e b.octets,
-            ),
-          );
+          let b = reads services k g q ik fg in
+          let one = one_value (sym a.read ∙ rw e b.read) in
+          let there = ap (λ d. d.payload_place) one in
+          (ap (λ d. d.eth_header) one, (ap (λ d. d.frame) one, sym a.octets ∙ rw (e, there) b.octets));
     }
