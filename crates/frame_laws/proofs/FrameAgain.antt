@@ -1,7 +1,7 @@
 -- A frame that was read is written back, header and section, and under the table that it was read under.
 -- Assumes nothing.
 use Prim.Native.Nat.{ℕ, ◌+◌, ◌/◌, ◌%◌, ◌≤◌}
-use mathlib.Core.Path.{◌≡◌, refl, subst, ◌∙◌}
+use mathlib.Core.Path.{◌≡◌, refl, ◌∙◌}
 use mathlib.Core.List.{List}
 use native.Mathlib.Omega.{arith}
 use lib.Dec.{leb, ltb, eqb}
@@ -18,14 +18,15 @@ use Rattle.types.specs.declared.message_type.MessageType.{MessageType}
 use Rattle.frame.specs.Write.{frame_bytes}
 use Rattle.frame.specs.declared.PowerlinkFrame.{PowerlinkFrame}
 use Rattle.frame.specs.declared.PowerlinkFrame.TheVariants.{Soc, PReq, PRes, SoA, ASnd}
-use Rattle.codec.specs.Frame.{kind_of, kind_answer, read_section, read_frame, place_in_frame, deserialized, deserialize_frame, payload_of}
+use Rattle.codec.specs.Frame.{kind_of, kind_answer, read_section, read_frame, place_in_frame, deserialize_frame, payload_of}
 use Rattle.codec.specs.declared.DeserializedFrame.{DeserializedFrame}
 use Rattle.frame_laws.specs.WriteBack.{Octets, Plain, payload_in}
 use Rattle.frame_laws.proofs.HeldUnder.{Held}
 use Rattle.frame_laws.proofs.Elements.{elements, elements_are, joined}
 use Rattle.frame_laws.proofs.Passed.{by_tests}
 use Rattle.frame_laws.proofs.SectionAgain.{section_again}
-use Rattle.frame_laws.proofs.Tests.{no_value, one_value, passed_by}
+use Rattle.frame_laws.proofs.Tests.{no_value, passed_by}
+use Rattle.frame_laws.proofs.Whole.{by_frame}
 
 -- octets from a place on
 pub octets_from : (s : List ℕ) → Octets s → (n : ℕ) → Octets (drop n s)
@@ -92,22 +93,11 @@ module _ (services bytes : List ℕ) (f : PowerlinkFrame) where
       f (section_read e).1
 
 module _ (services bytes : List ℕ) (d : DeserializedFrame) where
-  -- what holds of every frame that is read, with its header and its payload's place, holds of what is read
-  by_frame : (P : DeserializedFrame → Type 0)
-      → ((f : PowerlinkFrame) → read_frame services bytes ≡ Ok f
-      → P (record { eth_header = eth_header_of bytes; frame = f; payload_place = place_in_frame f (drop 14 bytes) })) → (r : Result PowerlinkFrame PowerlinkError)
-      → read_frame services bytes ≡ r → deserialized bytes r ≡ Ok d → P d
-  by_frame P read (Ok f) q e = subst P (one_value e) (read f q)
-  by_frame P read (Err x) q e = absurd (no_value e)
-
   pub frame_again : Octets bytes → deserialize_frame services bytes ≡ Ok d → Plain d.frame (drop 14 bytes)
       → frame_bytes d.eth_header d.frame (payload_of d.payload_place bytes) ≡ bytes
-  unfolding deserialize_frame
   frame_again o =
-      by_frame (λ x. Plain x.frame (drop 14 bytes) → frame_bytes x.eth_header x.frame (payload_of x.payload_place bytes) ≡ bytes)
+      by_frame services bytes d (λ x. Plain x.frame (drop 14 bytes) → frame_bytes x.eth_header x.frame (payload_of x.payload_place bytes) ≡ bytes)
       (λ f q. section_written services bytes f q o)
-      (read_frame services bytes) refl
 
   pub frame_held : deserialize_frame services bytes ≡ Ok d → Held services d.frame
-  unfolding deserialize_frame
-  frame_held = by_frame (λ x. Held services x.frame) (section_held services bytes) (read_frame services bytes) refl
+  frame_held = by_frame services bytes d (λ x. Held services x.frame) (section_held services bytes)

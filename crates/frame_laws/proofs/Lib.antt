@@ -24,4 +24,5 @@ pub mod StatusPassed
 pub mod Tests
 pub mod Trimmed
 pub mod Twelve
+pub mod Whole
 pub mod WriteBack

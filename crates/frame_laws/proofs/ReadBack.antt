@@ -6,6 +6,7 @@ use mathlib.Core.List.{List}
 use native.Mathlib.Omega.{arith}
 use lib.ListN.{length, replicate, length-append}
 use lib.Seq.{take_at}
+use Rattle.std.specs.Prelude.{Ok}
 use Rattle.types.specs.Header.{eth_bytes}
 use Rattle.types.specs.declared.basic.EthernetHeader.{EthernetHeader}
 use Rattle.section.specs.Write.{padded}
@@ -16,6 +17,7 @@ use Rattle.control.specs.declared.asnd.ASndFrame.{ASndFrame}
 use Rattle.frame.specs.Write.{frame_bytes}
 use Rattle.frame.specs.declared.PowerlinkFrame.{PowerlinkFrame}
 use Rattle.frame.specs.declared.PowerlinkFrame.TheVariants.{Soc, PReq, PRes, SoA, ASnd}
+use Rattle.codec.specs.Frame.{read_frame}
 use Rattle.frame_laws.specs.ReadBack.{ReadsAs, IsHeader, Faithful, FramesReadBack}
 use Rattle.frame_laws.specs.Sizes.{SizeReadsBack}
 use Rattle.frame_laws.proofs.ASndBack.{asnd_back, asnd_payload}
@@ -23,6 +25,7 @@ use Rattle.frame_laws.proofs.Sizes.{from_section, sizes_read_back}
 use Rattle.frame_laws.proofs.SoABack.{soa_back}
 use Rattle.frame_laws.proofs.SoCBack.{soc_back}
 use Rattle.frame_laws.proofs.Tests.{one_value}
+use Rattle.frame_laws.proofs.Whole.{frame_in_it}
 
 module _ (services : List ℕ) where
   -- a size that is the payload's length gives the payload
@@ -47,6 +50,11 @@ module _ (services : List ℕ) where
       own_size h (PRes f) _ p (sizes_read_back.pres services h f p is q.0 q.1.0 (omega arith)) q.1.1.0
   reads h (SoA f) p is q = from_section services h (SoA f) p (soa_section f) is refl (omega arith) p (soa_back services f) (sym q)
   reads h (ASnd f) p is q = asnd_reads h f p is q
+
+-- what is read as a frame is that frame
+pub frame_read : {services bytes : List ℕ} {h : EthernetHeader} {f : PowerlinkFrame} {p : List ℕ} → ReadsAs services bytes h f p
+    → read_frame services bytes ≡ Ok f
+frame_read {services} {bytes} r = frame_in_it services bytes _ r.read
 
 pub frames_read_back : FramesReadBack
 frames_read_back =
