@@ -5,27 +5,20 @@ use lib.ListN.{get_or}
 use Rattle.std.specs.Prelude.{Result, Ok, Err}
 use Rattle.types.specs.Causes.{Cause, cause_of}
 use Rattle.types.specs.Messages.{message_of}
-use Rattle.types.specs.declared.hal.PowerlinkError.TheVariants.{InvalidMessageType}
 use Rattle.types.proofs.Apart.{apart}
 use Rattle.types.proofs.CausesTell.{error_told_lem, error_of, refused_not_0, refused_or, refused_back}
 use Rattle.types.proofs.ReadBack.{message_known}
 use Rattle.codec.specs.CausesTell.{CausesTell}
-use Rattle.codec.specs.Headers.{eth_header_cause, pl_header_cause}
-use Rattle.codec.specs.declared.headers.EthHeaderAnswer.{EthHeaderAnswer}
-use Rattle.codec.specs.declared.headers.EthHeaderAnswer.TheVariants as eth
+use Rattle.codec.specs.Headers.{pl_header_cause}
 use Rattle.types.specs.declared.message_type.MessageType.{MessageType}
 use Rattle.types.specs.declared.hal.PowerlinkError.{PowerlinkError}
 use Rattle.codec.specs.declared.headers.PlHeader.{PlHeader}
-
-eth_back : (a : EthHeaderAnswer) → refused_or eth.Refused eth.Read (eth_header_cause a) ≡ a
-eth_back eth.Read = refl
-eth_back (eth.Refused e) = refused_back eth.Refused _ e
 
 -- the header that three values are
 abbrev pub pl_of : Cause → Result MessageType PowerlinkError → Result PlHeader PowerlinkError
 pl_of c (Ok m) =
     Ok (record { message_type = m; destination = record { 0 = get_or c.returned 1 0 }; source = record { 0 = get_or c.returned 2 0 } })
-pl_of c (Err (InvalidMessageType b)) = Err (InvalidMessageType b)
+pl_of c (Err e) = Err e
 
 pl_back : Cause → Result PlHeader PowerlinkError
 unfolding message_of
@@ -43,9 +36,10 @@ causes_tell =
       no_frame = λ e. refl;
       frames_apart = apart cause_of error_of (λ e. error_told_lem e 0);
       frame_or_not = λ f e. refused_not_0 e _;
-      eth_header = refl;
+      eth_header = λ h. refl;
       no_eth_header = λ e. refl;
-      eth_headers_apart = apart eth_header_cause (refused_or eth.Refused eth.Read) eth_back;
+      eth_headers_apart = apart cause_of error_of (λ e. error_told_lem e 0);
+      eth_header_or_not = λ h e. refused_not_0 e _;
       pl_header = λ h. refl;
       no_pl_header = λ e. refl;
       pl_headers_apart = apart pl_header_cause pl_back pl_back_lem;

@@ -26,9 +26,9 @@ module _ (s : List ℕ) where
   pl_short k = rw (lt-leb 3 (length s) k)
 
   module _ (long : 3 ≤ length s) (a : Result MessageType PowerlinkError) (ea : a ≡ message_of (get_or s 0 0 % 0x80)) where
-    pub pl_unknown : (b : ℕ) → a ≡ Err (InvalidMessageType b) → Err (InvalidMessageType b) ≡ deserialize_pl_header s
+    pub pl_unknown : (e : PowerlinkError) → a ≡ Err e → Err e ≡ deserialize_pl_header s
     unfolding deserialize_pl_header
-    pl_unknown b g = rw (le-leb 3 (length s) long, sym ea ∙ g)
+    pl_unknown e g = rw (le-leb 3 (length s) long, sym ea ∙ g)
 
     pub pl_read : (message : MessageType) → a ≡ Ok message
         → Ok (record { message_type = message; destination = record { 0 = get_or s 1 0 }; source = record { 0 = get_or s 2 0 } }) ≡ deserialize_pl_header s

@@ -11,7 +11,7 @@ use borrow.Author.Tests.{le-leb, lt-leb, eq-eqb, ne_eqb}
 use Rattle.std.specs.Prelude.{Result, Ok, Err}
 use Rattle.octets.specs.Numbers.{le_at}
 use Rattle.types.specs.States.{state_of}
-use Rattle.types.specs.declared.hal.PowerlinkError.TheVariants.{BufferTooShort, InvalidPlFrame, InvalidNmtState}
+use Rattle.types.specs.declared.hal.PowerlinkError.TheVariants.{BufferTooShort, InvalidPlFrame}
 use Rattle.types.specs.declared.states.NmtState.{NmtState}
 use Rattle.codec.specs.PRes.{pres_of, read_pres}
 use Rattle.frame.specs.declared.PowerlinkFrame.TheVariants.{PRes}
@@ -28,9 +28,9 @@ module _ (s : List ℕ) where
     pres_not_to_all k = rw (le-leb 10 (length s) long, ne_eqb (get_or s 1 0) 255 k)
 
     module _ (to : get_or s 1 0 ≡ 255) (a : Result NmtState PowerlinkError) (ea : a ≡ state_of (get_or s 3 0)) where
-      pub pres_no_state : (b : ℕ) → a ≡ Err (InvalidNmtState b) → Err (InvalidNmtState b) ≡ read_pres s
+      pub pres_no_state : (e : PowerlinkError) → a ≡ Err e → Err e ≡ read_pres s
       unfolding read_pres
-      pres_no_state b g = rw (le-leb 10 (length s) long, eq-eqb (get_or s 1 0) 255 to, sym ea ∙ g)
+      pres_no_state e g = rw (le-leb 10 (length s) long, eq-eqb (get_or s 1 0) 255 to, sym ea ∙ g)
 
       module _ (state : NmtState) (es : a ≡ Ok state) where
         pub pres_cut : leb (le_at 2 8 s) (length s - 10) ≡ false → Err BufferTooShort ≡ read_pres s

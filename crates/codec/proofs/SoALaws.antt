@@ -9,7 +9,7 @@ use borrow.Author.Tests.{le-leb, lt-leb}
 use Rattle.std.specs.Prelude.{Result, Ok, Err}
 use Rattle.types.specs.RequestedServices.{requested_of}
 use Rattle.types.specs.States.{state_of}
-use Rattle.types.specs.declared.hal.PowerlinkError.TheVariants.{BufferTooShort, InvalidNmtState, InvalidRequestedServiceId}
+use Rattle.types.specs.declared.hal.PowerlinkError.TheVariants.{BufferTooShort}
 use Rattle.types.specs.declared.requested_service.RequestedServiceId.{RequestedServiceId}
 use Rattle.types.specs.declared.states.NmtState.{NmtState}
 use Rattle.codec.specs.SoA.{soa_of, read_soa}
@@ -22,14 +22,14 @@ module _ (s : List ℕ) where
   soa_short k = rw (lt-leb 9 (length s) k)
 
   module _ (long : 9 ≤ length s) (a : Result NmtState PowerlinkError) (ea : a ≡ state_of (get_or s 3 0)) where
-    pub soa_no_state : (b : ℕ) → a ≡ Err (InvalidNmtState b) → Err (InvalidNmtState b) ≡ read_soa s
+    pub soa_no_state : (e : PowerlinkError) → a ≡ Err e → Err e ≡ read_soa s
     unfolding read_soa
-    soa_no_state b g = rw (le-leb 9 (length s) long, sym ea ∙ g)
+    soa_no_state e g = rw (le-leb 9 (length s) long, sym ea ∙ g)
 
     module _ (st : NmtState) (es : a ≡ Ok st) (q : Result RequestedServiceId PowerlinkError) (eq : q ≡ requested_of (get_or s 6 0)) where
-      pub soa_no_service : (b : ℕ) → q ≡ Err (InvalidRequestedServiceId b) → Err (InvalidRequestedServiceId b) ≡ read_soa s
+      pub soa_no_service : (e : PowerlinkError) → q ≡ Err e → Err e ≡ read_soa s
       unfolding read_soa
-      soa_no_service b g = rw (le-leb 9 (length s) long, sym ea ∙ es, sym eq ∙ g)
+      soa_no_service e g = rw (le-leb 9 (length s) long, sym ea ∙ es, sym eq ∙ g)
 
       pub soa_read : (service : RequestedServiceId) → q ≡ Ok service → Ok (SoA (soa_of s st service)) ≡ read_soa s
       unfolding read_soa

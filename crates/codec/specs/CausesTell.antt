@@ -3,12 +3,11 @@
 use Rattle.std.specs.Prelude.{◌≡◌, [], ◌∷◌, Result, Ok, Err}
 use Rattle.types.specs.Causes.{row, cause_of}
 use Rattle.types.specs.Messages.{message_code}
+use Rattle.types.specs.declared.basic.EthernetHeader.{EthernetHeader}
 use Rattle.types.specs.declared.hal.PowerlinkError.{PowerlinkError}
 use Rattle.frame.specs.declared.PowerlinkFrame.{PowerlinkFrame}
 use Rattle.codec.specs.Frame.{frame_cause}
 use Rattle.codec.specs.Headers.{eth_header_cause, pl_header_cause}
-use Rattle.codec.specs.declared.headers.EthHeaderAnswer.{EthHeaderAnswer}
-use Rattle.codec.specs.declared.headers.EthHeaderAnswer.TheVariants as eth
 use Rattle.codec.specs.declared.headers.PlHeader.{PlHeader}
 
 pub record CausesTell : Type 0 where
@@ -17,9 +16,11 @@ pub record CausesTell : Type 0 where
   pub no_frame : (e : PowerlinkError) → frame_cause (Err e) ≡ cause_of e
   pub frames_apart : (d e : PowerlinkError) → frame_cause (Err d) ≡ frame_cause (Err e) → d ≡ e
   pub frame_or_not : (f : PowerlinkFrame) (e : PowerlinkError) → frame_cause (Ok f) ≡ frame_cause (Err e) → ⊥
-  pub eth_header : eth_header_cause eth.Read ≡ row 0 []
-  pub no_eth_header : (e : PowerlinkError) → eth_header_cause (eth.Refused e) ≡ cause_of e
-  pub eth_headers_apart : (a b : EthHeaderAnswer) → eth_header_cause a ≡ eth_header_cause b → a ≡ b
+  -- and so are those of an Ethernet header
+  pub eth_header : (h : EthernetHeader) → eth_header_cause (Ok h) ≡ row 0 []
+  pub no_eth_header : (e : PowerlinkError) → eth_header_cause (Err e) ≡ cause_of e
+  pub eth_headers_apart : (d e : PowerlinkError) → eth_header_cause (Err d) ≡ eth_header_cause (Err e) → d ≡ e
+  pub eth_header_or_not : (h : EthernetHeader) (e : PowerlinkError) → eth_header_cause (Ok h) ≡ eth_header_cause (Err e) → ⊥
   pub pl_header : (h : PlHeader)
       → pl_header_cause (Ok h) ≡ row 0 (message_code h.message_type ∷ h.destination.0 ∷ h.source.0 ∷ [])
   pub no_pl_header : (e : PowerlinkError) → pl_header_cause (Err e) ≡ cause_of e

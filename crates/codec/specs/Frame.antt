@@ -7,7 +7,7 @@ use Rattle.types.specs.Codes.{need}
 use Rattle.types.specs.Header.{eth_length, eth_header_of, ethertype_epl}
 use Rattle.types.specs.Messages.{message_of}
 use Rattle.types.specs.declared.hal.PowerlinkError.{PowerlinkError}
-use Rattle.types.specs.declared.hal.PowerlinkError.TheVariants.{BufferTooShort, InvalidEthernetFrame, InvalidPlFrame, InvalidMessageType}
+use Rattle.types.specs.declared.hal.PowerlinkError.TheVariants.{BufferTooShort, InvalidEthernetFrame, InvalidPlFrame}
 use Rattle.types.specs.declared.message_type.MessageType.{MessageType}
 use Rattle.types.specs.declared.message_type.MessageType.TheVariants as message
 use Rattle.control.specs.ASnd.{asnd_payload_at}
@@ -25,13 +25,9 @@ use Rattle.frame.specs.declared.PowerlinkFrame.TheVariants.{Soc, PReq, PRes, SoA
 
 -- ---- the tests of a frame before those of its kind
 
-abbrev pub kind_by : Result MessageType PowerlinkError → Result MessageType PowerlinkError
-kind_by (Err (InvalidMessageType b)) = Err (InvalidMessageType b)
-kind_by (Ok k) = Ok k
-
 -- the message type is tested before any length that a kind needs
 unfoldable pub kind_in : List ℕ → Result MessageType PowerlinkError
-kind_in s = kind_by (message_of (message_number s))
+kind_in s = message_of (message_number s)
 
 -- the Ethernet header, then the EtherType, then a section that is not empty, then its message type
 unfoldable pub kind_of : List ℕ → Result MessageType PowerlinkError
@@ -80,14 +76,18 @@ abbrev pub place_of : Result PowerlinkFrame PowerlinkError → List ℕ → Payl
 place_of (Err e) s = place 0 0
 place_of (Ok f) s = place_in_frame f s
 
--- beside a refusal stands the header that the octets give, those past the end counting as 0, and no payload
-unfoldable pub deserialize_frame : List ℕ → List ℕ → DeserializedFrame
-deserialize_frame services f =
-    record {
-      eth_header = eth_header_of f;
-      answer = read_frame services f;
-      payload_place = place_of (read_frame services f) (drop eth_length f);
-    }
+-- a frame that is read, with its Ethernet header and its payload's place
+abbrev pub deserialized : List ℕ → Result PowerlinkFrame PowerlinkError → Result DeserializedFrame PowerlinkError
+deserialized f (Ok x) = Ok (record { eth_header = eth_header_of f; frame = x; payload_place = place_in_frame x (drop eth_length f) })
+deserialized f (Err e) = Err e
+
+unfoldable pub deserialize_frame : List ℕ → List ℕ → Result DeserializedFrame PowerlinkError
+deserialize_frame services f = deserialized f (read_frame services f)
+
+-- the frame of what was read
+abbrev pub frame_in : Result DeserializedFrame PowerlinkError → Result PowerlinkFrame PowerlinkError
+frame_in (Ok d) = Ok d.frame
+frame_in (Err e) = Err e
 
 -- the octets at a place; what would lie past the end is left out
 abbrev pub payload_of : PayloadPlace → List ℕ → List ℕ
@@ -105,6 +105,6 @@ pub record ReadsFrame (services f : List ℕ) (r : Result PowerlinkFrame Powerli
   pub refused : (e : PowerlinkError) → read_frame services f ≡ Err e → frame_cause r ≡ cause_of e
 
 -- the same, with the Ethernet header and the payload's place
-pub record Reads (services f : List ℕ) (r : DeserializedFrame) : Type 0 where
+pub record Reads (services f : List ℕ) (r : Result DeserializedFrame PowerlinkError) : Type 0 where
   pub read : r ≡ deserialize_frame services f
-  pub frame : ReadsFrame services f r.answer
+  pub frame : ReadsFrame services f (frame_in r)

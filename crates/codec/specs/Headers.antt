@@ -6,33 +6,27 @@ use Rattle.types.specs.Causes.{Cause, row, cause_of}
 use Rattle.types.specs.Codes.{need, decoded}
 use Rattle.types.specs.Header.{eth_length, eth_header_of}
 use Rattle.types.specs.Messages.{message_code, messages, message_of}
-use Rattle.types.specs.declared.hal.PowerlinkError.TheVariants.{BufferTooShort, InvalidMessageType}
-use Rattle.codec.specs.declared.headers.DeserializedEthHeader.{DeserializedEthHeader}
-use Rattle.codec.specs.declared.headers.EthHeaderAnswer.{EthHeaderAnswer}
-use Rattle.codec.specs.declared.headers.EthHeaderAnswer.TheVariants as eth
+use Rattle.types.specs.declared.basic.EthernetHeader.{EthernetHeader}
+use Rattle.types.specs.declared.hal.PowerlinkError.TheVariants.{BufferTooShort}
 use Rattle.types.specs.declared.message_type.MessageType.{MessageType}
 use Rattle.types.specs.declared.hal.PowerlinkError.{PowerlinkError}
 use Rattle.codec.specs.declared.headers.PlHeader.{PlHeader}
 
--- all octets are needed; beside a refusal stands the header that the octets give, those past the end counting as 0
-abbrev pub deserialize_eth_header : List ℕ → DeserializedEthHeader
-deserialize_eth_header f =
-    record {
-      eth_header = eth_header_of f;
-      answer = need (leb eth_length (length f)) (eth.Refused BufferTooShort) eth.Read;
-    }
+-- all octets are needed
+abbrev pub deserialize_eth_header : List ℕ → Result EthernetHeader PowerlinkError
+deserialize_eth_header f = need (leb eth_length (length f)) (Err BufferTooShort) (Ok (eth_header_of f))
 
--- 01's number and values for each case; the Ethernet header stands beside its answer
-abbrev pub eth_header_cause : EthHeaderAnswer → Cause
-eth_header_cause eth.Read = row 0 []
-eth_header_cause (eth.Refused e) = cause_of e
+-- 01's number and values for each case; the fields of an Ethernet header are its values
+abbrev pub eth_header_cause : Result EthernetHeader PowerlinkError → Cause
+eth_header_cause (Ok h) = row 0 []
+eth_header_cause (Err e) = cause_of e
 
 abbrev pub pl_header_cause : Result PlHeader PowerlinkError → Cause
 pl_header_cause (Ok h) = row 0 (message_code h.message_type ∷ h.destination.0 ∷ h.source.0 ∷ [])
 pl_header_cause (Err e) = cause_of e
 
 abbrev pub pl_by_message : List ℕ → Result MessageType PowerlinkError → Result PlHeader PowerlinkError
-pl_by_message s (Err (InvalidMessageType b)) = Err (InvalidMessageType b)
+pl_by_message s (Err e) = Err e
 pl_by_message s (Ok message) =
     Ok (record { message_type = message; destination = record { 0 = get_or s 1 0 }; source = record { 0 = get_or s 2 0 } })
 
@@ -46,9 +40,9 @@ deserialize_pl_header s = need (leb 3 (length s)) (Err BufferTooShort) (pl_by_me
 
 -- ---- what the two readings promise, with 01's number and values
 
-pub record ReadsEthHeader (f : List ℕ) (r : DeserializedEthHeader) : Type 0 where
+pub record ReadsEthHeader (f : List ℕ) (r : Result EthernetHeader PowerlinkError) : Type 0 where
   pub read : r ≡ deserialize_eth_header f
-  pub cause : eth_header_cause r.answer ≡ need (leb eth_length (length f)) (row too_short []) (row 0 [])
+  pub cause : eth_header_cause r ≡ need (leb eth_length (length f)) (row too_short []) (row 0 [])
 
 -- the row of a code in octet 0: that of the octets which are read, or of the code that names nothing
 abbrev pub pl_row : ℕ → ℕ → ℕ → Cause

@@ -6,7 +6,7 @@ use Rattle.types.specs.Codes.{need}
 use Rattle.types.specs.Nodes.{broadcast_node}
 use Rattle.types.specs.PollFlags.{priority_at, requests_at}
 use Rattle.types.specs.States.{state_of}
-use Rattle.types.specs.declared.hal.PowerlinkError.TheVariants.{BufferTooShort, InvalidPlFrame, InvalidNmtState}
+use Rattle.types.specs.declared.hal.PowerlinkError.TheVariants.{BufferTooShort, InvalidPlFrame}
 use Rattle.types.specs.declared.states.NmtState.{NmtState}
 use Rattle.poll.specs.Poll.{poll_fields_length, ms_bit, rd_bit}
 use Rattle.poll.specs.PRes.{en_bit}
@@ -40,7 +40,7 @@ pres_of s state size =
     }
 
 abbrev pub pres_by_state : List ℕ → Result NmtState PowerlinkError → Result PowerlinkFrame PowerlinkError
-pres_by_state s (Err (InvalidNmtState b)) = Err (InvalidNmtState b)
+pres_by_state s (Err e) = Err e
 pres_by_state s (Ok state) =
     need (leb (le_at 2 8 s) (length s - poll_fields_length)) (Err BufferTooShort)
     (Ok (PRes (pres_of s state (le_at 2 8 s))))

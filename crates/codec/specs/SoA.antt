@@ -5,7 +5,7 @@ use Rattle.octets.specs.Numbers.{bit}
 use Rattle.types.specs.Codes.{need}
 use Rattle.types.specs.RequestedServices.{requested_of}
 use Rattle.types.specs.States.{state_of}
-use Rattle.types.specs.declared.hal.PowerlinkError.TheVariants.{BufferTooShort, InvalidNmtState, InvalidRequestedServiceId}
+use Rattle.types.specs.declared.hal.PowerlinkError.TheVariants.{BufferTooShort}
 use Rattle.types.specs.declared.requested_service.RequestedServiceId.{RequestedServiceId}
 use Rattle.types.specs.declared.states.NmtState.{NmtState}
 use Rattle.control.specs.SoA.{ea_bit, er_bit, soa_fields_length}
@@ -28,11 +28,11 @@ soa_of s state service =
     }
 
 abbrev pub soa_by_service : List ℕ → NmtState → Result RequestedServiceId PowerlinkError → Result PowerlinkFrame PowerlinkError
-soa_by_service s state (Err (InvalidRequestedServiceId b)) = Err (InvalidRequestedServiceId b)
+soa_by_service s state (Err e) = Err e
 soa_by_service s state (Ok service) = Ok (SoA (soa_of s state service))
 
 abbrev pub soa_by_state : List ℕ → Result NmtState PowerlinkError → Result PowerlinkFrame PowerlinkError
-soa_by_state s (Err (InvalidNmtState b)) = Err (InvalidNmtState b)
+soa_by_state s (Err e) = Err e
 soa_by_state s (Ok st) = soa_by_service s st (requested_of (get_or s 6 0))
 
 -- the octets of the fields are needed; the state is tested before the service

@@ -12,36 +12,26 @@ use services::table::{Services, contains};
 use types::NodeId;
 use types::hal::PowerlinkError;
 
-// What the tests of a section come to: it is read, or why it is refused.
-#[derive(Clone, Copy, Debug, PartialEq, Eq)]
-pub enum ASndVerdict {
-    Read,
-    TooShort,
-    NoService(u8),
-}
-
-pub fn judge(services: &Services, s: &[u8]) -> ASndVerdict
+// The tests of a section: that it is read, or why it is refused.
+pub fn judge(services: &Services, s: &[u8]) -> Result<(), PowerlinkError>
     ensures { asnd_answer result s.now ≡ read_asnd services.now s.now }
 {
     if s.len() < FIELDS_LEN {
-        return ASndVerdict::TooShort;
+        return Err(PowerlinkError::BufferTooShort);
     }
     let service = s[SERVICE_AT];
     if !contains(services, service) {
-        return ASndVerdict::NoService(service);
+        return Err(PowerlinkError::InvalidServiceId(service));
     }
-    ASndVerdict::Read
+    Ok(())
 }
 
 // The frame, or why it is refused.
 pub(crate) fn deserialize(services: &Services, s: &[u8]) -> Result<PowerlinkFrame, PowerlinkError>
     ensures { result ≡ read_asnd services.now s.now }
 {
-    match judge(services, s) {
-        ASndVerdict::Read => Ok(PowerlinkFrame::ASnd(fields(s))),
-        ASndVerdict::TooShort => Err(PowerlinkError::BufferTooShort),
-        ASndVerdict::NoService(b) => Err(PowerlinkError::InvalidServiceId(b)),
-    }
+    judge(services, s)?;
+    Ok(PowerlinkFrame::ASnd(fields(s)))
 }
 
 // The fields of a section; octets past its end count as 0.

@@ -1,6 +1,6 @@
 // The two headers that every frame begins with (powerlink-rs: CodecHelpers).
-ghost use Rattle.std.specs.Prelude.{◌≡◌, ◌≤◌, length};
-ghost use Rattle.types.specs.Header.{eth_length, eth_header_of, mac_of};
+ghost use Rattle.std.specs.Prelude.{◌≡◌};
+ghost use Rattle.types.specs.Header.{eth_header_of, mac_of};
 ghost use Rattle.codec.specs.Headers.{ReadsEthHeader, ReadsPlHeader};
 
 use octets::big_endian::get_u16_be;
@@ -12,19 +12,6 @@ use types::message_type::MessageType;
 
 // The message type is the low seven bits of octet 0, which is the octet modulo this.
 pub(crate) const MESSAGE_TYPES: u8 = 0x80;
-
-#[derive(Clone, Copy, Debug, PartialEq, Eq)]
-pub enum EthHeaderAnswer {
-    Read,
-    Refused(PowerlinkError),
-}
-
-// The header stands beside the answer; where it is refused, octets past the end count as 0.
-#[derive(Clone, Copy, Debug, PartialEq, Eq)]
-pub struct DeserializedEthHeader {
-    pub eth_header: EthernetHeader,
-    pub answer: EthHeaderAnswer,
-}
 
 // The octets that every section begins with.
 #[derive(Clone, Copy, Debug, PartialEq, Eq)]
@@ -49,7 +36,7 @@ fn mac_at(s: &[u8]) -> MacAddress
 }
 
 // The header that the first octets are, those past the end counting as 0.
-pub(crate) fn eth_header_at(buffer: &[u8]) -> EthernetHeader
+pub fn eth_header_at(buffer: &[u8]) -> EthernetHeader
     ensures { result ≡ eth_header_of buffer.now }
 {
     EthernetHeader {
@@ -59,40 +46,14 @@ pub(crate) fn eth_header_at(buffer: &[u8]) -> EthernetHeader
     }
 }
 
-// The same of a buffer that has all of them: none of them is tested by itself.
-pub(crate) fn whole_header(buffer: &[u8]) -> EthernetHeader
-    requires { eth_length ≤ length buffer.now }
-    ensures { result ≡ eth_header_of buffer.now }
-{
-    let destination = [
-        buffer[0], buffer[1], buffer[2], buffer[3], buffer[4], buffer[5],
-    ];
-    let source = [
-        buffer[6], buffer[7], buffer[8], buffer[9], buffer[10], buffer[11],
-    ];
-    let ether_type = get_u16_be(buffer, 12);
-    EthernetHeader {
-        destination_mac: MacAddress(destination),
-        source_mac: MacAddress(source),
-        ether_type,
-    }
-}
-
 // Reads the Ethernet header in front of a frame, whatever its EtherType.
-pub fn deserialize_eth_header(buffer: &[u8]) -> DeserializedEthHeader
+pub fn deserialize_eth_header(buffer: &[u8]) -> Result<EthernetHeader, PowerlinkError>
     ensures { ReadsEthHeader buffer.now result }
 {
-    let eth_header = eth_header_at(buffer);
     if buffer.len() < ETH_LEN {
-        return DeserializedEthHeader {
-            eth_header,
-            answer: EthHeaderAnswer::Refused(PowerlinkError::BufferTooShort),
-        };
+        return Err(PowerlinkError::BufferTooShort);
     }
-    DeserializedEthHeader {
-        eth_header,
-        answer: EthHeaderAnswer::Read,
-    }
+    Ok(eth_header_at(buffer))
 }
 
 // Reads what every section begins with.
@@ -102,14 +63,10 @@ pub fn deserialize_pl_header(s: &[u8]) -> Result<PlHeader, PowerlinkError>
     if s.len() < 3 {
         return Err(PowerlinkError::BufferTooShort);
     }
-    match MessageType::try_from(s[0] % MESSAGE_TYPES) {
-        Err(PowerlinkError::InvalidMessageType(b)) => Err(PowerlinkError::InvalidMessageType(
-            b,
-        )),
-        Ok(message_type) => Ok(PlHeader {
-            message_type,
-            destination: NodeId(s[1]),
-            source: NodeId(s[2]),
-        }),
-    }
+    let message_type = MessageType::try_from(s[0] % MESSAGE_TYPES)?;
+    Ok(PlHeader {
+        message_type,
+        destination: NodeId(s[1]),
+        source: NodeId(s[2]),
+    })
 }

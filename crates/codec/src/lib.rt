@@ -4,7 +4,7 @@
 
 ghost use Rattle.std.specs.Prelude.{◌≡◌};
 ghost use Rattle.octets.specs.Part.{Part};
-ghost use Rattle.codec.specs.Frame.{kind_in, kind_of, by_kind, place_in_frame, place_of, payload_of, Reads, ReadsFrame};
+ghost use Rattle.codec.specs.Frame.{kind_in, kind_of, by_kind, place_in_frame, payload_of, Reads, ReadsFrame};
 
 pub mod asnd;
 pub mod headers;
@@ -14,7 +14,7 @@ pub mod soa;
 pub mod soc;
 
 use frame::PowerlinkFrame;
-use headers::{MESSAGE_TYPES, eth_header_at, whole_header};
+use headers::{MESSAGE_TYPES, eth_header_at};
 use octets::big_endian::get_u16_be;
 use octets::slices::{byte_at, front, tail};
 use services::table::Services;
@@ -30,12 +30,11 @@ pub struct PayloadPlace {
     pub len: usize,
 }
 
-// What reading a frame gives. Arrays cannot stand in an answer, so the header stands beside it; where the frame is refused,
-// it is what the bytes give, those past the end counting as 0.
+// What reading a frame gives.
 #[derive(Clone, Copy, Debug, PartialEq, Eq)]
 pub struct DeserializedFrame {
     pub eth_header: EthernetHeader,
-    pub answer: Result<PowerlinkFrame, PowerlinkError>,
+    pub frame: PowerlinkFrame,
     pub payload_place: PayloadPlace,
 }
 
@@ -50,23 +49,18 @@ impl DeserializedFrame {
 }
 
 // Reads a frame, from its Ethernet header on; an ASnd is read where the table holds its service.
-pub fn deserialize_frame(services: &Services, buffer: &[u8]) -> DeserializedFrame
+pub fn deserialize_frame(
+    services: &Services,
+    buffer: &[u8],
+) -> Result<DeserializedFrame, PowerlinkError>
     ensures { Reads services.now buffer.now result }
 {
-    if ETH_LEN <= buffer.len() {
-        let answer = read_frame(services, buffer);
-        let payload_place = place_of(answer, tail(buffer, ETH_LEN));
-        return DeserializedFrame {
-            eth_header: whole_header(buffer),
-            answer,
-            payload_place,
-        };
-    }
-    DeserializedFrame {
+    let frame = read_frame(services, buffer)?;
+    Ok(DeserializedFrame {
         eth_header: eth_header_at(buffer),
-        answer: Err(PowerlinkError::BufferTooShort),
-        payload_place: PayloadPlace { start: 0, len: 0 },
-    }
+        frame,
+        payload_place: payload_place(frame, tail(buffer, ETH_LEN)),
+    })
 }
 
 // The payload of a frame that was read from `buffer`, as that part of it: empty for SoC, SoA and a refusal. A place that does not
@@ -83,10 +77,8 @@ pub fn payload(place: PayloadPlace, buffer: &[u8]) -> &[u8]
 pub fn read_frame(services: &Services, buffer: &[u8]) -> Result<PowerlinkFrame, PowerlinkError>
     ensures { ReadsFrame services.now buffer.now result }
 {
-    match kind_of(buffer) {
-        Err(e) => Err(e),
-        Ok(kind) => read_kind(services, kind, tail(buffer, ETH_LEN)),
-    }
+    let kind = kind_of(buffer)?;
+    read_kind(services, kind, tail(buffer, ETH_LEN))
 }
 
 // The tests of a frame before those of its kind. What a caller does for each kind then is its own.
@@ -127,7 +119,11 @@ fn kind_in(s: &[u8]) -> Result<MessageType, PowerlinkError>
 }
 
 // The section `s` of a frame of a kind.
-fn read_kind(services: &Services, kind: MessageType, s: &[u8]) -> Result<PowerlinkFrame, PowerlinkError>
+fn read_kind(
+    services: &Services,
+    kind: MessageType,
+    s: &[u8],
+) -> Result<PowerlinkFrame, PowerlinkError>
     ensures { result ≡ by_kind services.now kind s.now }
 {
     match kind {
@@ -136,16 +132,6 @@ fn read_kind(services: &Services, kind: MessageType, s: &[u8]) -> Result<Powerli
         MessageType::PRes => pres::deserialize(s),
         MessageType::SoA => soa::deserialize(s),
         MessageType::ASnd => asnd::deserialize(services, s),
-    }
-}
-
-// The payload's place in what was read from the section `s`.
-fn place_of(answer: Result<PowerlinkFrame, PowerlinkError>, s: &[u8]) -> PayloadPlace
-    ensures { result ≡ place_of answer s.now }
-{
-    match answer {
-        Err(_) => PayloadPlace { start: 0, len: 0 },
-        Ok(frame) => payload_place(frame, s),
     }
 }
 

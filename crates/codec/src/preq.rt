@@ -12,35 +12,27 @@ use types::NodeId;
 use types::hal::PowerlinkError;
 use types::mapping::PDOVersion;
 
-// What the tests of a section come to: the codes and the size that its fields are read with, or why it is refused.
-#[derive(Clone, Copy, Debug, PartialEq, Eq)]
-pub enum PReqVerdict {
-    Read(u16),
-    TooShort,
-}
-
-pub fn judge(s: &[u8]) -> PReqVerdict
+// The tests of a section: the size that its fields are read with, or why it is refused.
+pub fn judge(s: &[u8]) -> Result<u16, PowerlinkError>
     ensures { preq_answer result s.now ≡ read_preq s.now }
 {
     if s.len() < FIELDS_LEN {
-        return PReqVerdict::TooShort;
+        return Err(PowerlinkError::BufferTooShort);
     }
     let size = get_u16_le(s, 8);
     let len = size as usize;
     if s.len() - FIELDS_LEN < len {
-        return PReqVerdict::TooShort;
+        return Err(PowerlinkError::BufferTooShort);
     }
-    PReqVerdict::Read(size)
+    Ok(size)
 }
 
 // The frame, or why it is refused.
 pub(crate) fn deserialize(s: &[u8]) -> Result<PowerlinkFrame, PowerlinkError>
     ensures { result ≡ read_preq s.now }
 {
-    match judge(s) {
-        PReqVerdict::Read(size) => Ok(PowerlinkFrame::PReq(fields(s, size))),
-        PReqVerdict::TooShort => Err(PowerlinkError::BufferTooShort),
-    }
+    let size = judge(s)?;
+    Ok(PowerlinkFrame::PReq(fields(s, size)))
 }
 
 // The fields of a section; octets past its end count as 0.

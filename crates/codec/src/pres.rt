@@ -14,49 +14,31 @@ use types::poll_flags::{priority_at, requests_at};
 use types::states::NmtState;
 use types::{C_ADR_BROADCAST_NODE_ID, NodeId};
 
-// What the tests of a section come to: the codes and the size that its fields are read with, or why it is refused.
-#[derive(Clone, Copy, Debug, PartialEq, Eq)]
-pub enum PResVerdict {
-    Read(NmtState, u16),
-    TooShort,
-    NotToAll,
-    NoState(u8),
-}
-
-pub fn judge(s: &[u8]) -> PResVerdict
+// The tests of a section: the state and the size that its fields are read with, or why it is refused.
+pub fn judge(s: &[u8]) -> Result<(NmtState, u16), PowerlinkError>
     ensures { pres_answer result s.now ≡ read_pres s.now }
 {
     if s.len() < FIELDS_LEN {
-        return PResVerdict::TooShort;
+        return Err(PowerlinkError::BufferTooShort);
     }
     if s[1] != C_ADR_BROADCAST_NODE_ID {
-        return PResVerdict::NotToAll;
+        return Err(PowerlinkError::InvalidPlFrame);
     }
-    match NmtState::try_from(s[STATE_AT]) {
-        Err(PowerlinkError::InvalidNmtState(b)) => PResVerdict::NoState(b),
-        Ok(nmt_state) => {
-            let size = get_u16_le(s, 8);
-            let len = size as usize;
-            if s.len() - FIELDS_LEN < len {
-                return PResVerdict::TooShort;
-            }
-            PResVerdict::Read(nmt_state, size)
-        }
+    let nmt_state = NmtState::try_from(s[STATE_AT])?;
+    let size = get_u16_le(s, 8);
+    let len = size as usize;
+    if s.len() - FIELDS_LEN < len {
+        return Err(PowerlinkError::BufferTooShort);
     }
+    Ok((nmt_state, size))
 }
 
 // The frame, or why it is refused.
 pub(crate) fn deserialize(s: &[u8]) -> Result<PowerlinkFrame, PowerlinkError>
     ensures { result ≡ read_pres s.now }
 {
-    match judge(s) {
-        PResVerdict::Read(state, size) => {
-            Ok(PowerlinkFrame::PRes(fields(s, state, size)))
-        }
-        PResVerdict::TooShort => Err(PowerlinkError::BufferTooShort),
-        PResVerdict::NotToAll => Err(PowerlinkError::InvalidPlFrame),
-        PResVerdict::NoState(b) => Err(PowerlinkError::InvalidNmtState(b)),
-    }
+    let (nmt_state, size) = judge(s)?;
+    Ok(PowerlinkFrame::PRes(fields(s, nmt_state, size)))
 }
 
 // The fields of a section; octets past its end count as 0.

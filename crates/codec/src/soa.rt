@@ -11,44 +11,24 @@ use types::requested_service::RequestedServiceId;
 use types::states::NmtState;
 use types::{EPLVersion, NodeId};
 
-// What the tests of a section come to: the codes and the size that its fields are read with, or why it is refused.
-#[derive(Clone, Copy, Debug, PartialEq, Eq)]
-pub enum SoAVerdict {
-    Read(NmtState, RequestedServiceId),
-    TooShort,
-    NoState(u8),
-    NoService(u8),
-}
-
-pub fn judge(s: &[u8]) -> SoAVerdict
+// The tests of a section: the codes that its fields are read with, or why it is refused.
+pub fn judge(s: &[u8]) -> Result<(NmtState, RequestedServiceId), PowerlinkError>
     ensures { soa_answer result s.now ≡ read_soa s.now }
 {
     if s.len() < FIELDS_LEN {
-        return SoAVerdict::TooShort;
+        return Err(PowerlinkError::BufferTooShort);
     }
-    match NmtState::try_from(s[STATE_AT]) {
-        Err(PowerlinkError::InvalidNmtState(b)) => SoAVerdict::NoState(b),
-        Ok(state) => match RequestedServiceId::try_from(s[SERVICE_AT]) {
-            Err(PowerlinkError::InvalidRequestedServiceId(b)) => SoAVerdict::NoService(b),
-            Ok(service) => SoAVerdict::Read(state, service),
-        },
-    }
+    let nmt_state = NmtState::try_from(s[STATE_AT])?;
+    let req_service_id = RequestedServiceId::try_from(s[SERVICE_AT])?;
+    Ok((nmt_state, req_service_id))
 }
 
 // The frame, or why it is refused.
 pub(crate) fn deserialize(s: &[u8]) -> Result<PowerlinkFrame, PowerlinkError>
     ensures { result ≡ read_soa s.now }
 {
-    match judge(s) {
-        SoAVerdict::Read(state, service) => {
-            Ok(PowerlinkFrame::SoA(fields(s, state, service)))
-        }
-        SoAVerdict::TooShort => Err(PowerlinkError::BufferTooShort),
-        SoAVerdict::NoState(b) => Err(PowerlinkError::InvalidNmtState(b)),
-        SoAVerdict::NoService(b) => {
-            Err(PowerlinkError::InvalidRequestedServiceId(b))
-        }
-    }
+    let (nmt_state, req_service_id) = judge(s)?;
+    Ok(PowerlinkFrame::SoA(fields(s, nmt_state, req_service_id)))
 }
 
 // The fields of a section; octets past its end count as 0.

@@ -11,36 +11,27 @@ use types::NodeId;
 use types::common::{NetTime, RelativeTime};
 use types::hal::PowerlinkError;
 
-// What the tests of a section come to: its times, which are read where its length is known, or why it is refused.
-#[derive(Clone, Copy, Debug, PartialEq, Eq)]
-pub enum SocVerdict {
-    Read(NetTime, RelativeTime),
-    TooShort,
-}
-
-pub fn judge(s: &[u8]) -> SocVerdict
+// The tests of a section: its times, which are read where its length is known, or why it is refused.
+pub fn judge(s: &[u8]) -> Result<(NetTime, RelativeTime), PowerlinkError>
     ensures { soc_answer result s.now ≡ read_soc s.now }
 {
     if s.len() < FIELDS_LEN {
-        return SocVerdict::TooShort;
+        return Err(PowerlinkError::BufferTooShort);
     }
     let net_time = NetTime {
         seconds: get_u32_le(&s[6..10], 0),
         nanoseconds: get_u32_le(&s[10..14], 0),
     };
-    SocVerdict::Read(net_time, RelativeTime(get_u64_le(&s[14..22], 0)))
+    let relative_time = RelativeTime(get_u64_le(&s[14..22], 0));
+    Ok((net_time, relative_time))
 }
 
 // The frame, or why it is refused.
 pub(crate) fn deserialize(s: &[u8]) -> Result<PowerlinkFrame, PowerlinkError>
     ensures { result ≡ read_soc s.now }
 {
-    match judge(s) {
-        SocVerdict::Read(net_time, relative_time) => {
-            Ok(PowerlinkFrame::Soc(fields(s, net_time, relative_time)))
-        }
-        SocVerdict::TooShort => Err(PowerlinkError::BufferTooShort),
-    }
+    let (net_time, relative_time) = judge(s)?;
+    Ok(PowerlinkFrame::Soc(fields(s, net_time, relative_time)))
 }
 
 // The fields of a section; octets past its end count as 0.

@@ -30,46 +30,46 @@ impl PowerlinkFrame {
     pub fn into_soc(self) -> Result<SocFrame, PowerlinkFrame>
         ensures { result ≡ into_soc self }
     {
-        let PowerlinkFrame::Soc(f) = self else {
+        let PowerlinkFrame::Soc(soc) = self else {
             return Err(self);
         };
-        Ok(f)
+        Ok(soc)
     }
 
     pub fn into_preq(self) -> Result<PReqFrame, PowerlinkFrame>
         ensures { result ≡ into_preq self }
     {
-        let PowerlinkFrame::PReq(f) = self else {
+        let PowerlinkFrame::PReq(preq) = self else {
             return Err(self);
         };
-        Ok(f)
+        Ok(preq)
     }
 
     pub fn into_pres(self) -> Result<PResFrame, PowerlinkFrame>
         ensures { result ≡ into_pres self }
     {
-        let PowerlinkFrame::PRes(f) = self else {
+        let PowerlinkFrame::PRes(pres) = self else {
             return Err(self);
         };
-        Ok(f)
+        Ok(pres)
     }
 
     pub fn into_soa(self) -> Result<SoAFrame, PowerlinkFrame>
         ensures { result ≡ into_soa self }
     {
-        let PowerlinkFrame::SoA(f) = self else {
+        let PowerlinkFrame::SoA(soa) = self else {
             return Err(self);
         };
-        Ok(f)
+        Ok(soa)
     }
 
     pub fn into_asnd(self) -> Result<ASndFrame, PowerlinkFrame>
         ensures { result ≡ into_asnd self }
     {
-        let PowerlinkFrame::ASnd(f) = self else {
+        let PowerlinkFrame::ASnd(asnd) = self else {
             return Err(self);
         };
-        Ok(f)
+        Ok(asnd)
     }
 
     // Writes the section with its payload, if it fits and the table holds an ASnd's service. SoC and SoA have no payload: what

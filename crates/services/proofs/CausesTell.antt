@@ -13,13 +13,14 @@ use Rattle.services.specs.declared.load.LoadError.{LoadError}
 
 abbrev pub load_back : Cause → Result Unit LoadError
 load_back c =
-    pick (eqb c.number 0) (Ok tt) (pick (eqb c.number 20) (Err NotATable) (pick (eqb c.number 21) (Err NotAscending) (Err WithoutStatusResponse)))
+    pick (eqb c.number 0) (Ok tt)
+    (pick (eqb c.number 20) (Err NotATable) (pick (eqb c.number 21) (Err NotAscending) (Err WithoutStatusResponse)))
 
 pub load_back_lem : (a : Result Unit LoadError) → load_back (load_cause a) ≡ a
-load_back_lem (Ok _) = cc
-load_back_lem (Err NotATable) = cc
-load_back_lem (Err NotAscending) = cc
-load_back_lem (Err WithoutStatusResponse) = cc
+load_back_lem (Ok _) = refl
+load_back_lem (Err NotATable) = refl
+load_back_lem (Err NotAscending) = refl
+load_back_lem (Err WithoutStatusResponse) = refl
 
 pub causes_tell : CausesTell
 causes_tell =

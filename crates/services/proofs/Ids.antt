@@ -1,14 +1,14 @@
 -- Which numbers are among the IDs of a list, and which 01 lists, range by range.
 -- Assumes nothing.
-use Prim.Native.Nat.{ℕ, ◌+◌, ◌≤◌, ◌<◌}
+use Prim.Native.Nat.{ℕ, ◌≤◌, ◌<◌}
 use mathlib.Core.Bool.{Bool, true, false, not, ◌||◌, and-false}
 use mathlib.Core.Path.{◌≡◌, refl, sym, ◌∙◌}
 use mathlib.Core.List.{List, [], ◌∷◌}
 use native.Mathlib.Omega.{arith}
-use lib.Dec.{T, eqb, leb, ltb}
+use lib.Dec.{T, leb, ltb}
 use borrow.Author.Tests.{ne_eqb, ltb-true, ltb-false, lt-leb}
 use Rattle.types.specs.Codes.{pick}
-use Rattle.types.proofs.Codes.{every, at}
+use Rattle.types.proofs.Codes.{at}
 use Rattle.services.specs.Ids.{ds301_ids, is_in, within, is_listed}
 
 -- all of the IDs are below n
@@ -23,7 +23,7 @@ none_above b n (x ∷ ids) t h = split (ltb x n) refl (λ u. none_above b n ids 
   where
     split : (e : Bool) → ltb x n ≡ e → (T (below n ids) → is_in b ids ≡ false) → T (pick e (below n ids) false)
         → is_in b (x ∷ ids) ≡ false
-    split true q rest u = rw (ne_eqb b x (λ e. omega (arith, ltb-true x n q))) (rest u)
+    split true q rest u = rw (ne_eqb x b (λ e. omega (arith, ltb-true x n q))) (rest u)
     split false q rest u = absurd u
 
 -- r is whether 01 lists b
@@ -35,19 +35,6 @@ told true true t = refl
 told true false t = absurd t
 told false true t = absurd t
 told false false t = refl
-
--- a result that antt computes to be right over a range is right at each number of it
-pub ranged : (r : Bool) (n i b : ℕ) → T (every (tells r) n i) → i ≤ b → b < i + n → r ≡ is_listed b
-ranged r n i b t low high = told r (is_listed b) (at (tells r) n i b t low high)
-
--- the same, but for one number of the range
-abbrev pub tells_but : ℕ → Bool → ℕ → Bool
-tells_but x r b = pick (eqb b x) true (tells r b)
-
-pub ranged_but : (x : ℕ) (r : Bool) (n i b : ℕ) → T (every (tells_but x r) n i) → i ≤ b → b < i + n → (b ≡ x → ⊥)
-    → r ≡ is_listed b
-ranged_but x r n i b t low high other =
-    told r (is_listed b) (rw (ne_eqb b x other) at (at (tells_but x r) n i b t low high))
 
 -- a number behind a range is not in it
 past : (lo hi b : ℕ) → hi < b → within lo hi b ≡ false

@@ -1,11 +1,10 @@
 -- The answers of `load`, each from the tests that lead to it.
 -- Assumes nothing.
-use Prim.Native.Nat.{ℕ, ◌≤◌, ◌<◌}
+use Prim.Native.Nat.{ℕ, ◌<◌}
 use mathlib.Core.Bool.{Bool, true, false, not}
 use mathlib.Core.Path.{◌≡◌, refl, sym, ap, ◌∙◌}
-use mathlib.Core.List.{List, [], ◌∷◌, ◌++◌}
+use mathlib.Core.List.{List, [], ◌++◌}
 use native.Mathlib.Omega.{arith}
-use lib.Dec.{eqb}
 use lib.ListN.{length, replicate}
 use borrow.Author.Tests.{not-true, not-false, lt-leb, le-leb}
 use Rattle.std.specs.Prelude.{Result, Ok, Err}
@@ -22,54 +21,14 @@ use Rattle.services.specs.declared.load.LoadError.TheVariants.{NotATable, NotAsc
 use Rattle.services.proofs.Tables.{table_holds}
 use Rattle.services.specs.declared.load.LoadError.{LoadError}
 
--- ---- whether mark and version are right, from the results of the tests
-
-abbrev pls : List ℕ
-pls = 0x50 ∷ 0x4C ∷ 0x53 ∷ []
-
-module _ (f : List ℕ) where
-  pub short : length f < table_start → false ≡ is_table f
-  unfolding is_table
-  short h = rw (lt-leb table_start (length f) h)
-
-  module _ {t : Bool} (marks : t ≡ is_marked pls f) (long : table_start ≤ length f) where
-    pub unmarked : not t ≡ true → false ≡ is_table f
-    unfolding is_table
-    unmarked taken = let m : is_marked pls f ≡ false = sym marks ∙ not-true t taken in rw (le-leb table_start (length f) long, m)
-
-    pub versioned : not t ≡ false → {v : ℕ} → v ≡ le_at 2 3 f → eqb v 1 ≡ is_table f
-    unfolding is_table
-    versioned left e = let m : is_marked pls f ≡ true = sym marks ∙ not-false t left in rw (le-leb table_start (length f) long, m, e)
-
-pub ruleset tables = (unmarked, versioned)
-
--- ---- the answer to the IDs, from the results of the tests
-
-module _ (ids : List ℕ) {t : Bool} (sorted : t ≡ is_ascending ids) where
-  pub not_ascending_lem : not t ≡ true → (Err NotAscending) ≡ ids_answer ids
-  unfolding ids_answer
-  not_ascending_lem taken = let e : is_ascending ids ≡ false = sym sorted ∙ not-true t taken in rw e
-
-  module _ (left : not t ≡ false) {u : Bool} (two : u ≡ is_in status_response ids) where
-    ascends : is_ascending ids ≡ true
-    ascends = sym sorted ∙ not-false t left
-
-    pub no_status_response : not u ≡ true → (Err WithoutStatusResponse) ≡ ids_answer ids
-    unfolding ids_answer
-    no_status_response taken = let i : is_in status_response ids ≡ false = sym two ∙ not-true u taken in rw (ascends, i)
-
-    pub loaded : not u ≡ false → (Ok tt) ≡ ids_answer ids
-    unfolding ids_answer
-    loaded last = let i : is_in status_response ids ≡ true = sym two ∙ not-false u last in rw (ascends, i)
-
-pub ruleset answers = (not_ascending_lem, no_status_response, loaded)
-
 -- IDs that are loaded hold StatusResponse
 loaded_two : (ids : List ℕ) → ids_answer ids ≡ Ok tt → is_in status_response ids ≡ true
 unfolding ids_answer
 loaded_two ids e = split (is_ascending ids) (is_in status_response ids) e
   where
-    split : (a b : Bool) → need a (Err NotAscending) (need b (Err WithoutStatusResponse) (Ok tt)) ≡ Ok tt → b ≡ true
+    split : (a b : Bool)
+        → ◌≡◌ {A = Result Unit LoadError} (need a (Err NotAscending) (need b (Err WithoutStatusResponse) (Ok tt))) (Ok tt)
+        → b ≡ true
     split a true p = refl
     split true false p = cc
     split false false p = cc
@@ -105,12 +64,12 @@ module _ (f services : List ℕ) {t : Bool} (is : t ≡ is_table f) where
         bytes = kept;
       }
 
-  module _ (left : not t ≡ false) {s : List ℕ} (part : s ≡ ids_in f) {j : (Result Unit LoadError)} (judged : j ≡ ids_answer s) where
+  module _ (left : not t ≡ false) {s : List ℕ} (part : s ≡ ids_in f) {j : Result Unit LoadError} (judged : j ≡ ids_answer s) where
     answered : j ≡ load_answer f
     unfolding load_answer
     answered = let e : is_table f ≡ true = sym is ∙ not-false t left in rw e (judged ∙ ap ids_answer part)
 
-    pub loads_by : {r : (Result Unit LoadError)} {after : List ℕ} → j ≡ r → after ≡ load_bytes r f services → Loads f r services after
+    pub loads_by : {r : Result Unit LoadError} {after : List ℕ} → j ≡ r → after ≡ load_bytes r f services → Loads f r services after
     loads_by {r} told kept =
         let e : r ≡ load_answer f = sym told ∙ answered in
         let two : r ≡ Ok tt → is_in status_response (ids_in f) ≡ true = λ q. loaded_two (ids_in f) (sym (judged ∙ ap ids_answer part) ∙ told ∙ q) in
@@ -129,8 +88,8 @@ pub ruleset loads = (loads_none, loads_by, loads_new, refl)
 -- ---- which files load
 
 too_short : (f : List ℕ) → length f < table_start → load_answer f ≡ Err NotATable
-unfolding load_answer
-too_short f h = rw (sym (short f h))
+unfolding load_answer is_table
+too_short f h = rw (lt-leb table_start (length f) h)
 
 -- behind the right mark and version all hangs on the IDs
 behind_mark : (ids : List ℕ) → load_answer (table_mark ++ ids) ≡ ids_answer ids

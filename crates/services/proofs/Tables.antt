@@ -8,21 +8,10 @@ use native.Mathlib.Omega.{arith}
 use lib.Dec.{ltb, eqb}
 use lib.ListN.{length, get_or, set, replicate, length-set, length-replicate, get_or-replicate, get_or-eq_default}
 use lib.Seq.{get_or-set_same, get_or-set_other}
-use borrow.Author.Tests.{eqb-true, eqb-false, eq-eqb, ne_eqb, ltb-true, ltb-false}
+use borrow.Author.Tests.{eqb-true, eqb-false, ne_eqb, ltb-true, ltb-false}
 use Rattle.services.specs.Ids.{status_response, ds301_ids, is_in, is_listed}
 use Rattle.services.specs.Table.{holds, services_length, marked, table_of, ds301, TablesHold}
 use Rattle.services.proofs.Ids.{unlisted_above, named}
-
-module _ (services : List ℕ) (b : ℕ) where
-  pub holds_two : b ≡ status_response → true ≡ holds services b
-  unfolding holds
-  holds_two e = rw (eq-eqb b status_response e)
-
-  pub holds_else : (b ≡ status_response → ⊥) → not (eqb (get_or services b 0) 0) ≡ holds services b
-  unfolding holds
-  holds_else n = rw (ne_eqb b status_response n)
-
-pub ruleset held = (holds_two, holds_else)
 
 -- its octet is not 0
 abbrev pub is_held : List ℕ → ℕ → Bool
@@ -39,11 +28,11 @@ module _ (b : ℕ) where
   unfolding marked
   marked_holds t [] h = refl
   marked_holds t (x ∷ ids) h =
-      marked_holds (set t x 1) ids (simp length-set h) ∙ split (eqb b x) refl
+      marked_holds (set t x 1) ids (simp length-set h) ∙ split (eqb x b) refl
     where
-      split : (e : Bool) → eqb b x ≡ e → is_in b ids || is_held (set t x 1) b ≡ (e || is_in b ids) || is_held t b
-      split true q = ap (λ (y : ℕ). is_in b ids || is_held (set t y 1) b) (sym (eqb-true b x q)) ∙ rw (marked_here t h) (or-true (is_in b ids))
-      split false q = ap (λ (a : Bool). is_in b ids || a) (marked_else t x (eqb-false b x q))
+      split : (e : Bool) → eqb x b ≡ e → is_in b ids || is_held (set t x 1) b ≡ (e || is_in b ids) || is_held t b
+      split true q = ap (λ (y : ℕ). is_in b ids || is_held (set t y 1) b) (eqb-true x b q) ∙ rw (marked_here t h) (or-true (is_in b ids))
+      split false q = ap (λ (a : Bool). is_in b ids || a) (marked_else t x (λ e. eqb-false x b q (sym e)))
 
   past : (t : List ℕ) → length t ≤ b → is_held t b ≡ false
   past t h = rw (get_or-eq_default t 0 h)

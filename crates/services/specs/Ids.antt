@@ -1,6 +1,7 @@
 -- The services of ASnd frames by their IDs, one octet each: a service is a number (02, CR 1).
 -- Assumes nothing.
-use Rattle.std.specs.Prelude.{ℕ, Bool, false, ◌||◌, ◌&&◌, List, [], ◌∷◌, eqb, leb}
+use Rattle.std.specs.Prelude.{ℕ, Bool, ◌||◌, ◌&&◌, List, [], ◌∷◌, eqb, leb}
+use Rattle.std.specs.List.{list_any}
 
 abbrev pub status_response : ℕ
 status_response = 0x02
@@ -21,5 +22,4 @@ ds301_ids = 0x01 ∷ 0x02 ∷ 0x03 ∷ 0x04 ∷ 0x05 ∷ 0x0B ∷ 0x0D ∷ 0x0E 
 
 -- whether b is one of the IDs
 abbrev pub is_in : ℕ → List ℕ → Bool
-is_in b [] = false
-is_in b (x ∷ ids) = eqb b x || is_in b ids
+is_in b ids = list_any (λ x. eqb x b) ids

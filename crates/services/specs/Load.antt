@@ -47,9 +47,7 @@ load_cause (Err WithoutStatusResponse) = row without_status_response []
 -- the table of the IDs, or what was lent
 abbrev pub load_bytes : Result Unit LoadError → List ℕ → List ℕ → List ℕ
 load_bytes (Ok _) f services = table_of (ids_in f)
-load_bytes (Err NotATable) f services = services
-load_bytes (Err NotAscending) f services = services
-load_bytes (Err WithoutStatusResponse) f services = services
+load_bytes (Err _) f services = services
 
 pub record Loads (f : List ℕ) (r : Result Unit LoadError) (services after : List ℕ) : Type 0 where
   pub answer : r ≡ load_answer f

@@ -17,6 +17,7 @@ pub const DS301: Services = [
 ];
 
 // The same, by a function: a constant has no contract.
+#[tactic(auto, unfolding(crate::specs::Table::marked))]
 pub fn ds301_table() -> Services
     ensures { result ≡ ds301 }
 {

@@ -40,14 +40,11 @@ pub const NMT_PUBLISH_ACTIVE_NODES: u8 = 0x12;
 impl ServiceId {
     // Whether it is one of the twelve, by 01's ranges. Readers and writers ask the table, which for the twelve is proved to hold what this
     // lists.
+    #[tactic(auto, unfolding(crate::specs::Ids::is_listed))]
     pub fn is_ds301(self) -> bool
         ensures { result ≡ is_listed self.0 }
     {
-        let id = self.0;
-        match id {
-            0x01..=0x05 | 0x0B | 0x0D..=0x12 => true,
-            _ => false,
-        }
+        matches!(self.0, 0x01..=0x05 | 0x0B | 0x0D..=0x12)
     }
 }
 

@@ -1,7 +1,6 @@
 // Loading a table of services: the mark `PLS`, the 16-bit version 1 low octet first, then the IDs, one octet each, strictly
 // ascending, StatusResponse among them.
 ghost use Rattle.std.specs.Prelude.{◌≡◌};
-ghost use Rattle.services.specs.Ids.{is_in};
 ghost use Rattle.services.specs.Load.{is_ascending, is_table, ids_answer, Loads};
 ghost use Rattle.services.specs.Table.{marked};
 
@@ -37,19 +36,14 @@ pub fn load(file: &[u8], services: &mut Services) -> Result<(), LoadError>
         return Err(LoadError::NotATable);
     }
     let ids = tail(file, START_LEN);
-    match judge(ids) {
-        Ok(()) => {
-            *services = [0u8; SERVICES_LEN];
-            mark(ids, services);
-            Ok(())
-        }
-        Err(LoadError::NotATable) => Err(LoadError::NotATable),
-        Err(LoadError::NotAscending) => Err(LoadError::NotAscending),
-        Err(LoadError::WithoutStatusResponse) => Err(LoadError::WithoutStatusResponse),
-    }
+    judge(ids)?;
+    *services = [0u8; SERVICES_LEN];
+    mark(ids, services);
+    Ok(())
 }
 
 // Whether mark and version are there and right.
+#[tactic(auto, unfolding(crate::specs::Load::is_table))]
 fn is_table(file: &[u8]) -> bool
     ensures { result ≡ is_table file.now }
 {
@@ -63,13 +57,14 @@ fn is_table(file: &[u8]) -> bool
 }
 
 // What loading answers of the IDs.
+#[tactic(auto, unfolding(crate::specs::Load::ids_answer))]
 fn judge(ids: &[u8]) -> Result<(), LoadError>
     ensures { result ≡ ids_answer ids.now }
 {
     if !ascending(ids) {
         return Err(LoadError::NotAscending);
     }
-    if !has(ids, STATUS_RESPONSE) {
+    if !ids.contains(&STATUS_RESPONSE) {
         return Err(LoadError::WithoutStatusResponse);
     }
     Ok(())
@@ -78,36 +73,14 @@ fn judge(ids: &[u8]) -> Result<(), LoadError>
 fn ascending(ids: &[u8]) -> bool
     ensures { result ≡ is_ascending ids.now }
 {
-    let mut i = 1;
-    while i < ids.len() {
-        if ids[i] <= ids[i - 1] {
-            return false;
-        }
-        i += 1;
-    }
-    true
-}
-
-fn has(ids: &[u8], id: u8) -> bool
-    ensures { result ≡ is_in id ids.now }
-{
-    let mut i = 0;
-    while i < ids.len() {
-        if ids[i] == id {
-            return true;
-        }
-        i += 1;
-    }
-    false
+    ids.is_sorted_by(|id, next| *id < *next)
 }
 
 // Marks each of the IDs in the table.
 fn mark(ids: &[u8], services: &mut Services)
     ensures { services.new ≡ marked services.old ids.now }
 {
-    let mut i = 0;
-    while i < ids.len() {
-        services[ids[i] as usize] = 1;
-        i += 1;
+    for &id in ids {
+        services[id as usize] = 1;
     }
 }

@@ -10,6 +10,7 @@ pub const SERVICES_LEN: usize = 256;
 pub type Services = [u8; SERVICES_LEN];
 
 // Whether a table holds a service.
+#[tactic(auto, unfolding(crate::specs::Table::holds))]
 pub fn contains(services: &Services, id: u8) -> bool
     ensures { result ≡ holds services.now id }
 {

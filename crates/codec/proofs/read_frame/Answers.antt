@@ -1,15 +1,14 @@
 -- `codec::read_frame` meets its contract: the kind is read by its rules.
 -- Assumes nothing.
+use Rattle.types.proofs.Passed.{passed}
 use Rattle.codec.specs.Frame.{read_frame}
 use Rattle.codec.proofs.FrameLaws.{frame_told}
 use Rattle.codec.proofs.read_frame.Goals as goal
 
-pub returns-in-Refused : goal.returns-in-Refused
+pub returns-in_err-kind : goal.returns-in_err-kind
 unfolding read_frame
-returns-in-Refused c =
-    frame_told _ _ _ (rw (← c.kind_of.ensures, c.in-Refused.is))
+returns-in_err-kind c = frame_told _ _ _ (rw (← c.in_err-kind.ensures, passed _ c.from_residual.ensures.1))
 
-pub returns-in-Kind : goal.returns-in-Kind
+pub returns : goal.returns
 unfolding read_frame
-returns-in-Kind c =
-    frame_told _ _ _ (rw (← c.kind_of.ensures, c.in-Kind.is, c.read_kind.ensures, c.tail.ensures.octets))
+returns c = frame_told _ _ _ (rw (← c.in_ok-kind.ensures, c.read_kind.ensures, c.tail.ensures.octets))

@@ -7,8 +7,8 @@ use Rattle.codec.proofs.headers.deserialize_pl_header.Goals as goal
 pub returns-then-s-lt3 : goal.returns-then-s-lt3
 returns-then-s-lt3 c = pl_told _ _ (pl_short _ (omega arith))
 
-pub returns-in-Unknown : goal.returns-in-Unknown
-returns-in-Unknown c = pl_told _ _ (search pl-laws)
+pub returns-in_err-message_type : goal.returns-in_err-message_type
+returns-in_err-message_type c = pl_told _ _ (search pl-laws)
 
-pub returns-in-Known : goal.returns-in-Known
-returns-in-Known c = pl_told _ _ (search pl-laws)
+pub returns : goal.returns
+returns c = pl_told _ _ (search pl-laws)

@@ -8,11 +8,11 @@ use Rattle.codec.proofs.soa.judge.Goals as goal
 pub returns-then-s-lt-FIELDS_LEN : goal.returns-then-s-lt-FIELDS_LEN
 returns-then-s-lt-FIELDS_LEN c = soa_short _ (omega arith)
 
-pub returns-in-Unknown : goal.returns-in-Unknown
-returns-in-Unknown c = search soa-laws
+pub returns-in_err-nmt_state : goal.returns-in_err-nmt_state
+returns-in_err-nmt_state c = search soa-laws
 
-pub returns-in-Unknown-from_u8 : goal.returns-in-Unknown-from_u8
-returns-in-Unknown-from_u8 c = search soa-laws
+pub returns-in_err-req_service_id : goal.returns-in_err-req_service_id
+returns-in_err-req_service_id c = search soa-laws
 
-pub returns-in-Known-from_u8 : goal.returns-in-Known-from_u8
-returns-in-Known-from_u8 c = search soa-laws
+pub returns : goal.returns
+returns c = search soa-laws

@@ -3,4 +3,4 @@
 use Rattle.frame.proofs.write.serialize_pl_header.Goals as goal
 
 pub returns : goal.returns
-returns c = rw (← c.to_u8.ensures) c.write.ensures
+returns c = rw (← c.from.ensures) c.write.ensures

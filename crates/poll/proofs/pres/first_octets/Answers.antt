@@ -3,4 +3,4 @@
 use Rattle.poll.proofs.pres.first_octets.Goals as goal
 
 pub returns : goal.returns
-returns c = rw (c.poll_octet.ensures, c.flag-3.ensures.0, c.flag-2.ensures.0, c.flag.ensures.0, c.to_u8-2.ensures, c.to_u8.ensures)
+returns c = rw (c.poll_octet.ensures, c.flag-3.ensures.0, c.flag-2.ensures.0, c.flag.ensures.0, c.from-2.ensures, c.from.ensures)

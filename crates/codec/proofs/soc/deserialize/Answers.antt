@@ -1,9 +1,0 @@
--- `codec::soc::deserialize` meets its contract: each verdict is read as its answer.
--- Assumes nothing.
-use Rattle.codec.proofs.soc.deserialize.Goals as goal
-
-pub returns-in-Read : goal.returns-in-Read
-returns-in-Read c = rw c.fields.ensures (rw c.in-Read.is at c.judge.ensures)
-
-pub returns-in-TooShort : goal.returns-in-TooShort
-returns-in-TooShort c = rw c.in-TooShort.is at c.judge.ensures
