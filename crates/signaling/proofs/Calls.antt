@@ -4,12 +4,11 @@ use Prim.Native.Nat.{ℕ, ◌+◌, ◌≤◌}
 use mathlib.Core.Bool.{Bool, true, false, ◌&&◌, beq}
 use mathlib.Core.Path.{◌≡◌, refl, sym, ◌∙◌}
 use mathlib.Core.List.{List, [], ◌∷◌, ◌++◌}
-use mathlib.Core.Option.{Option, none, some}
 use lib.ListN.{length, take, drop}
 use lib.Seq.{take_at}
 use lib.Dec.{leb, eqb}
 use borrow.Author.Tests.{leb-true, eqb-true, eqb-false, eq-eqb, ne_eqb}
-use Rattle.std.specs.Prelude.{Result, Ok, Err, Some, None}
+use Rattle.std.specs.Prelude.{Result, Ok, Err, Some, None, Option}
 use Rattle.types.specs.Codes.{pick, need}
 use Rattle.types.specs.declared.NodeId.{NodeId}
 use Rattle.types.specs.declared.hal.PowerlinkError.TheVariants.{BufferTooShort}
@@ -57,7 +56,7 @@ far : (i source target : ℕ) (ea : Bool) → (source ≡ 240 → ⊥) → ea_fo
 unfolding ea_for
 far i source target ea ne = rw (ne_eqb source 240 ne)
 
-frame_unheard : (i : ℕ) (f : PowerlinkFrame) (h : Head) → (source_of f ≡ 240 → ⊥) → after_acknowledge (acknowledge_answer (ea_in_frame i f) h) h ≡ h
+frame_unheard : (i : ℕ) (f : PowerlinkFrame) (h : Head) → (source_of f ≡ 240 → ⊥) → after_acknowledge (acknowledge_answer (Ok (ea_in_frame i f)) h) h ≡ h
 frame_unheard i (Soc f) h ne = refl
 frame_unheard i (PReq f) h ne = rw (far i f.source.0 f.destination.0 f.flags.ea ne)
 frame_unheard i (PRes f) h ne = refl
@@ -72,7 +71,7 @@ unheard i (Ok f) h ne = frame_unheard i f h ne
 
 pub record Requested (j : ℕ) (f : RequestFields) (o : Option Account) (bs : List ℕ) : Type 0 where
   pub place : Account
-  pub known : o ≡ some place
+  pub known : o ≡ Some place
   pub octets : bs ≡ request_frame j f place.ea
 
 as_written : (n : ℕ) (r : Result ℕ PowerlinkError) → Ok n ≡ as_request r → Ok n ≡ r
@@ -82,8 +81,8 @@ as_written n (Err m) e = cc
 pub requested_frame : (j : ℕ) (f : RequestFields) (o : Option Account) (target : List ℕ) (n : ℕ)
     → Ok n ≡ request_answer j f target o
     → Requested j f o (take n (after_request j f target o))
-requested_frame j f none target n e = clash cc
-requested_frame j f (some p) target n e =
+requested_frame j f None target n e = clash cc
+requested_frame j f (Some p) target n e =
     record {
       place = p;
       known = refl;
@@ -106,7 +105,7 @@ module _ (services : List ℕ) (i j : ℕ) (f : RequestFields) (ea : Bool) (six 
 
 pub record WhyBooked (said : Said) (o : Option Account) : Type 0 where
   pub place : Account
-  pub known : o ≡ some place
+  pub known : o ≡ Some place
   pub fresh : beq (en_in said.fields) place.ea ≡ false
   pub room : length place.book + length said.entries ≤ book_length
 
@@ -124,8 +123,8 @@ booked_status (Ok f) es p e =
     (y.0, leb-true (length p.book + length es) book_length y.1)
 
 pub why_booked : (said : Said) (o : Option Account) → (Ok box.Booked) ≡ account_answer said o → WhyBooked said o
-why_booked said none e = clash cc
-why_booked said (some p) e =
+why_booked said None e = clash cc
+why_booked said (Some p) e =
     let y = booked_status said.fields said.entries p e in
     record { place = p; known = refl; fresh = y.0; room = y.1 }
 
@@ -157,21 +156,21 @@ read_elsewhere services i bs b (Err e) ne = refl
 
 -- an answer of node i that is booked
 pub read_here : (services : List ℕ) (i : ℕ) (bs : List ℕ) (b : Box) → response_in services bs ≡ Ok (Some (node i))
-    → (after_response services (Ok box.Booked) bs b).accounts i ≡ some (booked_account (status_in bs) (b.accounts i))
+    → (after_response services (Ok box.Booked) bs b).accounts i ≡ Some (booked_account (status_in bs) (b.accounts i))
 read_here services i bs b me = rw (me, eq-eqb i i refl)
 
 -- ---- registering and Take
 
-free_by : (o : Option Account) (n : ℕ) → (Ok tt) ≡ register_vacant o n → o ≡ none
-free_by none n e = refl
-free_by (some p) n e = cc
+free_by : (o : Option Account) (n : ℕ) → (Ok tt) ≡ register_vacant o n → o ≡ None
+free_by None n e = refl
+free_by (Some p) n e = cc
 
-registered_by : (valid : Bool) (o : Option Account) (n : ℕ) → (Ok tt) ≡ need valid (Err IdOutOfRange) (register_vacant o n) → o ≡ none
+registered_by : (valid : Bool) (o : Option Account) (n : ℕ) → (Ok tt) ≡ need valid (Err IdOutOfRange) (register_vacant o n) → o ≡ None
 registered_by true o n e = free_by o n e
 registered_by false o n e = cc
 
 -- what is registered was not before
-was_free : (j : ℕ) (b : Box) → (Ok tt) ≡ register_answer j b → b.accounts j ≡ none
+was_free : (j : ℕ) (b : Box) → (Ok tt) ≡ register_answer j b → b.accounts j ≡ None
 unfolding register_answer
 was_free j b e = registered_by (leb 1 j && leb j 239) (b.accounts j) b.vacant e
 
@@ -182,7 +181,7 @@ register_same i j b (Ok _) e =
     either (eqb i j)
     (λ here.
     let same : i ≡ j = eqb-true i j here in
-    let free : b.accounts i ≡ none = rw same (was_free j b e) in
+    let free : b.accounts i ≡ None = rw same (was_free j b e) in
     (rw (here, free), rw (here, free)))
     (λ away. (rw away, rw away))
 register_same i j b (Err x) e = (refl, refl)
@@ -193,7 +192,7 @@ take_elsewhere i j b (Err x) ne = refl
 
 pub record WhyTaken (e : ErrorEntry) (o : Option Account) : Type 0 where
   pub place : Account
-  pub known : o ≡ some place
+  pub known : o ≡ Some place
   pub first : place.book ≡ e ∷ drop 1 place.book
 
 first_taken : (e : ErrorEntry) (b : List ErrorEntry) → Ok e ≡ take_first b → b ≡ e ∷ drop 1 b
@@ -201,5 +200,5 @@ first_taken e [] y = cc
 first_taken e (x ∷ b) y = cc
 
 pub why_taken : (e : ErrorEntry) (o : Option Account) → Ok e ≡ take_answer o → WhyTaken e o
-why_taken e none y = clash cc
-why_taken e (some p) y = record { place = p; known = refl; first = first_taken e p.book y }
+why_taken e None y = clash cc
+why_taken e (Some p) y = record { place = p; known = refl; first = first_taken e p.book y }

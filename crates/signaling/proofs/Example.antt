@@ -7,7 +7,7 @@ use mathlib.Core.List.{List, [], ◌∷◌}
 use mathlib.Core.Option.{some}
 use native.Mathlib.Omega.{arith}
 use lib.ListN.{length, take, drop}
-use Rattle.std.specs.Prelude.{Result, Ok, Err}
+use Rattle.std.specs.Prelude.{Result, Ok, Err, Some}
 use Rattle.types.specs.declared.error_mode.ErrorEntryMode.{ErrorEntryMode}
 use Rattle.types.specs.declared.error_mode.ErrorEntryMode.TheVariants.{Terminator, ErrorActive, ErrorCleared, EventOccurred}
 use Rattle.types.specs.declared.hal.PowerlinkError.TheVariants.{InvalidServiceId}
@@ -261,5 +261,5 @@ loss_and_repeat =
       rest = r.knows.rules;
       state = r.knows.means ∙ sym r.knows.rules;
       booked = rw reached_first.knows.rules;
-      drained = draining 7 (some (place false (drop 1 five))) r.box r.knows.box_size r.knows.place;
+      drained = draining 7 (Some (place false (drop 1 five))) r.box r.knows.box_size r.knows.place;
     }

@@ -5,11 +5,11 @@ use mathlib.Core.Bool.{Bool, beq}
 use mathlib.Core.Path.{◌≡◌, refl, sym, ap, ◌∙◌}
 use mathlib.Core.Logic.{◌⊎◌, inl, inr}
 use mathlib.Core.List.{List, ◌∷◌}
-use mathlib.Core.Option.{Option, none, some}
+use mathlib.Core.Option.{some}
 use native.Mathlib.Omega.{arith}
 use lib.ListN.{length, get_elem?}
 use lib.Dec.{leb}
-use Rattle.std.specs.Prelude.{Result, Ok, Err, Some}
+use Rattle.std.specs.Prelude.{Result, Ok, Err, Some, Option, None}
 use Rattle.status_response.specs.declared.fields.StatusFields.{StatusFields}
 use Rattle.reporter.specs.Rules.{Head, opened, ea_told}
 use Rattle.collector.specs.Layout.{box_of}
@@ -84,8 +84,8 @@ module _ (said : Said) (f : StatusFields) (e : said.fields ≡ Ok f) where
   outcome : (o : Option Account) → IsPlace o → (account_answer said o ≡ Err refusal.BookFull → ⊥)
       → ((account_answer said o ≡ (Ok box.Known)) × (ea_of o ≡ f.en_flag)) ⊎ (account_answer said o ≡ (Ok box.Booked))
   unfolding book_answer
-  outcome none is found = absurd is
-  outcome (some p) is found =
+  outcome None is found = absurd is
+  outcome (Some p) is found =
       either (beq f.en_flag p.ea)
       (λ same. inl (rw (e, same), sym (beq_true f.en_flag p.ea same)))
       (λ new.
@@ -96,12 +96,12 @@ module _ (said : Said) (f : StatusFields) (e : said.fields ≡ Ok f) where
   -- one that carries EA is known
   known : (o : Option Account) → IsPlace o → ea_of o ≡ f.en_flag → account_answer said o ≡ Ok box.Known
   unfolding book_answer
-  known none is same = absurd is
-  known (some p) is same = rw (e, same, beq_same f.en_flag)
+  known None is same = absurd is
+  known (Some p) is same = rw (e, same, beq_same f.en_flag)
 
   booked_bit : (o : Option Account) → IsPlace o → (booked_account said o).ea ≡ f.en_flag
-  booked_bit none is = absurd is
-  booked_bit (some p) is = rw e
+  booked_bit None is = absurd is
+  booked_bit (Some p) is = rw e
 
 module _ (services : List ℕ) (i : ℕ) (h : Head) (bs : List ℕ) (b : Box) (says : Says bs h) (id : h.id ≡ i) where
   hears_me : response_in services bs ≡ Ok (Some (node i))

@@ -172,7 +172,7 @@ module _ {i : ℕ} {ea : Bool} {book : List ErrorEntry} {c : Tally} (t : Inv i e
         }
 
     head_by : (x b : Bool) → ea_told services i bs ≡ Ok (Some x) → not (is_empty h.batch) && beq h.en x ≡ b
-        → Inv i ea book (on_requests (gives (sent q)) (on_ruled (becomes (λ g. after_acknowledge (pick b (Ok Closed) (Ok Kept)) g)) c))
+        → Inv i ea book (on_requests (gives (sent q)) (on_ruled (becomes (λ g. after_acknowledge (Ok (pick b Closed Kept)) g)) c))
     head_by x false me e = head_passes
     head_by x true me e =
         head_closes (me ∙ ap (λ y. Ok (Some y)) (sym (beq_true h.en x (both (not (is_empty h.batch)) (beq h.en x) e).1)))

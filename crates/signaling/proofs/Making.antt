@@ -4,7 +4,6 @@ use Prim.Native.Nat.{ℕ, ◌≤◌}
 use mathlib.Core.Bool.{false}
 use mathlib.Core.Path.{◌≡◌, refl, sym, ap, ◌∙◌}
 use mathlib.Core.List.{List, [], ◌∷◌, ◌++◌}
-use mathlib.Core.Option.{some}
 use native.Mathlib.Omega.{arith}
 use lib.ListN.{length, take, drop, replicate}
 use lib.Seq.{take_at}
@@ -44,7 +43,7 @@ pub record Knows (i : ℕ) (s b : List ℕ) (l : Log) (h : Head) (p : Account) :
   pub box_size : length b ≡ collector_length
   pub means : head_of s ≡ h
   pub rules : ruled i l ≡ h
-  pub place : account_of b i ≡ some p
+  pub place : account_of b i ≡ Some p
 
 -- a call that can be made, and what it leaves
 pub record Next (i : ℕ) (s b : List ℕ) (l : Log) (x : Event) (h : Head) (p : Account) : Type 0 where
@@ -127,7 +126,7 @@ module _ {i : ℕ} {s b : List ℕ} {l : Log} {h : Head} {p : Account} (k : Know
 
   -- a call of the box, or a frame of its host: the head stays
   abbrev by_box : {x : Event} {after : List ℕ} {q : Account} → Step i (world s b l) x (world s after (x ∷ l)) → length after ≡ collector_length
-      → account_of after i ≡ some q → ruled i (x ∷ l) ≡ ruled i l → Next i s b l x h q
+      → account_of after i ≡ Some q → ruled i (x ∷ l) ≡ ruled i l → Next i s b l x h q
   by_box {after} step size place same =
       record {
         state = s;
@@ -220,14 +219,14 @@ module _ {i : ℕ} {s b : List ℕ} {l : Log} {h : Head} {p : Account} (k : Know
 
   -- another head is registered, and has a place of its own
   pub registering : (j : ℕ) → eqb i j ≡ false → register_answer j (box_of b) ≡ Ok tt
-      → (n : Next i s b l (registered j (Ok tt)) h p) × (account_of n.box j ≡ some fresh_account)
+      → (n : Next i s b l (registered j (Ok tt)) h p) × (account_of n.box j ≡ Some fresh_account)
   registering j away ok =
       let c = rw ok at (registers b j k.box_size) in (
         by_box (register j (Ok tt) (register_bytes (Ok tt) j b) c.0) c.1 (c.0.box.accounts i ∙ rw away k.place) refl,
         c.0.box.accounts j ∙ rw (eq-eqb j j refl),
       )
 
-  pub asking : (j : ℕ) (q : Account) → account_of b j ≡ some q → (f : RequestFields) → length f.source_mac.0 ≡ 6
+  pub asking : (j : ℕ) (q : Account) → account_of b j ≡ Some q → (f : RequestFields) → length f.source_mac.0 ≡ 6
       → Next i s b l (requested j (Ok (length (request_frame j f q.ea))) (held (request_frame j f q.ea))) h p
   asking j q there f six =
       let a = rw there at (asks b j f six target) in

@@ -4,11 +4,10 @@ use Prim.Native.Nat.{ℕ, ◌+◌, ◌≤◌}
 use mathlib.Core.Bool.{Bool, false, beq}
 use mathlib.Core.Path.{◌≡◌, sym, ap, ◌∙◌}
 use mathlib.Core.List.{List}
-use mathlib.Core.Option.{Option, none, some}
 use native.Mathlib.Omega.{arith}
 use lib.ListN.{length, length-append}
 use borrow.Author.Tests.{le-leb}
-use Rattle.std.specs.Prelude.{Result, Ok, Err}
+use Rattle.std.specs.Prelude.{Result, Ok, Err, Option, Some, None}
 use Rattle.error_entry.specs.declared.ErrorEntry.{ErrorEntry}
 use Rattle.collector.specs.Rules.{Said, book_length, Account, en_in, book_answer, status_answer, account_answer, read_answer, status_in}
 use Rattle.collector.specs.declared.ReadError.TheVariants as refusal
@@ -51,8 +50,8 @@ fits : (said : Said) (o : Option Account)
     → (beq (en_in said.fields) (ea_of o) ≡ false → length (book_of o) + length said.entries ≤ book_length)
     → account_answer said o ≡ Err refusal.BookFull
     → ⊥
-fits said none room full = clash cc
-fits said (some p) room full = fits_status said.fields said.entries p room full
+fits said None room full = clash cc
+fits said (Some p) room full = fits_status said.fields said.entries p room full
 
 -- what the box is given with a new bit carries the open batch, which is not booked, so there is room for it
 room_for : {i p : ℕ} {bs : List ℕ} {w : World} (services : List ℕ) → Ready i w → Roomy i w → Delivered services i (sent p) bs (tally i w.log).answers

@@ -5,12 +5,12 @@ use mathlib.Core.Bool.{Bool, true, false}
 use mathlib.Core.Path.{◌≡◌, refl, ◌∙◌}
 use mathlib.Core.Logic.{◌⊎◌, inl, inr}
 use mathlib.Core.List.{List, [], ◌∷◌}
-use mathlib.Core.Option.{Option, none, some}
+use mathlib.Core.Option.{some}
 use native.Mathlib.Omega.{arith}
 use lib.ListN.{length, take, get_elem?, length-append}
 use lib.Dec.{eqb}
 use borrow.Author.Tests.{eqb-true}
-use Rattle.std.specs.Prelude.{Result, Ok, Err, Some, None}
+use Rattle.std.specs.Prelude.{Result, Ok, Err, Some, None, Option}
 use Rattle.types.specs.Codes.{pick}
 use Rattle.error_entry.specs.declared.ErrorEntry.{ErrorEntry}
 use Rattle.reporter.specs.Rules.{with_batch, opened, Head, after_raise, after_acknowledge}
@@ -38,8 +38,8 @@ use Rattle.types.specs.declared.NodeId.{NodeId}
 -- ---- every call: a place stays
 
 abbrev pub IsPlace : Option Account → Type 0
-IsPlace none = ⊥
-IsPlace (some p) = Unit {0}
+IsPlace None = ⊥
+IsPlace (Some p) = Unit {0}
 
 module _ (i : ℕ) (b : Box) (is : IsPlace (b.accounts i)) where
   with_stays : (j : ℕ) (p : Account) → IsPlace ((with_account j p b).accounts i)
@@ -139,8 +139,8 @@ with_bit i j p b e =
     either (eqb i j) (λ here. let same : i ≡ j = eqb-true i j here in rw (here, same) e) (λ away. rw away)
 
 taken_bit : (o : Option Account) → (without_first o).ea ≡ ea_of o
-taken_bit none = refl
-taken_bit (some p) = refl
+taken_bit None = refl
+taken_bit (Some p) = refl
 
 take_bit : (i j : ℕ) (b : Box) (r : Result ErrorEntry TakeError) → ea_of ((after_take r j b).accounts i) ≡ ea_of (b.accounts i)
 take_bit i j b (Ok e) = with_bit i j _ b (taken_bit (b.accounts j))

@@ -3,12 +3,11 @@
 use Prim.Native.Nat.{ℕ}
 use mathlib.Core.Path.{◌≡◌, refl, ap, ◌∙◌}
 use mathlib.Core.List.{List, [], ◌∷◌}
-use mathlib.Core.Option.{Option, none, some}
 use native.Mathlib.Omega.{arith}
 use lib.ListN.{take, drop}
 use lib.Dec.{eqb}
 use borrow.Author.Tests.{eqb-true, eqb-false, eq-eqb}
-use Rattle.std.specs.Prelude.{Result, Ok, Err, Some}
+use Rattle.std.specs.Prelude.{Result, Ok, Err, Some, Option, None}
 use Rattle.codec.specs.Frame.{read_frame}
 use Rattle.reporter.specs.Calls as reporter
 use Rattle.reporter.specs.Layout.{head_of}
@@ -121,7 +120,7 @@ module _ {i : ℕ} {w : World} (t : Held i w) where
       either (eqb j i)
       (λ here.
       let same : j ≡ i = eqb-true j i here in
-      let place : o ≡ some y.place = rw (← same) y.known in
+      let place : o ≡ Some y.place = rw (← same) y.known in
       rw place (cc (request_here services i j f ea c.source same, mine)))
       (λ away. cc (request_else services i j f ea c.source (eqb-false j i away), mine))
 
@@ -172,7 +171,7 @@ keeps {i} {w} t (hosts bs told) = record { head = t.head; inv = request_sends t.
 
 -- ---- the start
 
-starts : {i : ℕ} {h : List ℕ} {b : List ℕ} → head_of h ≡ fresh_head i → account_of b i ≡ none
+starts : {i : ℕ} {h : List ℕ} {b : List ℕ} → head_of h ≡ fresh_head i → account_of b i ≡ None
     → Held i (record { head = h; box = b; log = [] })
 starts {i} eh eb =
     record {

@@ -6,8 +6,8 @@
 -- each reading has a table of services of its own (02, CR 1: "An error exchange under any loaded table books as before"): any octets, more
 -- than the 256 that a call can be lent, and others from call to call.
 -- Assumes nothing.
-use Rattle.std.specs.Prelude.{ℕ, suc, ◌≤◌, Bool, true, false, ◌||◌, ◌≡◌, List, [], ◌∷◌, ◌++◌, length, take, leb, eqb, Result, Ok, Err, Some, None}
-use Rattle.std.proofs.Math.Option.{Option, none, some}
+use Rattle.std.specs.Prelude.{ℕ, suc, ◌≤◌, Bool, true, false, ◌||◌, ◌≡◌, List, [], ◌∷◌, ◌++◌, length, take, leb, eqb, Result, Ok, Err, Some, None, Option}
+use Rattle.std.proofs.Math.Option.{some}
 use Rattle.std.proofs.Math.ListN.{get_elem?}
 use Rattle.types.specs.Codes.{pick}
 use Rattle.types.specs.Nodes.{managing_node}
@@ -241,8 +241,8 @@ Reaches services i foreign bs l = Delivered services i foreign bs l
 
 -- EA as the box has it for a head; 0 before the head is registered
 abbrev pub ea_of : Option Account → Bool
-ea_of none = false
-ea_of (some p) = p.ea
+ea_of None = false
+ea_of (Some p) = p.ea
 
 -- What the box's host may send under 240 on the line of the requests: any octets, as long as those that give head i an EA, under whichever
 -- table, give the box's

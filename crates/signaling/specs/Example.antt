@@ -158,7 +158,7 @@ pub record LossAndRepeat : Type 0 where
   pub entries : accepted 7 w.log ≡ five
   pub handed : handed_out 7 w.log ≡ take 1 five
   -- the others are booked, and nothing is left at the head
-  pub place : account_of w.box 7 ≡ some (record { ea = false; book = drop 1 five })
+  pub place : account_of w.box 7 ≡ Some (record { ea = false; book = drop 1 five })
   pub rest : ruled 7 w.log ≡ record { id = 7; en = false; batch = []; waiting = [] }
   pub state : head_of w.head ≡ ruled 7 w.log
   pub booked : is_booked 7 w.log ≡ true
@@ -189,7 +189,7 @@ pub record FreeEaLoses : Type 0 where
   pub w : World
   pub run : Run 7 w
   pub entries : accepted 7 w.log ≡ five
-  pub place : account_of w.box 7 ≡ some (record { ea = false; book = [] })
+  pub place : account_of w.box 7 ≡ Some (record { ea = false; book = [] })
   pub frame : List ℕ
   pub gives : (services : List ℕ) → ea_told services 7 frame ≡ Ok (Some true)
   pub after : List ℕ
@@ -214,7 +214,7 @@ pub record BuiltAheadLoses : Type 0 where
   pub onward : Onward 7 v w
   pub run : Run 7 w
   pub entries : accepted 7 w.log ≡ five
-  pub place : account_of w.box 7 ≡ some (record { ea = true; book = take 4 five })
+  pub place : account_of w.box 7 ≡ Some (record { ea = true; book = take 4 five })
   pub holds : head_of w.head ≡ record { id = 7; en = false; batch = entry ErrorCleared 0x8165 ∷ []; waiting = [] }
   pub late : Tells 7 w.box frame → ⊥
   pub after : List ℕ
@@ -233,7 +233,7 @@ made_status f =
 pub record MadeStatusLoses : Type 0 where
   pub v : World
   pub run : Run 7 v
-  pub before : account_of v.box 7 ≡ some (record { ea = true; book = take 4 five })
+  pub before : account_of v.box 7 ≡ Some (record { ea = true; book = take 4 five })
   pub fields : AnswerFields
   -- no step of a list: the head has not sent it, and its source is no other
   pub strange : (services : List ℕ) (o : Origin) → Reaches services 7 o (made_status fields) (tally 7 v.log).answers → ⊥
@@ -246,5 +246,5 @@ pub record MadeStatusLoses : Type 0 where
   pub made : calls w.log
       ≡ calls v.log
       ++ (answers (Ok 72) ∷ by_box house (sent 2) (Ok box.Known) ∷ requests 7 (Ok 60) ∷ by_head ds301 (sent 3) (Ok head.Closed) ∷ [])
-  pub place : account_of w.box 7 ≡ some (record { ea = false; book = take 4 five })
+  pub place : account_of w.box 7 ≡ Some (record { ea = false; book = take 4 five })
   pub left : head_of w.head ≡ record { id = 7; en = false; batch = []; waiting = [] }
