@@ -11,6 +11,7 @@ use Rattle.octets.proofs.NumberBack.{Octets}
 use Rattle.types.specs.Causes.{row}
 use Rattle.types.specs.Codes.{pick}
 use Rattle.types.specs.declared.hal.PowerlinkError.TheVariants.{BufferTooShort}
+use Rattle.types.specs.declared.hal.PowerlinkError.{PowerlinkError}
 use Rattle.section.specs.Write.{write_answer, overwritten, write_cause, octets, Serializes}
 use Rattle.codec.specs.Frame.{read_frame}
 use Rattle.error_entry.specs.declared.ErrorEntry.{ErrorEntry}
@@ -29,7 +30,6 @@ use Rattle.collector.specs.Rules.{register_answer, read_answer, request_answer, 
 use Rattle.collector.specs.declared.RequestFields.{RequestFields}
 use Rattle.collector.proofs.Meaning.{fresh_means, register_means, register_length, read_means, read_length, request_size, take_means, take_length}
 use Rattle.signaling.specs.Calls.{node}
-use Rattle.types.specs.declared.hal.PowerlinkError.{PowerlinkError}
 
 -- ---- the head's calls
 

@@ -12,6 +12,7 @@ use Rattle.std.specs.Prelude.{Result, Ok, Err, Some, None, Option}
 use Rattle.types.specs.Codes.{pick, need}
 use Rattle.types.specs.declared.NodeId.{NodeId}
 use Rattle.types.specs.declared.hal.PowerlinkError.TheVariants.{BufferTooShort}
+use Rattle.types.specs.declared.hal.PowerlinkError.{PowerlinkError}
 use Rattle.services.specs.Ids.{status_response}
 use Rattle.services.specs.declared.ServiceId.{ServiceId}
 use Rattle.section.specs.Write.{write_answer, overwritten}
@@ -19,22 +20,21 @@ use Rattle.frame.specs.declared.PowerlinkFrame.{PowerlinkFrame}
 use Rattle.frame.specs.declared.PowerlinkFrame.TheVariants.{Soc, PReq, PRes, SoA, ASnd}
 use Rattle.codec.specs.Frame.{read_frame}
 use Rattle.error_entry.specs.declared.ErrorEntry.{ErrorEntry}
+use Rattle.status_response.specs.declared.fields.StatusFields.{StatusFields}
 use Rattle.reporter.specs.Rules.{Head, ea_for, ea_in_frame, ea_in_answer, acknowledge_answer, after_acknowledge, ea_told}
 use Rattle.collector.specs.Rules.{Said, book_length, Account, Box, register_vacant, register_answer, after_register, response_of_service, response_in_frame, response_in_answer, book_answer, status_answer, account_answer, en_in, booked_account, after_booking, after_response, request_answer, request_frame, as_request, after_request, take_first, take_answer, after_take, response_in, status_in}
 use Rattle.collector.specs.declared.ReadError.TheVariants as refusal
+use Rattle.collector.specs.declared.ReadError.{ReadError}
 use Rattle.collector.specs.declared.ReadOutcome.TheVariants as box
+use Rattle.collector.specs.declared.ReadOutcome.{ReadOutcome as BoxOutcome}
 use Rattle.collector.specs.declared.RegisterError.TheVariants.{IdOutOfRange}
+use Rattle.collector.specs.declared.RegisterError.{RegisterError}
 use Rattle.collector.specs.declared.RequestFields.{RequestFields}
+use Rattle.collector.specs.declared.TakeError.{TakeError}
 use Rattle.signaling.specs.Calls.{NotFrom, source_of, node, ea_of}
 use Rattle.signaling.proofs.Facts.{clash, either}
 use Rattle.signaling.proofs.Frames.{request_reads}
 use Rattle.signaling.proofs.Invariant.{book_of}
-use Rattle.types.specs.declared.hal.PowerlinkError.{PowerlinkError}
-use Rattle.status_response.specs.declared.fields.StatusFields.{StatusFields}
-use Rattle.collector.specs.declared.RegisterError.{RegisterError}
-use Rattle.collector.specs.declared.TakeError.{TakeError}
-use Rattle.collector.specs.declared.ReadOutcome.{ReadOutcome as BoxOutcome}
-use Rattle.collector.specs.declared.ReadError.{ReadError}
 
 -- ---- writing
 
@@ -109,12 +109,12 @@ pub record WhyBooked (said : Said) (o : Option Account) : Type 0 where
   pub fresh : beq (en_in said.fields) place.ea ≡ false
   pub room : length place.book + length said.entries ≤ book_length
 
-booked_by : (same fits : Bool) → (Ok box.Booked) ≡ pick same (Ok box.Known) (need fits (Err refusal.BookFull) (Ok box.Booked)) → (same ≡ false) × (fits ≡ true)
+booked_by : (same fits : Bool) → Ok box.Booked ≡ pick same (Ok box.Known) (need fits (Err refusal.BookFull) (Ok box.Booked)) → (same ≡ false) × (fits ≡ true)
 booked_by true fits e = clash cc
 booked_by false true e = (refl, refl)
 booked_by false false e = clash cc
 
-booked_status : (a : Result StatusFields PowerlinkError) (es : List ErrorEntry) (p : Account) → (Ok box.Booked) ≡ status_answer a es p
+booked_status : (a : Result StatusFields PowerlinkError) (es : List ErrorEntry) (p : Account) → Ok box.Booked ≡ status_answer a es p
     → (beq (en_in a) p.ea ≡ false) × (length p.book + length es ≤ book_length)
 unfolding book_answer
 booked_status (Err x) es p e = clash cc
@@ -122,7 +122,7 @@ booked_status (Ok f) es p e =
     let y = booked_by (beq f.en_flag p.ea) (leb (length p.book + length es) book_length) e in
     (y.0, leb-true (length p.book + length es) book_length y.1)
 
-pub why_booked : (said : Said) (o : Option Account) → (Ok box.Booked) ≡ account_answer said o → WhyBooked said o
+pub why_booked : (said : Said) (o : Option Account) → Ok box.Booked ≡ account_answer said o → WhyBooked said o
 why_booked said None e = clash cc
 why_booked said (Some p) e =
     let y = booked_status said.fields said.entries p e in
@@ -161,16 +161,16 @@ read_here services i bs b me = rw (me, eq-eqb i i refl)
 
 -- ---- registering and Take
 
-free_by : (o : Option Account) (n : ℕ) → (Ok tt) ≡ register_vacant o n → o ≡ None
+free_by : (o : Option Account) (n : ℕ) → Ok tt ≡ register_vacant o n → o ≡ None
 free_by None n e = refl
 free_by (Some p) n e = cc
 
-registered_by : (valid : Bool) (o : Option Account) (n : ℕ) → (Ok tt) ≡ need valid (Err IdOutOfRange) (register_vacant o n) → o ≡ None
+registered_by : (valid : Bool) (o : Option Account) (n : ℕ) → Ok tt ≡ need valid (Err IdOutOfRange) (register_vacant o n) → o ≡ None
 registered_by true o n e = free_by o n e
 registered_by false o n e = cc
 
 -- what is registered was not before
-was_free : (j : ℕ) (b : Box) → (Ok tt) ≡ register_answer j b → b.accounts j ≡ None
+was_free : (j : ℕ) (b : Box) → Ok tt ≡ register_answer j b → b.accounts j ≡ None
 unfolding register_answer
 was_free j b e = registered_by (leb 1 j && leb j 239) (b.accounts j) b.vacant e
 

@@ -15,6 +15,7 @@ use Rattle.services.specs.Table.{ds301}
 use Rattle.error_entry.specs.declared.ErrorEntry.{ErrorEntry}
 use Rattle.reporter.specs.Rules.{Head, fresh_head, is_raisable, raise_answer, after_raise, opened, answer_frame, ea_answer}
 use Rattle.reporter.specs.declared.RaiseError.TheVariants.{EntryInvalid, StatusEntry}
+use Rattle.reporter.specs.declared.RaiseError.{RaiseError}
 use Rattle.reporter.specs.declared.ReadOutcome.TheVariants.{Closed, Kept, Ignored}
 use Rattle.collector.specs.Layout.{box_of, fresh_bytes}
 use Rattle.collector.specs.Rules.{Account, fresh_account, register_answer, book_answer, read_answer, request_frame}
@@ -27,7 +28,6 @@ use Rattle.signaling.proofs.Draining.{draining}
 use Rattle.signaling.proofs.ExampleFrames.{numbers, with_two, with_other, two_arrive, other_arrives, two_octets, fields, sizes, asked, fifth, first, second, answer_octets, first_says, second_says, hears_ea, pres_frame, pres_far, pres_other, pres_ignored, house_frame, house_far, house_other, house_refused, preq_frame, hears_host, hears_not, first_length, second_length, request_length}
 use Rattle.signaling.proofs.Frames.{says_arrived}
 use Rattle.signaling.proofs.Making.{world, Knows, Next, Started, held, sent_whole, starting, raising, answering, hearing, as_it_is, knowing, booking, passing, registering, asking, handing, hosting}
-use Rattle.reporter.specs.declared.RaiseError.{RaiseError}
 
 -- ---- what the head becomes, and the list of calls
 

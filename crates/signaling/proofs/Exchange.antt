@@ -10,12 +10,17 @@ use native.Mathlib.Omega.{arith}
 use lib.ListN.{length, get_elem?}
 use lib.Dec.{leb}
 use Rattle.std.specs.Prelude.{Result, Ok, Err, Some, Option, None}
+use Rattle.types.specs.declared.hal.PowerlinkError.{PowerlinkError}
 use Rattle.status_response.specs.declared.fields.StatusFields.{StatusFields}
 use Rattle.reporter.specs.Rules.{Head, opened, ea_told}
+use Rattle.reporter.specs.declared.ReadOutcome.{ReadOutcome}
 use Rattle.collector.specs.Layout.{box_of}
 use Rattle.collector.specs.Rules.{Said, book_length, Account, Box, book_answer, account_answer, read_answer, booked_account, after_response, response_in, status_in}
 use Rattle.collector.specs.declared.ReadError.TheVariants as refusal
+use Rattle.collector.specs.declared.ReadError.{ReadError}
 use Rattle.collector.specs.declared.ReadOutcome.TheVariants as box
+use Rattle.collector.specs.declared.ReadOutcome.{ReadOutcome as BoxOutcome}
+use Rattle.collector.specs.declared.RequestError.{RequestError}
 use Rattle.signaling.specs.Calls.{answer, sent, Event, answered, head_read, box_read, requested, answers_sent, requests_sent, node, World, Step, head_reads, box_reads, ea_of}
 use Rattle.signaling.specs.Exchanges.{Quiet, AnswerAgain, NoRepeat, Quietly, Exchange}
 use Rattle.signaling.proofs.Calls.{read_here}
@@ -25,11 +30,6 @@ use Rattle.signaling.proofs.Invariant.{Carries, head_in, place_for}
 use Rattle.signaling.proofs.Pending.{opened_twice, opened_fewer, head_hears, closed, AtMost, at_most_stays}
 use Rattle.signaling.proofs.Steps.{read_as_sent}
 use Rattle.signaling.proofs.Quiet.{IsPlace, NoRaise, Ready, goes_on_lem, shut, Calm, calm, quiet_raises_not, quietly, no_repeat, requested_stays}
-use Rattle.collector.specs.declared.RequestError.{RequestError}
-use Rattle.reporter.specs.declared.ReadOutcome.{ReadOutcome}
-use Rattle.types.specs.declared.hal.PowerlinkError.{PowerlinkError}
-use Rattle.collector.specs.declared.ReadError.{ReadError}
-use Rattle.collector.specs.declared.ReadOutcome.{ReadOutcome as BoxOutcome}
 
 -- ---- both ends, while nothing changes
 
@@ -82,7 +82,7 @@ first_steady {i} {w} {n} {bs} (answer services f r after target written c) y =
 module _ (said : Said) (f : StatusFields) (e : said.fields ≡ Ok f) where
   -- an answer that is not refused with 12 is known or booked
   outcome : (o : Option Account) → IsPlace o → (account_answer said o ≡ Err refusal.BookFull → ⊥)
-      → ((account_answer said o ≡ (Ok box.Known)) × (ea_of o ≡ f.en_flag)) ⊎ (account_answer said o ≡ (Ok box.Booked))
+      → ((account_answer said o ≡ Ok box.Known) × (ea_of o ≡ f.en_flag)) ⊎ (account_answer said o ≡ Ok box.Booked)
   unfolding book_answer
   outcome None is found = absurd is
   outcome (Some p) is found =
@@ -152,7 +152,7 @@ module _ {i : ℕ} {h : Head} {ea : Bool} {n m : ℕ} {w : World} (y : Steady i 
       let says = y.mine p a le d.1.1 in
       let k = known (status_in a) says.fields says.read (place_for i w) y.ready.place (y.bit ∙ same ∙ sym says.en) in
       let x = box_says_lem services i h a (box_of w.box) says its_id in
-      let z : (Err refusal.BookFull) ≡ (Ok box.Known) = sym full ∙ (read_as_sent y.ready.held services p bs r after d c).answer ∙ x ∙ k in
+      let z : Err refusal.BookFull ≡ Ok box.Known = sym full ∙ (read_as_sent y.ready.held services p bs r after d c).answer ∙ x ∙ k in
       clash cc
 
 -- ---- the head reads

@@ -10,9 +10,11 @@ use lib.ListN.{length, take, drop, get_elem?, take-append-drop}
 use lib.Dec.{ltb}
 use Rattle.std.specs.Prelude.{Result, Ok, Err, Option, Some, None}
 use Rattle.types.specs.Codes.{pick}
+use Rattle.types.specs.declared.hal.PowerlinkError.{PowerlinkError}
 use Rattle.error_entry.specs.declared.ErrorEntry.{ErrorEntry}
 use Rattle.reporter.specs.Calls.{Numbers}
 use Rattle.reporter.specs.Rules.{with_new_batch, queue_length, batch_length, Head, is_raisable, raise_by, raise_answer, after_raise, is_empty, opens, opened, ea_answer, acknowledge_answer, after_acknowledge, ea_told}
+use Rattle.reporter.specs.declared.RaiseError.{RaiseError}
 use Rattle.reporter.specs.declared.ReadOutcome.TheVariants.{Closed, Kept}
 use Rattle.collector.specs.Rules.{en_in}
 use Rattle.signaling.specs.Calls.{sent, raised, answered, Tally, on_entries, on_answers, on_requests, on_ruled, accepts, sends, gives, becomes, answers, adds}
@@ -20,8 +22,6 @@ use Rattle.signaling.proofs.Facts.{clash, beq_same, beq_other, beq_true, both, a
 use Rattle.signaling.proofs.Frames.{Good, Says}
 use Rattle.signaling.proofs.Invariant.{en_said, batch_said, Inv}
 use Rattle.signaling.proofs.Transit.{answers_open, answers_send, answers_closed, requests_open, requests_later, requests_fresh, requests_closed}
-use Rattle.reporter.specs.declared.RaiseError.{RaiseError}
-use Rattle.types.specs.declared.hal.PowerlinkError.{PowerlinkError}
 
 -- ---- entries
 
@@ -39,7 +39,7 @@ good_drop zero a g = g
 good_drop (suc n) [] g = tt
 good_drop (suc n) (e ∷ a) g = good_drop n a g.1
 
-raised_by : (good status room : Bool) → (Ok tt) ≡ raise_by good status room → (good ≡ true) × (status ≡ false)
+raised_by : (good status room : Bool) → Ok tt ≡ raise_by good status room → (good ≡ true) × (status ≡ false)
 raised_by true true room e = clash cc
 raised_by true false room e = (refl, refl)
 raised_by false status room e = clash cc
@@ -48,7 +48,7 @@ raised_by false status room e = clash cc
 abbrev MayBeRaised : ErrorEntry → Type 0
 MayBeRaised e = (is_raisable e ≡ true) × (e.entry_type.is_status_entry ≡ false)
 
-raisable : (e : ErrorEntry) (h : Head) → (Ok tt) ≡ raise_answer e h → MayBeRaised e
+raisable : (e : ErrorEntry) (h : Head) → Ok tt ≡ raise_answer e h → MayBeRaised e
 unfolding raise_answer
 raisable e h a = raised_by (is_raisable e) e.entry_type.is_status_entry (ltb (length h.waiting) queue_length) a
 

@@ -11,6 +11,7 @@ use lib.Dec.{eqb}
 use borrow.Author.Tests.{le-leb, eq-eqb}
 use Rattle.std.specs.Prelude.{Result, Ok, Some}
 use Rattle.octets.proofs.NumberBack.{Octets}
+use Rattle.types.specs.declared.hal.PowerlinkError.{PowerlinkError}
 use Rattle.section.specs.Write.{write_answer, overwritten}
 use Rattle.error_entry.specs.declared.ErrorEntry.{ErrorEntry}
 use Rattle.reporter.specs.Calls as reporter
@@ -18,21 +19,20 @@ use Rattle.reporter.specs.Calls.{Numbers, AnswerSizes}
 use Rattle.reporter.specs.Layout.{reporter_length, head_of, new_bytes, raise_bytes, acknowledge_bytes}
 use Rattle.reporter.specs.Rules.{Head, fresh_head, new_answer, raise_answer, after_raise, opened, answer_frame, answer_length, acknowledge_answer, after_acknowledge, ea_told}
 use Rattle.reporter.specs.declared.AnswerFields.{AnswerFields}
+use Rattle.reporter.specs.declared.RaiseError.{RaiseError}
+use Rattle.reporter.specs.declared.ReadOutcome.{ReadOutcome}
 use Rattle.collector.specs.Calls as collector
 use Rattle.collector.specs.Layout as layout
 use Rattle.collector.specs.Layout.{collector_length, box_of, account_of, fresh_bytes, register_bytes, take_bytes}
 use Rattle.collector.specs.Rules.{with_book, with_ea, Account, Same, fresh_account, register_answer, after_register, book_answer, read_answer, read_cause, when_booked, after_booking, request_frame, response_in, status_in}
+use Rattle.collector.specs.declared.ReadError.{ReadError}
 use Rattle.collector.specs.declared.ReadOutcome.TheVariants as box
+use Rattle.collector.specs.declared.ReadOutcome.{ReadOutcome as BoxOutcome}
 use Rattle.collector.specs.declared.RequestFields.{RequestFields}
 use Rattle.signaling.specs.Calls.{Origin, sent, Event, raised, answered, head_read, registered, box_read, requested, taken, hosted, Log, tally, ruled, World, Delivered, Reaches, node, Step, raise, answer, head_reads, register, box_reads, request, takes, hosts}
 use Rattle.signaling.proofs.Arriving.{arrives_self}
 use Rattle.signaling.proofs.Callable.{makes, raises, answers, hears, freshes, registers, books, asks, hands}
 use Rattle.signaling.proofs.Frames.{Says}
-use Rattle.reporter.specs.declared.RaiseError.{RaiseError}
-use Rattle.reporter.specs.declared.ReadOutcome.{ReadOutcome}
-use Rattle.types.specs.declared.hal.PowerlinkError.{PowerlinkError}
-use Rattle.collector.specs.declared.ReadError.{ReadError}
-use Rattle.collector.specs.declared.ReadOutcome.{ReadOutcome as BoxOutcome}
 
 abbrev pub world : List ℕ → List ℕ → Log → World
 world s b l = record { head = s; box = b; log = l }

@@ -8,20 +8,20 @@ use native.Mathlib.Omega.{arith}
 use lib.ListN.{length, length-append}
 use borrow.Author.Tests.{le-leb}
 use Rattle.std.specs.Prelude.{Result, Ok, Err, Option, Some, None}
+use Rattle.types.specs.declared.hal.PowerlinkError.{PowerlinkError}
 use Rattle.error_entry.specs.declared.ErrorEntry.{ErrorEntry}
+use Rattle.status_response.specs.declared.fields.StatusFields.{StatusFields}
 use Rattle.collector.specs.Rules.{Said, book_length, Account, en_in, book_answer, status_answer, account_answer, read_answer, status_in}
 use Rattle.collector.specs.declared.ReadError.TheVariants as refusal
+use Rattle.collector.specs.declared.ReadError.{ReadError}
 use Rattle.collector.specs.declared.ReadOutcome.TheVariants as box
+use Rattle.collector.specs.declared.ReadOutcome.{ReadOutcome as BoxOutcome}
 use Rattle.signaling.specs.Calls.{sent, box_read, tally, ruled, is_booked, Delivered, World, Step, box_reads, ea_of}
 use Rattle.signaling.proofs.Facts.{clash, either, beq_not, beq_false}
 use Rattle.signaling.proofs.Invariant.{en_said, batch_said, book_of, head_in, place_for}
 use Rattle.signaling.proofs.Quiet.{Ready, Roomy}
 use Rattle.signaling.proofs.Steps.{read_as_sent}
 use Rattle.signaling.proofs.Transit.{answers_fresh}
-use Rattle.status_response.specs.declared.fields.StatusFields.{StatusFields}
-use Rattle.types.specs.declared.hal.PowerlinkError.{PowerlinkError}
-use Rattle.collector.specs.declared.ReadOutcome.{ReadOutcome as BoxOutcome}
-use Rattle.collector.specs.declared.ReadError.{ReadError}
 
 -- ---- the box reads
 
@@ -41,9 +41,9 @@ unfolding book_answer
 fits_status (Err e) es p room full = clash cc
 fits_status (Ok f) es p room full =
     either (beq f.en_flag p.ea)
-    (λ same. let x : status_answer (Ok f) es p ≡ (Ok box.Known) = rw same in clash cc)
+    (λ same. let x : status_answer (Ok f) es p ≡ Ok box.Known = rw same in clash cc)
     (λ new.
-    let x : status_answer (Ok f) es p ≡ (Ok box.Booked) = rw (new, le-leb (length p.book + length es) book_length (room new)) in
+    let x : status_answer (Ok f) es p ≡ Ok box.Booked = rw (new, le-leb (length p.book + length es) book_length (room new)) in
     clash cc)
 
 fits : (said : Said) (o : Option Account)

@@ -12,12 +12,20 @@ use lib.Dec.{eqb}
 use borrow.Author.Tests.{eqb-true}
 use Rattle.std.specs.Prelude.{Result, Ok, Err, Some, None, Option}
 use Rattle.types.specs.Codes.{pick}
+use Rattle.types.specs.declared.NodeId.{NodeId}
+use Rattle.types.specs.declared.hal.PowerlinkError.{PowerlinkError}
 use Rattle.error_entry.specs.declared.ErrorEntry.{ErrorEntry}
 use Rattle.reporter.specs.Rules.{with_batch, opened, Head, after_raise, after_acknowledge}
+use Rattle.reporter.specs.declared.RaiseError.{RaiseError}
 use Rattle.reporter.specs.declared.ReadOutcome.TheVariants.{Closed, Kept, Ignored}
+use Rattle.reporter.specs.declared.ReadOutcome.{ReadOutcome}
 use Rattle.collector.specs.Layout.{box_of}
 use Rattle.collector.specs.Rules.{Said, book_length, Account, Box, with_account, after_register, after_booking, after_response, without_first, after_take, response_in, status_in}
+use Rattle.collector.specs.declared.ReadError.{ReadError}
 use Rattle.collector.specs.declared.ReadOutcome.TheVariants as box
+use Rattle.collector.specs.declared.ReadOutcome.{ReadOutcome as BoxOutcome}
+use Rattle.collector.specs.declared.RegisterError.{RegisterError}
+use Rattle.collector.specs.declared.TakeError.{TakeError}
 use Rattle.signaling.specs.Calls.{tally, adds, Tally, nothing_yet, sent, foreign, Event, raised, answered, head_read, registered, box_read, requested, taken, hosted, if_taken, accepted, handed_out, answers_sent, requests_sent, ea_of, Tells, World, Step, raise, answer, head_reads, register, box_reads, request, takes, hosts}
 use Rattle.signaling.specs.Exchanges.{Quiet, NoRepeat, RequestAgain, Quietly, still, next, again, Exchange}
 use Rattle.signaling.proofs.Told.{told_now}
@@ -26,14 +34,6 @@ use Rattle.signaling.proofs.Facts.{clash, either, at_snoc}
 use Rattle.signaling.proofs.Frames.{Says}
 use Rattle.signaling.proofs.Invariant.{head_in, place_for, Held}
 use Rattle.signaling.proofs.Steps.{answer_says, request_says, keeps}
-use Rattle.reporter.specs.declared.RaiseError.{RaiseError}
-use Rattle.collector.specs.declared.RegisterError.{RegisterError}
-use Rattle.collector.specs.declared.TakeError.{TakeError}
-use Rattle.reporter.specs.declared.ReadOutcome.{ReadOutcome}
-use Rattle.types.specs.declared.hal.PowerlinkError.{PowerlinkError}
-use Rattle.collector.specs.declared.ReadError.{ReadError}
-use Rattle.collector.specs.declared.ReadOutcome.{ReadOutcome as BoxOutcome}
-use Rattle.types.specs.declared.NodeId.{NodeId}
 
 -- ---- every call: a place stays
 

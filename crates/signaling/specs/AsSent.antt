@@ -7,10 +7,10 @@ use Rattle.reporter.specs.Calls.{Answers}
 use Rattle.reporter.specs.declared.AnswerFields.{AnswerFields}
 use Rattle.collector.specs.Calls.{Reads}
 use Rattle.collector.specs.Rules.{status_payload}
+use Rattle.collector.specs.declared.ReadError.{ReadError}
+use Rattle.collector.specs.declared.ReadOutcome.{ReadOutcome as BoxOutcome}
 use Rattle.signaling.specs.Arrival.{IsASnd, IsStatusEntry, Arrives, put_in}
 use Rattle.signaling.specs.Calls.{sent, tally, World, Delivered, Reaches, Run}
-use Rattle.collector.specs.declared.ReadOutcome.{ReadOutcome as BoxOutcome}
-use Rattle.collector.specs.declared.ReadError.{ReadError}
 
 pub record AsSent : Type 0 where
   -- Whatever arrives, in whichever state the box is: it answers what it answers to the frame as sent, and every octet of it is then the same.

@@ -12,6 +12,7 @@ use Rattle.std.proofs.Math.ListN.{get_elem?}
 use Rattle.types.specs.Codes.{pick}
 use Rattle.types.specs.Nodes.{managing_node}
 pub use Rattle.types.specs.Nodes.{node}
+use Rattle.types.specs.declared.hal.PowerlinkError.{PowerlinkError}
 use Rattle.control.specs.declared.soa.SoAFlags.{SoAFlags}
 use Rattle.frame.specs.declared.PowerlinkFrame.{PowerlinkFrame}
 use Rattle.frame.specs.declared.PowerlinkFrame.TheVariants.{Soc, PReq, PRes, SoA, ASnd}
@@ -21,19 +22,18 @@ use Rattle.reporter.specs.Calls as reporter
 use Rattle.reporter.specs.Layout.{head_of}
 use Rattle.reporter.specs.Rules.{when_written, when_raised, Head, fresh_head, raise_answer, after_raise, opens, after_answer, acknowledge_answer, after_acknowledge, ea_told}
 use Rattle.reporter.specs.declared.AnswerFields.{AnswerFields}
+use Rattle.reporter.specs.declared.RaiseError.{RaiseError}
+use Rattle.reporter.specs.declared.ReadOutcome.{ReadOutcome}
 use Rattle.collector.specs.Calls as collector
 use Rattle.collector.specs.Layout.{account_of}
 use Rattle.collector.specs.Rules.{when_booked, Account}
-use Rattle.collector.specs.declared.RequestFields.{RequestFields}
-use Rattle.signaling.specs.Arrival.{Arrives}
-use Rattle.types.specs.declared.hal.PowerlinkError.{PowerlinkError}
-use Rattle.reporter.specs.declared.RaiseError.{RaiseError}
-use Rattle.collector.specs.declared.RegisterError.{RegisterError}
-use Rattle.collector.specs.declared.RequestError.{RequestError}
-use Rattle.collector.specs.declared.TakeError.{TakeError}
-use Rattle.reporter.specs.declared.ReadOutcome.{ReadOutcome}
 use Rattle.collector.specs.declared.ReadError.{ReadError}
 use Rattle.collector.specs.declared.ReadOutcome.{ReadOutcome as BoxOutcome}
+use Rattle.collector.specs.declared.RegisterError.{RegisterError}
+use Rattle.collector.specs.declared.RequestError.{RequestError}
+use Rattle.collector.specs.declared.RequestFields.{RequestFields}
+use Rattle.collector.specs.declared.TakeError.{TakeError}
+use Rattle.signaling.specs.Arrival.{Arrives}
 
 -- ---- the log of calls, their answers, and the octets that were given or written
 

@@ -8,6 +8,7 @@ use Rattle.std.proofs.Math.ListN.{get_elem?}
 use Rattle.types.specs.declared.error_mode.ErrorEntryMode.{ErrorEntryMode}
 use Rattle.types.specs.declared.error_mode.ErrorEntryMode.TheVariants.{Terminator, ErrorActive, ErrorCleared, EventOccurred}
 use Rattle.types.specs.declared.hal.PowerlinkError.TheVariants.{InvalidServiceId}
+use Rattle.types.specs.declared.hal.PowerlinkError.{PowerlinkError}
 use Rattle.services.specs.Table.{table_of, ds301}
 use Rattle.frame.specs.Write.{frame_bytes}
 use Rattle.frame.specs.declared.PowerlinkFrame.TheVariants.{ASnd}
@@ -20,22 +21,21 @@ use Rattle.reporter.specs.Layout.{head_of}
 use Rattle.reporter.specs.Rules.{status_fields, answer_asnd, ea_told}
 use Rattle.reporter.specs.declared.AnswerFields.{AnswerFields}
 use Rattle.reporter.specs.declared.RaiseError.TheVariants.{EntryInvalid, StatusEntry}
+use Rattle.reporter.specs.declared.RaiseError.{RaiseError}
 use Rattle.reporter.specs.declared.ReadOutcome.TheVariants as head
+use Rattle.reporter.specs.declared.ReadOutcome.{ReadOutcome}
 use Rattle.collector.specs.Calls as collector
 use Rattle.collector.specs.Layout.{account_of}
 use Rattle.collector.specs.declared.ReadError.TheVariants as refusal
+use Rattle.collector.specs.declared.ReadError.{ReadError}
 use Rattle.collector.specs.declared.ReadOutcome.TheVariants as box
-use Rattle.signaling.specs.Arrival.{put_in}
-use Rattle.signaling.specs.Calls.{Origin, sent, foreign, Event, raised, answered, head_read, registered, box_read, requested, taken, hosted, Log, tally, accepted, handed_out, answers_sent, is_booked, ruled, World, Reaches, Tells, Step, Run, Drained}
-use Rattle.signaling.specs.Exchanges.{pending, Exchanges, done, more, Room}
-use Rattle.types.specs.declared.hal.PowerlinkError.{PowerlinkError}
-use Rattle.reporter.specs.declared.RaiseError.{RaiseError}
+use Rattle.collector.specs.declared.ReadOutcome.{ReadOutcome as BoxOutcome}
 use Rattle.collector.specs.declared.RegisterError.{RegisterError}
 use Rattle.collector.specs.declared.RequestError.{RequestError}
 use Rattle.collector.specs.declared.TakeError.{TakeError}
-use Rattle.reporter.specs.declared.ReadOutcome.{ReadOutcome}
-use Rattle.collector.specs.declared.ReadError.{ReadError}
-use Rattle.collector.specs.declared.ReadOutcome.{ReadOutcome as BoxOutcome}
+use Rattle.signaling.specs.Arrival.{put_in}
+use Rattle.signaling.specs.Calls.{Origin, sent, foreign, Event, raised, answered, head_read, registered, box_read, requested, taken, hosted, Log, tally, accepted, handed_out, answers_sent, is_booked, ruled, World, Reaches, Tells, Step, Run, Drained}
+use Rattle.signaling.specs.Exchanges.{pending, Exchanges, done, more, Room}
 
 abbrev pub example_entry : Bool → ErrorEntryMode → ℕ → ErrorEntry
 example_entry status mode code =

@@ -2,16 +2,16 @@
 -- exchange needs them (`StepwiseProgress`), which is more.
 -- Assumes nothing.
 use Rattle.std.specs.Prelude.{ℕ, suc, ◌+◌, ◌-◌, ◌≤◌, Bool, ◌≡◌, List, [], ◌++◌, length, Result, Ok, Err, Some}
+use Rattle.types.specs.declared.hal.PowerlinkError.{PowerlinkError}
 use Rattle.error_entry.specs.declared.ErrorEntry.{ErrorEntry}
 use Rattle.reporter.specs.Rules.{ea_told}
+use Rattle.reporter.specs.declared.ReadOutcome.{ReadOutcome}
 use Rattle.collector.specs.Layout.{account_of}
 use Rattle.collector.specs.Rules.{Account}
 use Rattle.collector.specs.declared.ReadError.TheVariants as refusal
-use Rattle.signaling.specs.Calls.{sent, foreign, Event, raised, answered, head_read, registered, box_read, requested, taken, hosted, answers_sent, requests_sent, ruled, unbooked, World, Step, Run}
-use Rattle.reporter.specs.declared.ReadOutcome.{ReadOutcome}
-use Rattle.types.specs.declared.hal.PowerlinkError.{PowerlinkError}
 use Rattle.collector.specs.declared.ReadError.{ReadError}
 use Rattle.collector.specs.declared.ReadOutcome.{ReadOutcome as BoxOutcome}
+use Rattle.signaling.specs.Calls.{sent, foreign, Event, raised, answered, head_read, registered, box_read, requested, taken, hosted, answers_sent, requests_sent, ruled, unbooked, World, Step, Run}
 
 -- "w entries (waiting and open)"
 abbrev pub pending : ℕ → World → List ErrorEntry
