@@ -33,7 +33,9 @@ use Rattle.signaling.specs.Calls.{node}
 
 -- ---- the head's calls
 
-pub makes : (i : ℕ) (s : List ℕ) → new_answer i ≡ Ok tt → reporter.Makes (node i) (Ok tt) s (new_bytes (Ok tt) i s) × (length (new_bytes (Ok tt) i s) ≡ reporter_length)
+pub makes : (i : ℕ) (s : List ℕ) → new_answer i ≡ Ok tt
+    → reporter.Makes (node i) (Ok tt) s (new_bytes (Ok tt) i s)
+    × (length (new_bytes (Ok tt) i s) ≡ reporter_length)
 makes i s ok = (record { answer = sym ok; cause = ap new_cause (sym ok); head = λ e. made i s; bytes = refl }, new_length i s)
 
 pub raises : (s : List ℕ) (e : ErrorEntry) → length s ≡ reporter_length → Numbers e

@@ -21,6 +21,7 @@ use Rattle.frame.specs.declared.PowerlinkFrame.TheVariants.{Soc, PReq, PRes, SoA
 use Rattle.codec.specs.Frame.{read_frame}
 use Rattle.error_entry.specs.declared.ErrorEntry.{ErrorEntry}
 use Rattle.status_response.specs.declared.fields.StatusFields.{StatusFields}
+use Rattle.frame_laws.proofs.Tests.{no_value, one_value, passed}
 use Rattle.reporter.specs.Rules.{Head, ea_for, ea_in_frame, ea_in_answer, acknowledge_answer, after_acknowledge, ea_told}
 use Rattle.collector.specs.Rules.{Said, book_length, Account, Box, register_vacant, register_answer, after_register, response_of_service, response_in_frame, response_in_answer, book_answer, status_answer, account_answer, en_in, booked_account, after_booking, after_response, request_answer, request_frame, as_request, after_request, take_first, take_answer, after_take, response_in, status_in}
 use Rattle.collector.specs.declared.ReadError.TheVariants as refusal
@@ -41,8 +42,8 @@ use Rattle.signaling.proofs.Invariant.{book_of}
 written_by : (bs target : List ℕ) (n : ℕ) (fits : Bool)
     → Ok n ≡ pick fits (Ok (length bs)) (Err BufferTooShort)
     → take n (pick fits (bs ++ drop (length bs) target) target) ≡ bs
-written_by bs target n true e = let m : n ≡ length bs = cc in rw m (take_at bs (drop (length bs) target) (length bs) refl)
-written_by bs target n false e = cc
+written_by bs target n true e = rw (one_value e) (take_at bs (drop (length bs) target) (length bs) refl)
+written_by bs target n false e = absurd (no_value (sym e))
 
 -- what is sent is what was to be written
 pub written_frame : (bs target : List ℕ) (n : ℕ) → Ok n ≡ write_answer bs target → take n (overwritten bs target) ≡ bs
@@ -56,14 +57,16 @@ far : (i source target : ℕ) (ea : Bool) → (source ≡ 240 → ⊥) → ea_fo
 unfolding ea_for
 far i source target ea ne = rw (ne_eqb source 240 ne)
 
-frame_unheard : (i : ℕ) (f : PowerlinkFrame) (h : Head) → (source_of f ≡ 240 → ⊥) → after_acknowledge (acknowledge_answer (Ok (ea_in_frame i f)) h) h ≡ h
+frame_unheard : (i : ℕ) (f : PowerlinkFrame) (h : Head) → (source_of f ≡ 240 → ⊥)
+    → after_acknowledge (acknowledge_answer (Ok (ea_in_frame i f)) h) h ≡ h
 frame_unheard i (Soc f) h ne = refl
 frame_unheard i (PReq f) h ne = rw (far i f.source.0 f.destination.0 f.flags.ea ne)
 frame_unheard i (PRes f) h ne = refl
 frame_unheard i (SoA f) h ne = rw (far i f.source.0 f.target_node_id.0 f.flags.ea ne)
 frame_unheard i (ASnd f) h ne = refl
 
-pub unheard : (i : ℕ) (a : Result PowerlinkFrame PowerlinkError) (h : Head) → NotFrom 240 a → after_acknowledge (acknowledge_answer (ea_in_answer i a) h) h ≡ h
+pub unheard : (i : ℕ) (a : Result PowerlinkFrame PowerlinkError) (h : Head) → NotFrom 240 a
+    → after_acknowledge (acknowledge_answer (ea_in_answer i a) h) h ≡ h
 unheard i (Err e) h ne = refl
 unheard i (Ok f) h ne = frame_unheard i f h ne
 
@@ -109,7 +112,8 @@ pub record WhyBooked (said : Said) (o : Option Account) : Type 0 where
   pub fresh : beq (en_in said.fields) place.ea ≡ false
   pub room : length place.book + length said.entries ≤ book_length
 
-booked_by : (same fits : Bool) → Ok box.Booked ≡ pick same (Ok box.Known) (need fits (Err refusal.BookFull) (Ok box.Booked)) → (same ≡ false) × (fits ≡ true)
+booked_by : (same fits : Bool) → Ok box.Booked ≡ pick same (Ok box.Known) (need fits (Err refusal.BookFull) (Ok box.Booked))
+    → (same ≡ false) × (fits ≡ true)
 booked_by true fits e = clash cc
 booked_by false true e = (refl, refl)
 booked_by false false e = clash cc
@@ -161,18 +165,14 @@ read_here services i bs b me = rw (me, eq-eqb i i refl)
 
 -- ---- registering and Take
 
-free_by : (o : Option Account) (n : ℕ) → Ok tt ≡ register_vacant o n → o ≡ None
+free_by : (o : Option Account) (n : ℕ) → register_vacant o n ≡ Ok tt → o ≡ None
 free_by None n e = refl
-free_by (Some p) n e = cc
-
-registered_by : (valid : Bool) (o : Option Account) (n : ℕ) → Ok tt ≡ need valid (Err IdOutOfRange) (register_vacant o n) → o ≡ None
-registered_by true o n e = free_by o n e
-registered_by false o n e = cc
+free_by (Some p) n e = absurd (no_value e)
 
 -- what is registered was not before
-was_free : (j : ℕ) (b : Box) → Ok tt ≡ register_answer j b → b.accounts j ≡ None
+was_free : (j : ℕ) (b : Box) → register_answer j b ≡ Ok tt → b.accounts j ≡ None
 unfolding register_answer
-was_free j b e = registered_by (leb 1 j && leb j 239) (b.accounts j) b.vacant e
+was_free j b e = free_by (b.accounts j) b.vacant (passed (leb 1 j && leb j 239) IdOutOfRange (register_vacant (b.accounts j) b.vacant) e).1
 
 -- registering makes no difference in EA and book
 pub register_same : (i j : ℕ) (b : Box) (r : Result Unit RegisterError) → r ≡ register_answer j b
@@ -181,7 +181,7 @@ register_same i j b (Ok _) e =
     either (eqb i j)
     (λ here.
     let same : i ≡ j = eqb-true i j here in
-    let free : b.accounts i ≡ None = rw same (was_free j b e) in
+    let free : b.accounts i ≡ None = rw same (was_free j b (sym e)) in
     (rw (here, free), rw (here, free)))
     (λ away. (rw away, rw away))
 register_same i j b (Err x) e = (refl, refl)

@@ -75,12 +75,14 @@ twice_read =
 -- the first request is lost
 abbrev asked_twice : Log
 asked_twice =
-    request_of 7 true ∷ request_of 7 true ∷ head_read ds301 foreign pres_frame (Ok Ignored) ∷ head_read house (sent 0) (request_frame 9 asked false) (Ok Ignored)
+    request_of 7 true ∷ request_of 7 true ∷ head_read ds301 foreign pres_frame (Ok Ignored)
+    ∷ head_read house (sent 0) (request_frame 9 asked false) (Ok Ignored)
     ∷ twice_read
 
 abbrev pub first_closed : Log
 first_closed =
-    head_read house (sent 2) (request_frame 7 asked true) (Ok Kept) ∷ head_read ds301 (sent 2) (request_frame 7 asked true) (Ok Closed) ∷ asked_twice
+    head_read house (sent 2) (request_frame 7 asked true) (Ok Kept) ∷ head_read ds301 (sent 2) (request_frame 7 asked true) (Ok Closed)
+    ∷ asked_twice
 
 abbrev all_booked : Log
 all_booked = box_read ds301 (sent 2) (answer_frame fields second) (Ok box.Booked) ∷ answer_of second ∷ first_closed
@@ -119,8 +121,8 @@ module _ {v : World} where
       let n = make r.state r.box r.knows in
       record { state = n.state; box = n.box; onward = further r.onward n.step; knows = n.knows }
 
-  adding : {l : Log} {h : Head} {p : Account} (m : ErrorEntryMode) (c : ℕ) (r : Result Unit RaiseError) → c < 2 ^ 16 → raise_answer (entry m c) h ≡ r
-      → Reached v l h p
+  adding : {l : Log} {h : Head} {p : Account} (m : ErrorEntryMode) (c : ℕ) (r : Result Unit RaiseError)
+      → c < 2 ^ 16 → raise_answer (entry m c) h ≡ r → Reached v l h p
       → Reached v (raised (entry m c) r ∷ l) (after_raise r (entry m c) h) p
   adding m c r small ok y = next y (λ s b k. raising k (entry m c) r (numbers m c small) ok)
 

@@ -127,7 +127,9 @@ module _ {i : ℕ} {h : Head} {ea : Bool} {n m : ℕ} {w : World} (y : Steady i 
   its_id = rw (← y.head, y.ready.held.head) y.ready.held.inv.id
 
   -- the first reading, and a repeat: EA is EN behind it
-  box_steady : {p : ℕ} {services bs : List ℕ} {r : Result BoxOutcome ReadError} {v : World} → n ≤ p → Step i w (box_read services (sent p) bs r) v → (r ≡ Err refusal.BookFull → ⊥)
+  box_steady : {p : ℕ} {services bs : List ℕ} {r : Result BoxOutcome ReadError} {v : World}
+      → n ≤ p → Step i w (box_read services (sent p) bs r) v
+      → (r ≡ Err refusal.BookFull → ⊥)
       → Steady i h h.en n (length (requests_sent i w.log)) v
   box_steady {p} {services} {bs} {r} le (box_reads table from octets told after d c) found =
       let s : Step i w (box_read services (sent p) bs r) (record { head = w.head; box = after; log = box_read services (sent p) bs r ∷ w.log }) =
@@ -144,7 +146,8 @@ module _ {i : ℕ} {h : Head} {ea : Bool} {n m : ℕ} {w : World} (y : Steady i 
       }
 
   -- what carries EA is not refused
-  known_found : {p : ℕ} {services bs : List ℕ} {r : Result BoxOutcome ReadError} {v : World} → n ≤ p → ea ≡ h.en → Step i w (box_read services (sent p) bs r) v
+  known_found : {p : ℕ} {services bs : List ℕ} {r : Result BoxOutcome ReadError} {v : World}
+      → n ≤ p → ea ≡ h.en → Step i w (box_read services (sent p) bs r) v
       → r ≡ Err refusal.BookFull
       → ⊥
   known_found {p} {services} {bs} {r} le same (box_reads table from octets told after d c) full =

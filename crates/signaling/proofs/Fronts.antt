@@ -76,7 +76,8 @@ module _ {f g : List ℕ} (y : Agree f g) where
 
 -- ---- the fields of the StatusResponse
 
-by_state : (s t : List ℕ) (a : Result NmtState PowerlinkError) → get_or s 0 0 ≡ get_or t 0 0 → get_or s 1 0 ≡ get_or t 1 0 → status_by_state s a ≡ status_by_state t a
+by_state : (s t : List ℕ) (a : Result NmtState PowerlinkError) → get_or s 0 0 ≡ get_or t 0 0 → get_or s 1 0 ≡ get_or t 1 0
+    → status_by_state s a ≡ status_by_state t a
 by_state s t (Err x) e k = refl
 by_state s t (Ok v) e k = rw (e, k)
 

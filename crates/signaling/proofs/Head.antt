@@ -62,7 +62,8 @@ module _ {i : ℕ} {ea : Bool} {book : List ErrorEntry} {c : Tally} (t : Inv i e
 
   -- ---- Raise
 
-  raise_joins : (e : ErrorEntry) → MayBeRaised e → Numbers e → Inv i ea book (on_entries (accepts (Ok tt) e) (on_ruled (becomes (after_raise (Ok tt) e)) c))
+  raise_joins : (e : ErrorEntry) → MayBeRaised e → Numbers e
+      → Inv i ea book (on_entries (accepts (Ok tt) e) (on_ruled (becomes (after_raise (Ok tt) e)) c))
   raise_joins e may n =
       record {
         id = t.id;
@@ -153,7 +154,8 @@ module _ {i : ℕ} {ea : Bool} {book : List ErrorEntry} {c : Tally} (t : Inv i e
           room = t.room;
         }
 
-    head_closes : ea_told services i bs ≡ Ok (Some h.en) → Inv i ea book (on_requests (gives (sent q)) (on_ruled (becomes (λ g. after_acknowledge (Ok Closed) g)) c))
+    head_closes : ea_told services i bs ≡ Ok (Some h.en)
+        → Inv i ea book (on_requests (gives (sent q)) (on_ruled (becomes (λ g. after_acknowledge (Ok Closed) g)) c))
     head_closes me =
         let (same, past) = requests_fresh t.requests q bs le at services me in
         let was : c.ruled.is_booked ≡ true = t.since ∙ ap (λ (b : Bool). beq b h.en) same ∙ beq_same h.en in
@@ -177,7 +179,8 @@ module _ {i : ℕ} {ea : Bool} {book : List ErrorEntry} {c : Tally} (t : Inv i e
     head_by x true me e =
         head_closes (me ∙ ap (λ y. Ok (Some y)) (sym (beq_true h.en x (both (not (is_empty h.batch)) (beq h.en x) e).1)))
 
-    pub head_reads_lem : (s : Result (Option Bool) PowerlinkError) → ea_told services i bs ≡ s → Inv i ea book (on_requests (gives (sent q)) (on_ruled (becomes (λ g. after_acknowledge (acknowledge_answer s g) g)) c))
+    pub head_reads_lem : (s : Result (Option Bool) PowerlinkError) → ea_told services i bs ≡ s
+        → Inv i ea book (on_requests (gives (sent q)) (on_ruled (becomes (λ g. after_acknowledge (acknowledge_answer s g) g)) c))
     unfolding ea_answer
     head_reads_lem (Err e) me = head_passes
     head_reads_lem (Ok None) me = head_passes

@@ -27,7 +27,8 @@ no_ea None e = refl
 no_ea (Some p) e = clash cc
 
 -- EA is the same under every table
-pub same_ea : (services others : List ℕ) (i : ℕ) (bs : List ℕ) {x y : Bool} → ea_told services i bs ≡ Ok (Some x) → ea_told others i bs ≡ Ok (Some y) → y ≡ x
+pub same_ea : (services others : List ℕ) (i : ℕ) (bs : List ℕ) {x y : Bool}
+    → ea_told services i bs ≡ Ok (Some x) → ea_told others i bs ≡ Ok (Some y) → y ≡ x
 same_ea services others i bs {x} me hears = let z = any_table.ea services others i bs x me in cc
 
 pub flags_tell : FlagsTell

@@ -97,7 +97,8 @@ not_reaching services foreign ne = made_source services ne
 -- its answer is known, and the next request closes the batch
 abbrev second_lost : Log
 second_lost =
-    head_read ds301 (sent 3) (request_frame 7 asked false) (Ok Closed) ∷ request_of 7 false ∷ box_read house (sent 2) (answer_frame fields second) (Ok box.Known)
+    head_read ds301 (sent 3) (request_frame 7 asked false) (Ok Closed) ∷ request_of 7 false
+    ∷ box_read house (sent 2) (answer_frame fields second) (Ok box.Known)
     ∷ answer_of second
     ∷ first_closed
 

@@ -151,7 +151,8 @@ module _ {i : ℕ} {s b : List ℕ} {l : Log} {h : Head} {p : Account} (k : Know
       let c = rw (is_written (answer_frame f (opened h)) fits, is_held (answer_frame f (opened h)) fits) at a in
       by_head (answer services f _ _ target (held (answer_frame f (opened h))) c.0) c.1 (c.0.head ∙ rw k.means) (rw k.rules)
 
-  pub hearing : (services : List ℕ) (o : Origin) (bs : List ℕ) (r : Result ReadOutcome PowerlinkError) → Delivered services 240 o bs (tally i l).requests → h.id ≡ i
+  pub hearing : (services : List ℕ) (o : Origin) (bs : List ℕ) (r : Result ReadOutcome PowerlinkError)
+      → Delivered services 240 o bs (tally i l).requests → h.id ≡ i
       → acknowledge_answer (ea_told services i bs) h ≡ r → Next i s b l (head_read services o bs r) (after_acknowledge r h) p
   hearing services o bs r given same ok =
       let q : acknowledge_answer (ea_told services (head_of s).id bs) (head_of s) ≡ r =

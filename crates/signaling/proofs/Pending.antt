@@ -57,7 +57,8 @@ opened_fewer h = open_fewer h h.batch h.waiting refl refl
 -- ---- the head's reading
 
 -- a request that carries this bit
-pub head_hears : {i : ℕ} {w v : World} {services : List ℕ} {o : Origin} {bs : List ℕ} {r : Result ReadOutcome PowerlinkError} {x : Bool} → ea_told services i bs ≡ Ok (Some x)
+pub head_hears : {i : ℕ} {w v : World} {services : List ℕ} {o : Origin} {bs : List ℕ} {r : Result ReadOutcome PowerlinkError} {x : Bool}
+    → ea_told services i bs ≡ Ok (Some x)
     → Held i w
     → Step i w (head_read services o bs r) v
     → head_in v ≡ after_acknowledge (Ok (ea_answer x (head_in w))) (head_in w)

@@ -63,7 +63,8 @@ room_for {i} {p} {bs} {w} services y room d new =
     let en = (ruled i w.log).en in
     rw (same-batch, ← y.held.head) (fits_batch y room (inv.since ∙ ap (λ (b : Bool). beq b en) differ ∙ beq_not en))
 
-pub room_found : {i p : ℕ} {services bs : List ℕ} {r : Result BoxOutcome ReadError} {w v : World} → Ready i w → Roomy i w → Step i w (box_read services (sent p) bs r) v
+pub room_found : {i p : ℕ} {services bs : List ℕ} {r : Result BoxOutcome ReadError} {w v : World}
+    → Ready i w → Roomy i w → Step i w (box_read services (sent p) bs r) v
     → r ≡ Err refusal.BookFull
     → ⊥
 unfolding read_answer en_said batch_said

@@ -64,7 +64,8 @@ module _ {i : ℕ} {w : World} (t : Held i w) where
   pub head_now : (services bs : List ℕ) (r : Result ReadOutcome PowerlinkError) (after : List ℕ) → reporter.Reads services bs r w.head after
       → head_of after ≡ after_acknowledge (acknowledge_answer (ea_told services i bs) (head_in w)) (head_in w)
   head_now services bs r after c =
-      c.head ∙ ap (λ (x : Result ReadOutcome PowerlinkError). after_acknowledge x h) (c.answer ∙ ap (λ (k : ℕ). acknowledge_answer (ea_told services k bs) h) (rw t.head t.inv.id))
+      let same = c.answer ∙ ap (λ k. acknowledge_answer (ea_told services k bs) h) (rw t.head t.inv.id) in
+      c.head ∙ ap (λ x. after_acknowledge x h) same
 
   head_read_keeps : (services : List ℕ) (from : Origin) (bs : List ℕ) (r : Result ReadOutcome PowerlinkError)
       → Delivered services 240 from bs (tally i w.log).requests
