@@ -6,13 +6,15 @@ use mathlib.Core.Bool.{Bool, true, false, not}
 use mathlib.Core.List.{List, [], ◌∷◌}
 use native.Mathlib.Omega.{arith}
 use lib.ListN.{length}
+use denote.Ref.{Bor}
 use Rattle.std.specs.List.{filter}
 use Rattle.octets.proofs.Cases.{either}
 use Rattle.octets.proofs.NumberBack.{Octets}
 use Rattle.types.specs.Codes.{pick}
 use Rattle.error_entry.specs.declared.ErrorEntry.{ErrorEntry}
 use Rattle.status_response.specs.ReadBack.{EachInRange}
-use Rattle.status_response.specs.Steps.{status_entries}
+use Rattle.status_response.specs.Steps.{entries_from, status_entries}
+use Rattle.status_response.specs.declared.walk.EntryWalk.{EntryWalk}
 use Rattle.collector.specs.Layout.{count_in, pushed_bytes, pushed_all}
 use Rattle.collector.specs.Rules.{bookable, booked_entries, book_length}
 use Rattle.collector.proofs.WalkLaws.{entries_in_range}
@@ -41,6 +43,10 @@ pub booked_in_range : (s : List ℕ) → Octets s → EachInRange (booked_entrie
 unfolding booked_entries
 booked_in_range s o = bookable_range (status_entries s) (entries_in_range s o)
 
+passes : (b : Bool) → not b ≡ true → (l m : List ErrorEntry) → pick b l m ≡ m
+passes false h l m = refl
+passes true h l m = let z : ◌≡◌ {A = ℕ} 0 1 = cc in absurd (omega arith)
+
 -- ---- entries join a book one by one: t is the state that all have joined
 
 module _ (k : ℕ) (t : List ℕ) where
@@ -48,20 +54,24 @@ module _ (k : ℕ) (t : List ℕ) where
   abbrev pub Joins : List ℕ → List ErrorEntry → Type 0
   Joins s es = (pushed_all s k (bookable es) ≡ t) × (count_in s k + length (bookable es) ≤ book_length)
 
-  pub join_end : (s : List ℕ) → Joins s [] → s ≡ t
+  pub join_end : (s : List ℕ) (es : List ErrorEntry) → Joins s es → es ≡ [] → s ≡ t
   unfolding pushed_all
-  join_end s h = h.0
+  join_end s es h end = sym (ap (λ (l : List ErrorEntry). pushed_all s k (bookable l)) end) ∙ h.0
 
-  module _ (s : List ℕ) (e : ErrorEntry) (es : List ErrorEntry) (h : Joins s (e ∷ es)) where
-    pub join_none : e.entry_type.is_status_entry ≡ true → Joins s es
-    join_none status = rw status at h
+  -- the next one is booked
+  pub join_one : (s : List ℕ) (all : List ErrorEntry) → Joins s all → (e : ErrorEntry) (es : List ErrorEntry) → all ≡ e ∷ es
+      → not e.entry_type.is_status_entry ≡ true → (u : List ℕ) → u ≡ pushed_bytes s k e → count_in u k ≡ count_in s k + 1 → Joins u es
+  unfolding pushed_all
+  join_one s all h e es next booked u is n =
+      let joined : bookable all ≡ e ∷ bookable es = ap bookable next ∙ passes e.entry_type.is_status_entry booked (bookable es) (e ∷ bookable es) in (
+        ap (λ (x : List ℕ). pushed_all x k (bookable es)) is ∙ sym (ap (pushed_all s k) joined) ∙ h.0,
+        omega (arith, n, ap length joined, h.1),
+      )
 
-    module _ (booked : e.entry_type.is_status_entry ≡ false) where
-      pub join_room : count_in s k + 1 ≤ book_length
-      join_room = let g : count_in s k + length (e ∷ bookable es) ≤ book_length = (rw booked at h).1 in omega arith
-
-      pub join_one : (u : List ℕ) → u ≡ pushed_bytes s k e → count_in u k ≡ count_in s k + 1 → Joins u es
-      unfolding pushed_all
-      join_one u is n =
-          let g : (pushed_all (pushed_bytes s k e) k (bookable es) ≡ t) × (count_in s k + length (e ∷ bookable es) ≤ book_length) = rw booked at h in
-          (ap (λ (x : List ℕ). pushed_all x k (bookable es)) is ∙ g.0, omega (arith, g.1))
+-- all entries of a payload, by a walk from its first entry on
+pub join_begin : (s : List ℕ) (k : ℕ) (payload : Bor (List ℕ)) (w v : EntryWalk) → v ≡ w → (w.payload ≡ payload) × (w.offset ≡ 14)
+    → count_in s k + length (booked_entries payload.now) ≤ book_length
+    → Joins k (pushed_all s k (booked_entries payload.now)) s (entries_from v.payload.now v.offset)
+unfolding booked_entries status_entries entries_from
+join_begin s k payload w v same at room =
+    rw (same, at.0, at.1) (refl, room)

@@ -6,13 +6,13 @@ use mathlib.Core.Bool.{Bool, true, false}
 use mathlib.Core.List.{List}
 use mathlib.Core.Logic.{◌⊎◌, inl, inr, ⊎_elim}
 use native.Mathlib.Omega.{arith}
-use lib.Dec.{eqb}
+use lib.Dec.{eqb, ltb}
 use borrow.Author.Tests.{eqb-true, eqb-false, eq-eqb, ne_eqb, lt-ltb, le-ltb}
-use Rattle.std.specs.Prelude.{Some, None}
+use Rattle.std.specs.Prelude.{is_some, Some, None}
 use Rattle.octets.proofs.Order.{le_or_lt}
 use Rattle.types.specs.Codes.{pick}
 use Rattle.collector.specs.Rules.{heads, Account, Same, with_account}
-use Rattle.collector.specs.Layout.{node_in, find_of, slot_of, account_in, account_of, vacant_of, box_of}
+use Rattle.collector.specs.Layout.{node_in, find_of, slot_of, account_in, account_of, vacant_of, box_of, block_found}
 use Rattle.collector.proofs.BlockLaws.{Kept, node_kept, place_kept}
 
 pub eq_or_ne : (a b : ℕ) → (a ≡ b) ⊎ (a ≡ b → ⊥)
@@ -65,6 +65,32 @@ find_none s b f =
       ne_eqb (node_in s 2) b (f 2 (omega arith)),
       ne_eqb (node_in s 3) b (f 3 (omega arith)),
     )
+
+pub found_block : (k : ℕ) → k < heads → block_found k ≡ Some k
+found_block k h = rw (lt-ltb k heads h)
+
+-- what a block that was found says of its number, and none
+pub found_is : (k b : ℕ) → Some b ≡ block_found k → (k ≡ b) × (k < heads)
+found_is k b e =
+    ⊎_elim
+    (λ (out : heads ≤ k). let q : Some b ≡ None = rw (le-ltb k heads out) at e in let z : ◌≡◌ {A = ℕ} 0 1 = cc in absurd (omega arith))
+    (λ (below : k < heads). let q : Some b ≡ Some k = e ∙ found_block k below in let z : k ≡ b = cc in (z, below))
+    (le_or_lt heads k)
+
+pub found_not : (k : ℕ) → None ≡ block_found k → heads ≤ k
+found_not k e =
+    ⊎_elim
+    (λ (out : heads ≤ k). out)
+    (λ (below : k < heads). let q : None ≡ Some k = e ∙ found_block k below in let z : ◌≡◌ {A = ℕ} 0 1 = cc in absurd (omega arith))
+    (le_or_lt heads k)
+
+-- whether one was found
+pub found_any : (k : ℕ) (b : Bool) → b ≡ is_some (block_found k) → b ≡ ltb k heads
+found_any k b e = e ∙ either_way (ltb k heads)
+  where
+    either_way : (t : Bool) → is_some (pick t (Some k) None) ≡ t
+    either_way true = refl
+    either_way false = refl
 
 pub slot_find : (s : List ℕ) (i : ℕ) → 0 < i → slot_of s i ≡ find_of s i
 unfolding slot_of

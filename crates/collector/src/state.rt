@@ -65,6 +65,7 @@ impl Block {
         state[BLOCK_LEN * self.number + at] = octet;
     }
 
+    #[tactic(auto, unfolding(crate::specs::Layout::ea_in))]
     pub(crate) fn ea(self, state: &Collector) -> bool
         ensures { result ≡ ea_in state.now self }
     {
@@ -77,12 +78,14 @@ impl Block {
         self.set_octet(state, EA_AT, u8::from(ea));
     }
 
+    #[tactic(auto, unfolding(crate::specs::Layout::start_in))]
     pub(crate) fn start(self, state: &Collector) -> u8
         ensures { (result ≡ start_in state.now self) × (result < book_length) }
     {
         self.octet(state, START_AT) % PLACES
     }
 
+    #[tactic(auto, unfolding(crate::specs::Layout::count_in))]
     pub(crate) fn count(self, state: &Collector) -> u8
         ensures { (result ≡ count_in state.now self) × (result ≤ book_length) }
     {
@@ -97,6 +100,7 @@ impl Block {
     }
 
     // Gives the block to a node: EA 0 and an empty book.
+    #[tactic(auto, unfolding(crate::specs::Layout::placed_bytes))]
     pub(crate) fn place_node(self, state: &mut Collector, id: u8)
         ensures { state.new ≡ placed_bytes state.old self id }
     {
