@@ -15,10 +15,8 @@ use Rattle.error_entry.specs.declared.ErrorEntry.{ErrorEntry}
 use Rattle.collector.specs.Bounds.{BoxRun, fresh, registers, reads, takes, is_in, EachOnce, OfHeads, BoxBounds}
 use Rattle.collector.specs.Layout.{box_of}
 use Rattle.collector.specs.Rules.{Account, Box, Same, with_account, is_registered, register_vacant, register_answer, after_register, Said, account_answer, response_answer, read_answer, response_in, status_in, after_booking, after_response, take_answer, after_take}
-use Rattle.collector.specs.declared.ReadError.TheVariants.{Frame, NotStatusResponse, NotRegistered, BookFull}
 use Rattle.collector.specs.declared.ReadOutcome.TheVariants.{Booked, Known}
-use Rattle.collector.specs.declared.RegisterError.TheVariants.{IdOutOfRange, IdRegistered, Full}
-use Rattle.collector.specs.declared.TakeError.TheVariants as taking
+use Rattle.collector.specs.declared.RegisterError.TheVariants.{IdOutOfRange, Full}
 use Rattle.collector.proofs.Meaning.{book_bound}
 use Rattle.collector.specs.declared.RegisterError.{RegisterError}
 use Rattle.collector.specs.declared.TakeError.{TakeError}

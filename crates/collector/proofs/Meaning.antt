@@ -23,11 +23,9 @@ use Rattle.error_entry.specs.declared.ErrorEntry.{ErrorEntry}
 use Rattle.status_response.specs.Fields.{read_fields}
 use Rattle.collector.specs.Layout.{node_at, collector_length, block, node_in, find_of, slot_of, count_in, book_in, account_in, account_of, vacant_of, box_of, fresh_bytes, register_bytes, response_bytes, booking_bytes, booked_bytes, taken_bytes, take_bytes}
 use Rattle.collector.specs.Rules.{said_in, Said, heads, book_length, Account, Box, Same, fresh_box, with_account, register_answer, after_register, en_in, status_payload, book_answer, status_answer, response_answer, read_answer, booked_account, after_booking, after_response, request_frame, take_answer, without_first, after_take, response_in, status_in, booked_entries}
-use Rattle.collector.specs.declared.ReadError.TheVariants.{Frame, NotStatusResponse, NotRegistered, BookFull}
+use Rattle.collector.specs.declared.ReadError.TheVariants.{NotRegistered, BookFull}
 use Rattle.collector.specs.declared.ReadOutcome.TheVariants.{Booked, Known}
-use Rattle.collector.specs.declared.RegisterError.TheVariants.{IdOutOfRange, IdRegistered, Full}
 use Rattle.collector.specs.declared.RequestFields.{RequestFields}
-use Rattle.collector.specs.declared.TakeError.TheVariants as taking
 use Rattle.collector.proofs.AnswerLaws.{cn_low, register_bad, register_full, register_new, register_known, take_unknown, take_one, take_nothing}
 use Rattle.collector.proofs.BatchLaws.{booked_kept, booked_node, booked_place, booked_length}
 use Rattle.collector.proofs.BookLaws.{book_most, taken_kept, taken_node, book_taken, taken_ea, taken_length, book_length_lem}

@@ -1,5 +1,5 @@
 // A node's book: a ring of records.
-ghost use Rattle.std.specs.Prelude.{◌≡◌, ◌+◌, ◌≤◌, ◌<◌, length};
+ghost use Rattle.std.specs.Prelude.{not, ◌≡◌, ◌+◌, ◌≤◌, ◌<◌, length};
 ghost use Rattle.collector.specs.Layout.{count_in, start_in, entry_in, taken_bytes, pushed_bytes, pushed_all};
 ghost use Rattle.collector.specs.Rules.{said_in, book_length};
 
@@ -34,7 +34,9 @@ fn push(state: &mut Collector, block: Block, e: ErrorEntry)
 }
 
 // Whether an entry takes a place in the book: not where it shows a status.
-fn is_bookable(e: ErrorEntry) -> bool {
+fn takes_place(e: &ErrorEntry) -> bool
+    ensures { result ≡ not e.now.entry_type.is_status_entry }
+{
     !e.entry_type.is_status_entry
 }
 
@@ -42,7 +44,7 @@ fn is_bookable(e: ErrorEntry) -> bool {
 pub(crate) fn count_entries(payload: &[u8]) -> usize
     ensures { result ≡ length (said_in payload.now).entries }
 {
-    EntryWalk::new(payload).filter(|e| !e.entry_type.is_status_entry).count()
+    EntryWalk::new(payload).filter(takes_place).count()
 }
 
 // The entries of a payload that are to be booked join the book, in order.
@@ -51,7 +53,7 @@ pub(crate) fn push_entries(state: &mut Collector, block: Block, payload: &[u8])
     ensures { state.new ≡ pushed_all state.old block (said_in payload.now).entries }
 {
     for e in EntryWalk::new(payload) {
-        if !e.entry_type.is_status_entry {
+        if takes_place(&e) {
             push(state, block, e);
         }
     }

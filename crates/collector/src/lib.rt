@@ -166,7 +166,11 @@ pub fn is_registered(state: &Collector, id: NodeId) -> bool
 
 // Reads a frame: the batch of a registered node's StatusResponse goes into its book, whole but for status entries, unless
 // it is there already.
-pub fn read(state: &mut Collector, services: &Services, buffer: &[u8]) -> Result<ReadOutcome, ReadError>
+pub fn read(
+    state: &mut Collector,
+    services: &Services,
+    buffer: &[u8],
+) -> Result<ReadOutcome, ReadError>
     ensures { Reads services.now buffer.now result state.old state.new }
 {
     let Some(source) = hear(services, buffer)? else {

@@ -29,7 +29,11 @@ pub(crate) fn hear(services: &Services, buffer: &[u8]) -> Result<Option<NodeId>,
 }
 
 // Reads the StatusResponse of the node `source`.
-pub(crate) fn read_status(state: &mut Collector, source: u8, payload: &[u8]) -> Result<ReadOutcome, ReadError>
+pub(crate) fn read_status(
+    state: &mut Collector,
+    source: u8,
+    payload: &[u8],
+) -> Result<ReadOutcome, ReadError>
     ensures { ReadsStatus source payload.now result state.old state.new }
 {
     let Some(block) = slot(state, source) else {
@@ -40,14 +44,19 @@ pub(crate) fn read_status(state: &mut Collector, source: u8, payload: &[u8]) -> 
 }
 
 // Books what is to be booked of a payload with the bit EN: all of it, or nothing.
-fn book(state: &mut Collector, block: Block, en: bool, payload: &[u8]) -> Result<ReadOutcome, ReadError>
+fn book(
+    state: &mut Collector,
+    block: Block,
+    en: bool,
+    payload: &[u8],
+) -> Result<ReadOutcome, ReadError>
     ensures { Books block en payload.now result state.old state.new }
 {
     if en == block.ea(state) {
         return Ok(ReadOutcome::Known);
     }
     let n = count_entries(payload);
-    let free = (PLACES - block.count(state)) as usize;
+    let free = usize::from(PLACES - block.count(state));
     if free < n {
         return Err(ReadError::BookFull);
     }

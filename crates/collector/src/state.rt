@@ -96,7 +96,7 @@ impl Block {
     pub(crate) fn record_place(self, place: u8) -> usize
         ensures { (result ≡ record_place self place) × (result + record_length ≤ collector_length) }
     {
-        BLOCK_LEN * self.number + CONTROL_LEN + RECORD_LEN * ((place % PLACES) as usize)
+        BLOCK_LEN * self.number + CONTROL_LEN + RECORD_LEN * usize::from(place % PLACES)
     }
 
     // Gives the block to a node: EA 0 and an empty book.

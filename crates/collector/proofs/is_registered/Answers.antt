@@ -2,7 +2,6 @@
 -- Assumes nothing.
 use mathlib.Core.Bool.{Bool, true, false}
 use mathlib.Core.Path.{◌≡◌, refl, ap, ◌∙◌}
-use lib.Dec.{ltb}
 use Rattle.std.specs.Prelude.{Some, None, is_some}
 use Rattle.types.specs.Codes.{pick}
 use Rattle.collector.specs.Layout.{account_of}

@@ -13,7 +13,7 @@ use Rattle.std.proofs.lemmas.Iterator.Consumers.{count_from_yields_List, YieldsL
 use Rattle.error_entry.specs.declared.ErrorEntry.{ErrorEntry}
 use Rattle.status_response.specs.Steps.{entries_from, status_entries}
 use Rattle.status_response.specs.declared.walk.EntryWalk.{EntryWalk}
-use Rattle.collector.specs.Rules.{bookable, booked_entries}
+use Rattle.collector.specs.Rules.{booked_entries}
 use Rattle.collector.proofs.BookableLaws.{bookable_filter}
 use Rattle.collector.proofs.WalkLaws.{entries_few}
 use Rattle.collector.proofs.book.count_entries.Goals as goal

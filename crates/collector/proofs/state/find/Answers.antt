@@ -1,13 +1,11 @@
 -- `find` meets its contract.
 -- Assumes nothing.
-use Prim.Native.Nat.{ℕ, ◌≤◌, ◌<◌}
+use Prim.Native.Nat.{◌≤◌, ◌<◌}
 use mathlib.Core.Path.{◌≡◌, sym, ap, ◌∙◌}
 use mathlib.Core.Logic.{⊎_elim}
 use native.Mathlib.Omega.{arith}
-use borrow.Author.Tests.{lt-ltb}
 use Rattle.octets.proofs.Order.{le_or_lt}
 use Rattle.collector.specs.Layout.{node_in, block_found}
-use Rattle.collector.specs.Rules.{heads}
 use Rattle.collector.proofs.IdLaws.{find_first, find_none, found_block}
 use Rattle.collector.proofs.state.find.Goals as goal
 
