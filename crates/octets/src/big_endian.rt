@@ -9,12 +9,12 @@ pub fn get_u16_be(s: &[u8], at: usize) -> u16
     ensures { result ≡ be_at 2 at s.now }
 {
     let t = tail(s, at);
-    0x100 * (byte_at(t, 0) as u16) + (byte_at(t, 1) as u16)
+    u16::from_be_bytes([byte_at(t, 0), byte_at(t, 1)])
 }
 
 // The 2 octets of a number.
 pub fn u16_be(v: u16) -> [u8; 2]
     ensures { result ≡ be_bytes 2 v }
 {
-    [(v / 0x100 % 0x100) as u8, (v % 0x100) as u8]
+    v.to_be_bytes()
 }
