@@ -5,7 +5,7 @@ ghost use Rattle.codec.specs.PRes.{pres_of, pres_flags_of, read_pres};
 
 use crate::FrameAnswer;
 use frame::PowerlinkFrame;
-use octets::little_endian::get_u16_le;
+use octets::little_endian::get_le;
 use octets::slices::byte_at;
 use poll::pres::{EN, PResFlags, PResFrame, STATE_AT};
 use poll::{FIELDS_LEN, MS, RD};
@@ -36,7 +36,7 @@ pub fn judge(s: &[u8]) -> PResVerdict
     match NmtState::from_u8(s[STATE_AT]) {
         NmtStateAnswer::Unknown(b) => PResVerdict::NoState(b),
         NmtStateAnswer::Known(nmt_state) => {
-            let size = get_u16_le(s, 8);
+            let size: u16 = get_le(s, 8);
             let len = size as usize;
             if s.len() - FIELDS_LEN < len {
                 return PResVerdict::TooShort;

@@ -6,7 +6,7 @@ ghost use Rattle.codec.specs.SoC.{read_soc};
 use crate::FrameAnswer;
 use control::soc::{FIELDS_LEN, MC, PS, SocFlags, SocFrame};
 use frame::PowerlinkFrame;
-use octets::little_endian::{get_u32_le, get_u64_le};
+use octets::little_endian::get_le;
 use octets::slices::byte_at;
 use types::NodeId;
 use types::common::{NetTime, RelativeTime};
@@ -26,10 +26,10 @@ pub fn judge(s: &[u8]) -> SocVerdict
         return SocVerdict::TooShort;
     }
     let net_time = NetTime {
-        seconds: get_u32_le(&s[6..10], 0),
-        nanoseconds: get_u32_le(&s[10..14], 0),
+        seconds: get_le(&s[6..10], 0),
+        nanoseconds: get_le(&s[10..14], 0),
     };
-    SocVerdict::Read(net_time, RelativeTime(get_u64_le(&s[14..22], 0)))
+    SocVerdict::Read(net_time, RelativeTime(get_le(&s[14..22], 0)))
 }
 
 // The frame, or why it is refused.

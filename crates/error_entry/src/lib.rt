@@ -9,7 +9,7 @@ ghost use Rattle.types.specs.Modes.{mode_code};
 ghost use Rattle.section.specs.Write.{Writes};
 ghost use Rattle.error_entry.specs.Entry.{entry_length, entry_type_of, type_number, entry_of, entry_bytes, or_terminator, ReadsEntry};
 
-use octets::little_endian::{put_u16_le, put_u32_le, put_u64_le};
+use octets::little_endian::put_le;
 use section::WriteAnswer;
 use types::common::NetTime;
 use types::error_mode::ErrorEntryMode;
@@ -137,11 +137,11 @@ impl ErrorEntry {
         ensures { target.new ≡ sets target.old 0 (entry_bytes self) }
     {
         let entry_type = self.entry_type;
-        put_u16_le(target, 0, entry_type.to_u16());
-        put_u16_le(target, 2, self.error_code);
-        put_u32_le(target, 4, self.timestamp.seconds);
-        put_u32_le(target, 8, self.timestamp.nanoseconds);
-        put_u64_le(target, 12, self.additional_information);
+        put_le(target, 0, entry_type.to_u16());
+        put_le(target, 2, self.error_code);
+        put_le(target, 4, self.timestamp.seconds);
+        put_le(target, 8, self.timestamp.nanoseconds);
+        put_le(target, 12, self.additional_information);
     }
 }
 

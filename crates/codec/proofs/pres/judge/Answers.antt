@@ -13,10 +13,10 @@ pub returns-then-s : goal.returns-then-s
 returns-then-s c = search pres-laws
 
 pub returns-then-s-len : goal.returns-then-s-len
-returns-then-s-len c = let k = payload_cut _ _ _ c.get_u16_le-size.ensures (omega arith) in search pres-laws
+returns-then-s-len c = let k = payload_cut _ _ _ c.get_le-size.ensures (omega arith) in search pres-laws
 
 pub returns-in-Unknown : goal.returns-in-Unknown
 returns-in-Unknown c = search pres-laws
 
 pub returns-else-s-len : goal.returns-else-s-len
-returns-else-s-len c = let k = payload_fits _ _ _ c.get_u16_le-size.ensures (omega arith) in search pres-laws
+returns-else-s-len c = let k = payload_fits _ _ _ c.get_le-size.ensures (omega arith) in search pres-laws
