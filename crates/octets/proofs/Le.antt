@@ -8,7 +8,6 @@ use native.Mathlib.Omega.{arith}
 use lib.ListN.{length, take, drop, get_or, replicate, length-drop, length-replicate}
 use lib.Seq.{sets, take_all, take-nil, get_or-drop, take-append-le, drop-append-le}
 use Rattle.std.proofs.lemmas.List.{drop-replicate}
-use Rattle.std.specs.Int.{w16, from_be_bytes}
 use Rattle.octets.specs.Numbers.{le, le_at, le_bytes, be_at}
 use Rattle.octets.proofs.Sets.{sets_front}
 
@@ -41,10 +40,10 @@ bytes_back (suc n) v h =
     rw (bytes_back n (v / 256) k) (omega arith)
 
 -- two octets, high octet first, read from the tail that they start
-pub be_joined : (at v hi lo : ℕ) (s t : List ℕ) → t ≡ drop at s → hi ≡ get_or t 0 0 → lo ≡ get_or t 1 0 → v ≡ from_be_bytes w16 (hi ∷ lo ∷ []) → v ≡ be_at 2 at s
+pub be_joined : (at hi lo : ℕ) (s t : List ℕ) → t ≡ drop at s → hi ≡ get_or t 0 0 → lo ≡ get_or t 1 0 → 256 * hi + lo ≡ be_at 2 at s
 unfolding be_at
-be_joined at v hi lo s t et eh el ev =
-    ev ∙ rw (eh, el, et, get_or-drop 1 (drop at s) 0 0) (omega arith)
+be_joined at hi lo s t et eh el =
+    rw (eh, el, et, get_or-drop 1 (drop at s) 0 0) (omega arith)
 
 -- octets with others behind them
 pub number_front : (n at : ℕ) (s rest : List ℕ) → at + n ≤ length s → le_at n at (s ++ rest) ≡ le_at n at s
