@@ -64,5 +64,5 @@ pub fn unnamed(e: PowerlinkError, needed: usize, len: usize, octet: &mut u8) -> 
 pub fn padded_len(least: usize, used: usize) -> usize
     ensures { result ≡ max least used }
 {
-    if used < least { least } else { used }
+    least.max(used)
 }
