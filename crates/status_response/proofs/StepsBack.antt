@@ -83,6 +83,10 @@ unfolding status_entries
 steps_back n s h =
     walked_is s n 14 ∙ bound_free n (length s) (drop 14 s) (simp length-drop (omega arith)) (simp length-drop (omega arith))
 
+pub walk_back : (s : List ℕ) → entries_from s 14 ≡ status_entries s
+unfolding entries_from status_entries
+walk_back s = refl
+
 -- the terminator's zeros end the list
 zeros_end : (n : ℕ) (behind : List ℕ) → entries_in (suc n) (replicate 20 0 ++ behind) ≡ []
 unfolding entry_of entry_type_of le_at mode_in

@@ -92,6 +92,7 @@ fn write_list(entries: &[ErrorEntry], target: &mut [u8]) -> Result<usize, Powerl
 }
 
 // Writes the payload of a StatusResponse, if it fits: what stands in front last, so that a refusal has touched nothing.
+// The fields and the error field come apart, as who answers and C have them: a struct of both would be made for the call alone.
 pub fn serialize(
     fields: StatusFields,
     field: StaticErrorBitField,
@@ -105,8 +106,7 @@ pub fn serialize(
     Ok(len)
 }
 
-// The same as `serialize`, of the first `n` entries of a batch: whoever calls it needs no slice of entries. A batch that has
-// fewer is too short.
+// The same as `serialize`, of the first `n` entries of a batch. A batch that has fewer is too short.
 pub fn serialize_batch(
     fields: StatusFields,
     field: StaticErrorBitField,
