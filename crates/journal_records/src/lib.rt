@@ -46,7 +46,7 @@ pub fn write(node: NodeId, entry: ErrorEntry, target: &mut [u8]) -> Result<usize
     if !valid(node, entry) {
         return Err(JournalError::RecordInvalid);
     }
-    entry.serialize(&mut target[1..]);
+    let _ = entry.serialize(&mut target[1..]);
     target[0] = node.0;
     Ok(JOURNAL_RECORD_LEN)
 }
@@ -55,15 +55,7 @@ pub fn write(node: NodeId, entry: ErrorEntry, target: &mut [u8]) -> Result<usize
 fn valid(node: NodeId, entry: ErrorEntry) -> bool
     ensures { result ≡ valid_record node.0 entry }
 {
-    let entry_type = entry.entry_type;
-    let mode = entry_type.mode;
-    if !node.is_cn() {
-        return false;
-    }
-    if mode.is_terminator() {
-        return false;
-    }
-    true
+    node.is_cn() && !entry.entry_type.mode.is_terminator()
 }
 
 // How many octets of a journal are its mark, its version and whole records. A writer that was stopped, by a power cut say, may

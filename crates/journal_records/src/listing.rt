@@ -1,6 +1,6 @@
 // The listing of a journal, part by part: a journal may be longer than any buffer, and a record may lie across two
 // parts. What is not consumed of a part goes in front of the next one.
-ghost use Rattle.std.specs.Prelude.{◌≡◌, length};
+ghost use Rattle.std.specs.Prelude.{◌≡◌, length, Err};
 ghost use Rattle.journal_records.specs.Parts.{Lists, Prints, list_cause, answer_after, told, refusal, header_step, record_step, step_of};
 ghost use Rattle.journal_records.specs.Parts.{later as Parts·later, awaits as Parts·awaits, ended as Parts·ended, stopped as Parts·stopped};
 
@@ -17,9 +17,6 @@ const HEADER_LINE_LEN: usize = 37;
 
 // The octets of the longest line. With room for fewer nothing is listed.
 pub const LINE_MAX: usize = 55;
-
-// The number where nothing is refused.
-const NOT_REFUSED: u8 = 0;
 
 // What the octets to come are.
 #[derive(Clone, Copy, Debug, PartialEq, Eq)]
@@ -102,13 +99,8 @@ fn later(answer: Result<Stop, ListError>) -> Result<Stop, ListError>
     ensures { result ≡ Parts·later answer }
 {
     match answer {
-        Ok(Stop::More) => Ok(Stop::More),
-        Ok(Stop::Full) => Ok(Stop::Full),
-        Ok(Stop::End) => Ok(Stop::End),
         Err(ListError::BufferTooShort) => Ok(Stop::Full),
-        Err(ListError::NotAJournal) => Err(ListError::NotAJournal),
-        Err(ListError::UnknownVersion) => Err(ListError::UnknownVersion),
-        Err(ListError::RecordInvalid) => Err(ListError::RecordInvalid),
+        _ => answer,
     }
 }
 
@@ -171,15 +163,15 @@ fn header(bytes: &[u8], out: &mut [u8]) -> Part
     ensures { Prints (header_step bytes.now) result out.old out.new }
 {
     if bytes.len() < JOURNAL_START_LEN {
-        return refuse(Err(ListError::NotAJournal), Phase::Header, out);
+        return refuse(ListError::NotAJournal, Phase::Header, out);
     }
     let mark = has_mark(bytes, *b"PLB");
     let known = get_u16_le(bytes, 3) == VERSION;
     if !mark {
-        return refuse(Err(ListError::NotAJournal), Phase::Header, out);
+        return refuse(ListError::NotAJournal, Phase::Header, out);
     }
     if !known {
-        return refuse(Err(ListError::UnknownVersion), Phase::Header, out);
+        return refuse(ListError::UnknownVersion, Phase::Header, out);
     }
     put(out, 0, b"node code mode profile sec nsec info\n");
     Part {
@@ -194,13 +186,12 @@ fn header(bytes: &[u8], out: &mut [u8]) -> Part
 fn record(bytes: &[u8], out: &mut [u8]) -> Part
     ensures { Prints (record_step bytes.now) result out.old out.new }
 {
-    if bytes.len() < JOURNAL_RECORD_LEN {
-        return refuse(Err(ListError::RecordInvalid), Phase::Records, out);
-    }
+    let Ok(entry) = ErrorEntry::deserialize(tail(bytes, 1)) else {
+        return refuse(ListError::RecordInvalid, Phase::Records, out);
+    };
     let node = NodeId(bytes[0]);
-    let entry = ErrorEntry::deserialize(tail(bytes, 1)).or_terminator();
     if !valid(node, entry) {
-        return refuse(Err(ListError::RecordInvalid), Phase::Records, out);
+        return refuse(ListError::RecordInvalid, Phase::Records, out);
     }
     let written = put_line(node, entry, out);
     Part {
@@ -212,13 +203,13 @@ fn record(bytes: &[u8], out: &mut [u8]) -> Part
 }
 
 // The line of a refusal, with its number.
-fn refuse(answer: Result<Stop, ListError>, phase: Phase, out: &mut [u8]) -> Part
-    ensures { Prints (refusal answer phase) result out.old out.new }
+fn refuse(error: ListError, phase: Phase, out: &mut [u8]) -> Part
+    ensures { Prints (refusal error phase) result out.old out.new }
 {
     put(out, 0, b"refused ");
-    let written = put_number(cause(answer) as u32, b'\n', 8, out);
+    let written = put_number(cause(error) as u32, b'\n', 8, out);
     Part {
-        answer,
+        answer: Err(error),
         phase,
         consumed: 0,
         written,
@@ -226,16 +217,13 @@ fn refuse(answer: Result<Stop, ListError>, phase: Phase, out: &mut [u8]) -> Part
 }
 
 // 01's number.
-fn cause(answer: Result<Stop, ListError>) -> u8
-    ensures { result ≡ (list_cause answer).number }
+fn cause(error: ListError) -> u8
+    ensures { result ≡ (list_cause (Err error)).number }
 {
-    match answer {
-        Ok(Stop::More) => NOT_REFUSED,
-        Ok(Stop::Full) => NOT_REFUSED,
-        Ok(Stop::End) => NOT_REFUSED,
-        Err(ListError::BufferTooShort) => TOO_SHORT,
-        Err(ListError::NotAJournal) => NOT_A_JOURNAL,
-        Err(ListError::UnknownVersion) => UNKNOWN_VERSION,
-        Err(ListError::RecordInvalid) => RECORD_INVALID,
+    match error {
+        ListError::BufferTooShort => TOO_SHORT,
+        ListError::NotAJournal => NOT_A_JOURNAL,
+        ListError::UnknownVersion => UNKNOWN_VERSION,
+        ListError::RecordInvalid => RECORD_INVALID,
     }
 }

@@ -13,6 +13,6 @@ use Rattle.journal_records.proofs.listing.refuse.Goals as goal
 pub returns : goal.returns
 unfolding refused_line
 returns c =
-    prints_text {p = refusal c.args.answer c.args.phase}
+    prints_text {p = refusal c.args.error c.args.phase}
     (put_next {text = 114 ∷ 101 ∷ 102 ∷ 117 ∷ 115 ∷ 101 ∷ 100 ∷ 32 ∷ []} (record { next = refl; holds = c.put.ensures })
     (put_as c.put_number-written.ensures.0 (ap (λ (n : ℕ). decimal n ++ 10 ∷ []) c.cause.ensures)))
