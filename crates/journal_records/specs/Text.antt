@@ -3,6 +3,7 @@
 use Rattle.std.specs.Prelude.{ℕ, zero, suc, ◌+◌, ◌/◌, ◌%◌, ◌≡◌, List, [], ◌∷◌, ◌++◌, length, ltb}
 use Rattle.std.proofs.lemmas.List.Edits.{sets}
 use Rattle.types.specs.Codes.{pick}
+use Rattle.journal_records.specs.declared.text.Line.{Line}
 
 -- a digit below 16: `0` to `9`, then `A` to `F`
 unfoldable pub digit : ℕ → ℕ
@@ -36,3 +37,7 @@ place_most = 100
 pub record Puts (text : List ℕ) (at r : ℕ) (out after : List ℕ) : Type 0 where
   pub next : r ≡ at + length text
   pub holds : after ≡ sets out at text
+
+-- a line's text grows by this one
+abbrev pub Adds : List ℕ → Line → Line → Type 0
+Adds text before after = Puts text before.len after.len before.out.now after.out.now

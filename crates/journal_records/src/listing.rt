@@ -4,16 +4,13 @@ ghost use Rattle.std.specs.Prelude.{◌≡◌, length, Err};
 ghost use Rattle.journal_records.specs.Parts.{Lists, Prints, list_cause, answer_after, told, refusal, header_step, record_step, step_of};
 ghost use Rattle.journal_records.specs.Parts.{later as Parts·later, awaits as Parts·awaits, ended as Parts·ended, stopped as Parts·stopped};
 
-use crate::text::{put_line, put_number};
+use crate::text::{Line, put_line};
 use crate::{JOURNAL_RECORD_LEN, JOURNAL_START_LEN, VERSION, valid};
 use error_entry::ErrorEntry;
 use octets::little_endian::get_u16_le;
-use octets::slices::{has_mark, put, tail};
+use octets::slices::{has_mark, tail};
 use types::NodeId;
 use types::causes::{NOT_A_JOURNAL, RECORD_INVALID, TOO_SHORT, UNKNOWN_VERSION};
-
-// The octets of the header's line.
-const HEADER_LINE_LEN: usize = 37;
 
 // The octets of the longest line. With room for fewer nothing is listed.
 pub const LINE_MAX: usize = 55;
@@ -173,12 +170,13 @@ fn header(bytes: &[u8], out: &mut [u8]) -> Part
     if !known {
         return refuse(ListError::UnknownVersion, Phase::Header, out);
     }
-    put(out, 0, b"node code mode profile sec nsec info\n");
+    let mut line = Line::new(out);
+    line.text(b"node code mode profile sec nsec info\n");
     Part {
         answer: Ok(Stop::More),
         phase: Phase::Records,
         consumed: JOURNAL_START_LEN,
-        written: HEADER_LINE_LEN,
+        written: line.len,
     }
 }
 
@@ -206,13 +204,14 @@ fn record(bytes: &[u8], out: &mut [u8]) -> Part
 fn refuse(error: ListError, phase: Phase, out: &mut [u8]) -> Part
     ensures { Prints (refusal error phase) result out.old out.new }
 {
-    put(out, 0, b"refused ");
-    let written = put_number(cause(error) as u32, b'\n', 8, out);
+    let mut line = Line::new(out);
+    line.text(b"refused ");
+    line.number(cause(error) as u32, b'\n');
     Part {
         answer: Err(error),
         phase,
         consumed: 0,
-        written,
+        written: line.len,
     }
 }
 
