@@ -4,16 +4,16 @@ use Prim.Native.Nat.{ℕ, zero, suc, ◌+◌, ◌-◌, ◌/◌, ◌%◌, ◌^◌
 use mathlib.Core.Bool.{Bool, true, false}
 use mathlib.Core.Path.{◌≡◌, refl, sym, ap, ◌∙◌}
 use mathlib.Core.List.{List, [], ◌∷◌, ◌++◌}
-use native.Mathlib.Nat.{mod-eq_of_lt, div-lt_iff_lt-mul, pow-suc, add-suc, not-suc-le-zero}
+use native.Mathlib.Nat.{mod-eq_of_lt, div-lt_iff_lt-mul, pow-suc}
 use native.Mathlib.Numerals.{add-one, sub-one}
 use native.Mathlib.Omega.{arith}
 use lib.Dec.{ltb}
-use lib.ListN.{length, set, length-append}
-use lib.Seq.{sets, set_comm}
+use lib.ListN.{length, length-append}
 use borrow.Author.Tests.{lt-ltb, le-ltb}
 use Rattle.octets.proofs.Sets.{sets_append}
 use Rattle.types.specs.Codes.{pick}
-use Rattle.journal_records.specs.Text.{Puts, digit, hex, decimal_in, decimal}
+use Rattle.journal_records.specs.declared.text.Line.{Line}
+use Rattle.journal_records.specs.Text.{Adds, Puts, digit, hex, decimal_in, decimal}
 
 -- ---- decimal
 
@@ -83,9 +83,6 @@ hex_more (suc k) n f = rw sub-one
 
 -- ---- texts as they are stored
 
-pub put_none : {at : ℕ} {out : List ℕ} → Puts [] at at out out
-put_none = record { next = omega arith; holds = refl }
-
 -- the front of a buffer
 pub put_first : {text : List ℕ} {at r : ℕ} {out front after : List ℕ} → (at ≡ 0) × (front ≡ out) → Puts text at r front after → Puts text 0 r out after
 put_first e p = rw (← e.0, ← e.1) p
@@ -105,3 +102,15 @@ module _ {text : List ℕ} {at r : ℕ} {out front : List ℕ} (p : Puts text at
   -- what is left in the buffer is what the line has put there
   pub put_left : {after : List ℕ} → after ≡ front → Puts text at r out after
   put_left e = rw e p
+
+-- ---- how a line grows
+
+pub adds_none : {line : Line} → Adds [] line line
+adds_none = record { puts = record { next = omega arith; holds = refl }; same_reference = refl }
+
+module _ {text : List ℕ} {line grown : Line} (a : Adds text line grown) where
+  pub adds_next : {more : List ℕ} {after : Line} → Adds more grown after → Adds (text ++ more) line after
+  adds_next b = record { puts = put_next a.puts b.puts; same_reference = b.same_reference ∙ a.same_reference }
+
+  pub adds_as : {same : List ℕ} → text ≡ same → Adds same line grown
+  adds_as e = rw e at a

@@ -29,7 +29,7 @@ joined [] = 10 ∷ []
 joined (t ∷ []) = t ++ 10 ∷ []
 joined (t ∷ u ∷ ts) = t ++ 32 ∷ joined (u ∷ ts)
 
--- a place up to which a column may begin: no line is as long
+-- how long a line may be: none of a listing is as long
 abbrev pub place_most : ℕ
 place_most = 100
 
@@ -38,6 +38,7 @@ pub record Puts (text : List ℕ) (at r : ℕ) (out after : List ℕ) : Type 0 w
   pub next : r ≡ at + length text
   pub holds : after ≡ sets out at text
 
--- a line's text grows by this one
-abbrev pub Adds : List ℕ → Line → Line → Type 0
-Adds text before after = Puts text before.len after.len before.out.now after.out.now
+-- a line's text grows by this one, in the same buffer
+pub record Adds (text : List ℕ) (before after : Line) : Type 0 where
+  pub puts : Puts text before.len after.len before.out.now after.out.now
+  pub same_reference : after.out.ghost_name ≡ before.out.ghost_name

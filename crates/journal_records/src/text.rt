@@ -25,8 +25,7 @@ impl<'a> Line<'a> {
 
     pub(crate) fn text(&mut self, text: &[u8])
         requires { self.old.len + length text.now ≤ place_most }
-        ensures same_reference { self.new.out.ghost_name ≡ self.old.out.ghost_name }
-        ensures adds { Adds text.now self.old self.new }
+        ensures { Adds text.now self.old self.new }
     {
         put(self.out, self.len, text);
         self.len += text.len();
@@ -34,8 +33,7 @@ impl<'a> Line<'a> {
 
     fn octet(&mut self, b: u8)
         requires { self.old.len ≤ place_most }
-        ensures same_reference { self.new.out.ghost_name ≡ self.old.out.ghost_name }
-        ensures adds { Adds (b ∷ []) self.old self.new }
+        ensures { Adds (b ∷ []) self.old self.new }
     {
         if self.len < self.out.len() {
             self.out[self.len] = b;
@@ -46,8 +44,7 @@ impl<'a> Line<'a> {
     // The digits in front of the last are those of a tenth.
     fn decimal(&mut self, v: u32)
         requires { self.old.len + 10 ≤ place_most }
-        ensures same_reference { self.new.out.ghost_name ≡ self.old.out.ghost_name }
-        ensures adds { Adds (decimal v) self.old self.new }
+        ensures { Adds (decimal v) self.old self.new }
     {
         if v < 10 {
             self.octet(b'0' + v as u8);
@@ -60,8 +57,7 @@ impl<'a> Line<'a> {
     // As many hexadecimal digits: those in front of the last are those of a sixteenth.
     fn hex(&mut self, v: u64, digits: usize)
         requires { self.old.len + digits ≤ place_most }
-        ensures same_reference { self.new.out.ghost_name ≡ self.old.out.ghost_name }
-        ensures adds { Adds (hex digits v) self.old self.new }
+        ensures { Adds (hex digits v) self.old self.new }
     {
         if digits == 0 {
             return;
@@ -73,7 +69,6 @@ impl<'a> Line<'a> {
     // A column, and what ends it.
     pub(crate) fn number(&mut self, v: u32, end: u8)
         requires { self.old.len + 10 ≤ place_most }
-        ensures same_reference { self.new.out.ghost_name ≡ self.old.out.ghost_name }
         ensures adds { Adds (decimal v ++ end ∷ []) self.old self.new }
         ensures short { self.new.len ≤ self.old.len + 11 }
     {
@@ -83,7 +78,6 @@ impl<'a> Line<'a> {
 
     fn code(&mut self, v: u64, digits: usize, end: u8)
         requires { self.old.len + digits ≤ place_most }
-        ensures same_reference { self.new.out.ghost_name ≡ self.old.out.ghost_name }
         ensures adds { Adds (hex digits v ++ end ∷ []) self.old self.new }
         ensures short { self.new.len ≤ self.old.len + digits + 1 }
     {

@@ -31,4 +31,4 @@ returns c =
     prints_as
     (header_good _ c.if-bytes-lt-JOURNAL_START_LEN.false (sym c.has_mark-mark.ensures ∙ c.if-not-mark.false)
     (sym c.get_u16_le-known.ensures ∙ c.if-not-known.false))
-    (prints_text (put_left (put_first c.new-line.ensures.empty c.text.ensures.adds) (search rules)))
+    (prints_text (put_left (put_first c.new-line.ensures.empty c.text.ensures.puts) (search rules)))

@@ -1,7 +1,6 @@
 -- `record` meets its contract.
 -- Assumes nothing.
 use mathlib.Core.Path.{sym, ap, ◌∙◌}
-use native.Mathlib.Omega.{arith}
 use Rattle.journal_records.specs.Listing.{fields_line}
 use Rattle.journal_records.specs.Record.{valid_record}
 use Rattle.journal_records.proofs.StepLaws.{entry_cut, entry_read, record_cut, record_fault, record_good, prints_as, prints_text}

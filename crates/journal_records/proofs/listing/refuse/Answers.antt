@@ -16,6 +16,6 @@ unfolding refused_line
 returns c =
     prints_text {p = refusal c.args.error c.args.phase}
     (put_left
-    (put_next {text = 114 ∷ 101 ∷ 102 ∷ 117 ∷ 115 ∷ 101 ∷ 100 ∷ 32 ∷ []} (put_first c.new-line.ensures.empty c.text.ensures.adds)
-    (put_as c.number.ensures.adds (ap (λ (n : ℕ). decimal n ++ 10 ∷ []) c.cause.ensures)))
+    (put_next {text = 114 ∷ 101 ∷ 102 ∷ 117 ∷ 115 ∷ 101 ∷ 100 ∷ 32 ∷ []} (put_first c.new-line.ensures.empty c.text.ensures.puts)
+    (put_as c.number.ensures.adds.puts (ap (λ (n : ℕ). decimal n ++ 10 ∷ []) c.cause.ensures)))
     (search rules))
