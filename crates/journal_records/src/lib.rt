@@ -52,6 +52,7 @@ pub fn write(node: NodeId, entry: ErrorEntry, target: &mut [u8]) -> Result<usize
 }
 
 // Whether a record holds an entry of a controlled node.
+#[tactic(auto, unfolding(crate::specs::Record::valid_record))]
 fn valid(node: NodeId, entry: ErrorEntry) -> bool
     ensures { result ≡ valid_record node.0 entry }
 {

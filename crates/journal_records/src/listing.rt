@@ -82,6 +82,7 @@ pub fn list_part(phase: Phase, bytes: &[u8], last: bool, out: &mut [u8]) -> Part
 }
 
 // The answer in all, of a last step that consumed nothing.
+#[tactic(auto, unfolding(crate::specs::Parts::answer_after))]
 fn answer_after(consumed: usize, answer: Result<Stop, ListError>) -> Result<Stop, ListError>
     ensures { result ≡ answer_after consumed answer }
 {
@@ -122,6 +123,7 @@ fn step(phase: Phase, bytes: &[u8], last: bool, out: &mut [u8]) -> Part
 }
 
 // Whether octets have to come behind `n` before anything is told of them.
+#[tactic(auto, unfolding(crate::specs::Parts::awaits, crate::specs::Listing::version1))]
 fn awaits(phase: Phase, n: usize, last: bool) -> bool
     ensures { result ≡ Parts·awaits phase n last }
 {
@@ -135,6 +137,7 @@ fn awaits(phase: Phase, n: usize, last: bool) -> bool
 }
 
 // Whether a journal may end with `n` octets left.
+#[tactic(auto, unfolding(crate::specs::Parts::ended))]
 fn ended(phase: Phase, n: usize) -> bool
     ensures { result ≡ Parts·ended phase n }
 {

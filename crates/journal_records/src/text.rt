@@ -86,6 +86,7 @@ impl<'a> Line<'a> {
     }
 }
 
+#[tactic(auto, unfolding(crate::specs::Text::digit))]
 fn digit(d: u8) -> u8
     requires { d < 16 }
     ensures { result ≡ Text·digit d }
