@@ -62,6 +62,7 @@ fn valid(node: NodeId, entry: ErrorEntry) -> bool
 // How many octets of a journal are its mark, its version and whole records. A writer that was stopped, by a power cut say, may
 // leave a record torn at the end: before anything is appended, the journal is cut to this length. Else the records behind the
 // torn one are read from a wrong place, and faults are listed that nobody raised.
+#[tactic(auto, unfolding(crate::specs::Whole::whole_len, crate::specs::Listing::layout_of, crate::specs::Listing::version1))]
 pub fn whole_len(version: u16, len: usize) -> Result<usize, WholeLenError>
     ensures { TellsWhole version len result }
 {

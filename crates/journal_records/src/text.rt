@@ -42,6 +42,7 @@ impl<'a> Line<'a> {
     }
 
     // The digits in front of the last are those of a tenth.
+    #[tactic(auto, using(crate::proofs::TextLaws::decimal_ten))]
     fn decimal(&mut self, v: u32)
         requires { self.old.len + 10 ≤ place_most }
         ensures { Adds (decimal v) self.old self.new }
@@ -55,6 +56,7 @@ impl<'a> Line<'a> {
     }
 
     // As many hexadecimal digits: those in front of the last are those of a sixteenth.
+    #[tactic(auto, using(crate::proofs::TextLaws::hex_length))]
     fn hex(&mut self, v: u64, digits: usize)
         requires { self.old.len + digits ≤ place_most }
         ensures { Adds (hex digits v) self.old self.new }
@@ -67,6 +69,7 @@ impl<'a> Line<'a> {
     }
 
     // A column, and what ends it.
+    #[tactic(auto, using(crate::proofs::TextLaws::decimal_ten))]
     pub(crate) fn number(&mut self, v: u32, end: u8)
         requires { self.old.len + 10 ≤ place_most }
         ensures adds { Adds (decimal v ++ end ∷ []) self.old self.new }
@@ -76,6 +79,7 @@ impl<'a> Line<'a> {
         self.octet(end);
     }
 
+    #[tactic(auto, using(crate::proofs::TextLaws::hex_length))]
     fn code(&mut self, v: u64, digits: usize, end: u8)
         requires { self.old.len + digits ≤ place_most }
         ensures adds { Adds (hex digits v ++ end ∷ []) self.old self.new }

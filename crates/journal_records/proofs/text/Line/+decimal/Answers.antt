@@ -2,15 +2,11 @@
 -- Assumes nothing.
 use mathlib.Core.Path.{sym}
 use native.Mathlib.Omega.{arith}
-use Rattle.journal_records.proofs.TextLaws.{decimal_one, decimal_more, decimal_ten, adds_as, adds_next}
+use Rattle.journal_records.proofs.TextLaws.{decimal_one, decimal_more, adds_as, adds_next}
 use Rattle.journal_records.proofs.text.Line.+decimal.Goals as goal
 
 pub returns-then-v-lt10 : goal.returns-then-v-lt10
 returns-then-v-lt10 t c = adds_as c.octet.ensures (sym (decimal_one _ c.if-v-lt10.true))
 
-pub octet-requires-2 : goal.octet-requires-2
-octet-requires-2 t c = omega (arith, c.decimal.ensures.puts.next, decimal_ten)
-
 pub returns : goal.returns
-returns t c =
-    adds_as (adds_next c.decimal.ensures c.octet-2.ensures) (sym (decimal_more _ c.if-v-lt10.false (omega arith)))
+returns t c = adds_as (adds_next c.decimal.ensures c.octet-2.ensures) (sym (decimal_more _ c.if-v-lt10.false (omega arith)))

@@ -3,15 +3,11 @@
 use Prim.Native.Nat.{ℕ}
 use mathlib.Core.List.{[], ◌∷◌}
 use mathlib.Core.Path.{ap}
-use native.Mathlib.Omega.{arith}
-use Rattle.journal_records.proofs.TextLaws.{hex_none, hex_more, hex_length, adds_none, adds_as, adds_next}
+use Rattle.journal_records.proofs.TextLaws.{hex_none, hex_more, adds_none, adds_as, adds_next}
 use Rattle.journal_records.proofs.text.Line.+hex.Goals as goal
 
 pub returns-then-digits-eq0 : goal.returns-then-digits-eq0
 returns-then-digits-eq0 t c = adds_as adds_none (hex_none _ _ c.if-digits-eq0.true)
-
-pub octet-requires : goal.octet-requires
-octet-requires t c = omega (arith, c.hex.ensures.puts.next, hex_length)
 
 pub returns : goal.returns
 returns t c =
