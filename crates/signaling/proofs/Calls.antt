@@ -22,11 +22,10 @@ use Rattle.codec.specs.Frame.{read_frame}
 use Rattle.error_entry.specs.declared.ErrorEntry.{ErrorEntry}
 use Rattle.reporter.specs.Rules.{Head, ea_for, ea_in_frame, ea_in_answer, acknowledge_answer, after_acknowledge, ea_told}
 use Rattle.collector.specs.Rules.{Said, book_length, Account, Box, register_vacant, register_answer, after_register, response_of_service, response_in_frame, response_in_answer, book_answer, status_answer, account_answer, en_in, booked_account, after_booking, after_response, request_answer, request_frame, as_request, after_request, take_first, take_answer, after_take, response_in, status_in}
-use Rattle.collector.specs.declared.ReadError.TheVariants as boxError
+use Rattle.collector.specs.declared.ReadError.TheVariants as refusal
 use Rattle.collector.specs.declared.ReadOutcome.TheVariants as box
-use Rattle.collector.specs.declared.RegisterError.TheVariants.{IdOutOfRange, IdRegistered, Full}
+use Rattle.collector.specs.declared.RegisterError.TheVariants.{IdOutOfRange}
 use Rattle.collector.specs.declared.RequestFields.{RequestFields}
-use Rattle.collector.specs.declared.TakeError.TheVariants as taking
 use Rattle.signaling.specs.Calls.{NotFrom, source_of, node, ea_of}
 use Rattle.signaling.proofs.Facts.{clash, either}
 use Rattle.signaling.proofs.Frames.{request_reads}
@@ -35,7 +34,7 @@ use Rattle.types.specs.declared.hal.PowerlinkError.{PowerlinkError}
 use Rattle.status_response.specs.declared.fields.StatusFields.{StatusFields}
 use Rattle.collector.specs.declared.RegisterError.{RegisterError}
 use Rattle.collector.specs.declared.TakeError.{TakeError}
-use Rattle.collector.specs.declared.ReadOutcome.{ReadOutcome}
+use Rattle.collector.specs.declared.ReadOutcome.{ReadOutcome as BoxOutcome}
 use Rattle.collector.specs.declared.ReadError.{ReadError}
 
 -- ---- writing
@@ -54,7 +53,7 @@ written_frame bs target n e = written_by bs target n (leb (length bs) (length ta
 -- ---- the head reads
 
 -- what is not from node 240 says nothing to a head
-far : (i source target : ℕ) (ea : Bool) → (source ≡ 240 → ⊥) → ea_for i source target ea ≡ Ok None
+far : (i source target : ℕ) (ea : Bool) → (source ≡ 240 → ⊥) → ea_for i source target ea ≡ None
 unfolding ea_for
 far i source target ea ne = rw (ne_eqb source 240 ne)
 
@@ -93,7 +92,7 @@ requested_frame j f (some p) target n e =
 
 -- a request for j is heard by j alone
 module _ (services : List ℕ) (i j : ℕ) (f : RequestFields) (ea : Bool) (six : length f.source_mac.0 ≡ 6) where
-  heard_as : ea_told services i (request_frame j f ea) ≡ need (eqb j i) (Ok None) (Ok (Some ea))
+  heard_as : ea_told services i (request_frame j f ea) ≡ Ok (need (eqb j i) None (Some ea))
   unfolding ea_for
   heard_as = rw (request_reads services j f ea six)
 
@@ -111,7 +110,7 @@ pub record WhyBooked (said : Said) (o : Option Account) : Type 0 where
   pub fresh : beq (en_in said.fields) place.ea ≡ false
   pub room : length place.book + length said.entries ≤ book_length
 
-booked_by : (same fits : Bool) → (Ok box.Booked) ≡ pick same (Ok box.Known) (need fits (Err boxError.BookFull) (Ok box.Booked)) → (same ≡ false) × (fits ≡ true)
+booked_by : (same fits : Bool) → (Ok box.Booked) ≡ pick same (Ok box.Known) (need fits (Err refusal.BookFull) (Ok box.Booked)) → (same ≡ false) × (fits ≡ true)
 booked_by true fits e = clash cc
 booked_by false true e = (refl, refl)
 booked_by false false e = clash cc
@@ -150,14 +149,11 @@ module _ (i : ℕ) (said : Said) (b : Box) where
   booking_elsewhere (Ok f) ne = frame_elsewhere f ne
 
 -- what is not from node i leaves its place
-pub read_elsewhere : (services : List ℕ) (i : ℕ) (bs : List ℕ) (b : Box) (r : Result ReadOutcome ReadError) → NotFrom i (read_frame services bs)
+pub read_elsewhere : (services : List ℕ) (i : ℕ) (bs : List ℕ) (b : Box) (r : Result BoxOutcome ReadError) → NotFrom i (read_frame services bs)
     → (after_response services r bs b).accounts i ≡ b.accounts i
 read_elsewhere services i bs b (Ok box.Booked) ne = booking_elsewhere i (status_in bs) b (read_frame services bs) ne
 read_elsewhere services i bs b (Ok box.Known) ne = refl
-read_elsewhere services i bs b (Err (boxError.Frame e)) ne = refl
-read_elsewhere services i bs b (Err boxError.NotStatusResponse) ne = refl
-read_elsewhere services i bs b (Err boxError.NotRegistered) ne = refl
-read_elsewhere services i bs b (Err boxError.BookFull) ne = refl
+read_elsewhere services i bs b (Err e) ne = refl
 
 -- an answer of node i that is booked
 pub read_here : (services : List ℕ) (i : ℕ) (bs : List ℕ) (b : Box) → response_in services bs ≡ Ok (Some (node i))
@@ -182,21 +178,18 @@ was_free j b e = registered_by (leb 1 j && leb j 239) (b.accounts j) b.vacant e
 -- registering makes no difference in EA and book
 pub register_same : (i j : ℕ) (b : Box) (r : Result Unit RegisterError) → r ≡ register_answer j b
     → (ea_of ((after_register r j b).accounts i) ≡ ea_of (b.accounts i)) × (book_of ((after_register r j b).accounts i) ≡ book_of (b.accounts i))
-register_same i j b (Ok tt) e =
+register_same i j b (Ok _) e =
     either (eqb i j)
     (λ here.
     let same : i ≡ j = eqb-true i j here in
     let free : b.accounts i ≡ none = rw same (was_free j b e) in
     (rw (here, free), rw (here, free)))
     (λ away. (rw away, rw away))
-register_same i j b (Err IdOutOfRange) e = (refl, refl)
-register_same i j b (Err IdRegistered) e = (refl, refl)
-register_same i j b (Err Full) e = (refl, refl)
+register_same i j b (Err x) e = (refl, refl)
 
 pub take_elsewhere : (i j : ℕ) (b : Box) (r : Result ErrorEntry TakeError) → eqb j i ≡ false → (after_take r j b).accounts i ≡ b.accounts i
 take_elsewhere i j b (Ok e) ne = rw (ne_eqb i j (λ y. eqb-false j i ne (sym y)))
-take_elsewhere i j b (Err taking.NotRegistered) ne = refl
-take_elsewhere i j b (Err taking.NothingBooked) ne = refl
+take_elsewhere i j b (Err x) ne = refl
 
 pub record WhyTaken (e : ErrorEntry) (o : Option Account) : Type 0 where
   pub place : Account

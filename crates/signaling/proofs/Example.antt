@@ -18,7 +18,7 @@ use Rattle.reporter.specs.declared.RaiseError.TheVariants.{EntryInvalid, StatusE
 use Rattle.reporter.specs.declared.ReadOutcome.TheVariants.{Closed, Kept, Ignored}
 use Rattle.collector.specs.Layout.{box_of, fresh_bytes}
 use Rattle.collector.specs.Rules.{Account, fresh_account, register_answer, book_answer, read_answer, request_frame}
-use Rattle.collector.specs.declared.ReadError.TheVariants as boxError
+use Rattle.collector.specs.declared.ReadError.TheVariants as refusal
 use Rattle.collector.specs.declared.ReadOutcome.TheVariants as box
 use Rattle.signaling.specs.Calls.{sent, foreign, Event, raised, answered, head_read, registered, box_read, requested, taken, hosted, Log, World, Run, fresh, call}
 use Rattle.signaling.specs.Example.{entry, shown, five, house, LossAndRepeat, Onward, here, further}
@@ -67,9 +67,9 @@ answered_twice = answer_of first ∷ answer_of first ∷ all_raised
 abbrev pub twice_read : Log
 twice_read =
     box_read ds301 (sent 1) with_other (Ok box.Known) ∷ box_read house (sent 1) with_two (Ok box.Booked)
-    ∷ box_read ds301 foreign house_frame (Err (boxError.Frame (InvalidServiceId 0x20)))
-    ∷ box_read house foreign house_frame (Err boxError.NotStatusResponse)
-    ∷ box_read ds301 foreign pres_frame (Err boxError.NotStatusResponse)
+    ∷ box_read ds301 foreign house_frame (Err (refusal.Frame (InvalidServiceId 0x20)))
+    ∷ box_read house foreign house_frame (Err refusal.NotStatusResponse)
+    ∷ box_read ds301 foreign pres_frame (Err refusal.NotStatusResponse)
     ∷ answered_twice
 
 -- the first request is lost
@@ -148,9 +148,9 @@ module _ {v : World} where
       (next
       (next
       (next
-      (next r (λ s b k. passing k ds301 foreign pres_frame (Err boxError.NotStatusResponse) (pres_far ds301).0 (rw (pres_other ds301)) (λ A x y. refl)))
-      (λ s b k. passing k house foreign house_frame (Err boxError.NotStatusResponse) (house_far house) (rw house_other) (λ A x y. refl)))
-      (λ s b k. passing k ds301 foreign house_frame (Err (boxError.Frame (InvalidServiceId 0x20))) (house_far ds301) (rw house_refused) (λ A x y. refl)))
+      (next r (λ s b k. passing k ds301 foreign pres_frame (Err refusal.NotStatusResponse) (pres_far ds301).0 (rw (pres_other ds301)) (λ A x y. refl)))
+      (λ s b k. passing k house foreign house_frame (Err refusal.NotStatusResponse) (house_far house) (rw house_other) (λ A x y. refl)))
+      (λ s b k. passing k ds301 foreign house_frame (Err (refusal.Frame (InvalidServiceId 0x20))) (house_far ds301) (rw house_refused) (λ A x y. refl)))
       (λ s b k.
       booking k with_two first (says_arrived two_arrive first_says) refl house 1
       (answer_frame fields first, (omega arith, ap some (sent_whole (answer_frame fields first))), two_arrive) two_octets refl))

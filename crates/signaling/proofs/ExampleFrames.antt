@@ -34,7 +34,7 @@ use Rattle.poll.specs.PRes.{new_pres}
 use Rattle.frame.specs.Write.{frame_bytes}
 use Rattle.frame.specs.declared.PowerlinkFrame.TheVariants.{PReq, PRes, ASnd}
 use Rattle.codec.specs.ASnd.{read_asnd}
-use Rattle.codec.specs.Frame.{kind_in, read_section, read_frame, deserialize_frame}
+use Rattle.codec.specs.Frame.{kind_in, read_section, read_frame}
 use Rattle.error_entry.specs.Entry.{type_number, entry_of, entry_bytes}
 use Rattle.error_entry.specs.declared.ErrorEntry.{ErrorEntry}
 use Rattle.status_response.specs.BitField.{field_bytes}
@@ -43,7 +43,7 @@ use Rattle.status_response.specs.Steps.{status_bytes, status_entries}
 use Rattle.error_entry.proofs.ReadBack.{entries_read_back}
 use Rattle.records.proofs.RecordLaws.{bytes_length}
 use Rattle.frame_laws.proofs.HeaderBack.{section_back}
-use Rattle.frame_laws.proofs.ReadBack.{frames_read_back}
+use Rattle.frame_laws.proofs.ReadBack.{frame_read, frames_read_back}
 use Rattle.reporter.specs.Calls.{Numbers, AnswerSizes}
 use Rattle.reporter.specs.Rules.{Head, fresh_head, is_raisable, answer_payload, answer_frame, ea_for, ea_told}
 use Rattle.reporter.specs.declared.AnswerFields.{AnswerFields}
@@ -201,10 +201,11 @@ pres_frame = frame_bytes other.eth_header (PRes other.frame) []
 
 module _ (services : List ℕ) where
   pres_reads : read_frame services pres_frame ≡ Ok (PRes other.frame)
-  unfolding other pres_frame deserialize_frame
+  unfolding other pres_frame
   pres_reads =
+      frame_read
       (frames_read_back.reads services other.eth_header (PRes other.frame) [] (record { destination = refl; source = refl; ethertype = refl })
-      (refl, (omega arith, (refl, omega arith)))).frame
+      (refl, (omega arith, (refl, omega arith))))
 
   pub pres_far : NotFrom 7 (read_frame services pres_frame) × NotFrom 240 (read_frame services pres_frame)
   unfolding other
@@ -257,11 +258,12 @@ pub preq_frame : Bool → List ℕ
 preq_frame ea = frame_bytes (poll ea).eth_header (PReq (poll ea).frame) []
 
 pub hears_host : (services : List ℕ) (ea : Bool) → ea_told services 7 (preq_frame ea) ≡ Ok (Some ea)
-unfolding poll preq_frame deserialize_frame ea_for
+unfolding poll preq_frame ea_for
 hears_host services ea =
     rw
+    (frame_read
     (frames_read_back.reads services (poll ea).eth_header (PReq (poll ea).frame) []
-    (record { destination = refl; source = refl; ethertype = refl }) (refl, omega arith)).frame
+    (record { destination = refl; source = refl; ethertype = refl }) (refl, omega arith)))
 
 pub hears_not : (services : List ℕ) (ea : Bool) → ea_told services 7 (request_frame 9 asked ea) ≡ Ok None
 unfolding asked

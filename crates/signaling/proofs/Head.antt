@@ -13,7 +13,6 @@ use Rattle.types.specs.Codes.{pick}
 use Rattle.error_entry.specs.declared.ErrorEntry.{ErrorEntry}
 use Rattle.reporter.specs.Calls.{Numbers}
 use Rattle.reporter.specs.Rules.{with_new_batch, queue_length, batch_length, Head, is_raisable, raise_by, raise_answer, after_raise, is_empty, opens, opened, ea_answer, acknowledge_answer, after_acknowledge, ea_told}
-use Rattle.reporter.specs.declared.RaiseError.TheVariants.{EntryInvalid, StatusEntry, QueueFull}
 use Rattle.reporter.specs.declared.ReadOutcome.TheVariants.{Closed, Kept}
 use Rattle.collector.specs.Rules.{en_in}
 use Rattle.signaling.specs.Calls.{sent, raised, answered, Tally, on_entries, on_answers, on_requests, on_ruled, accepts, sends, gives, becomes, answers, adds}
@@ -81,9 +80,7 @@ module _ {i : ℕ} {ea : Bool} {book : List ErrorEntry} {c : Tally} (t : Inv i e
 
   pub raise_keeps : (e : ErrorEntry) (r : Result Unit RaiseError) → r ≡ raise_answer e h → Numbers e → Inv i ea book (adds i (raised e r) c)
   raise_keeps e (Ok _) a n = rw (← a) (raise_joins e (raisable e h a) n)
-  raise_keeps e (Err EntryInvalid) a n = rw (← a) t
-  raise_keeps e (Err StatusEntry) a n = rw (← a) t
-  raise_keeps e (Err QueueFull) a n = rw (← a) t
+  raise_keeps e (Err x) a n = rw (← a) t
 
   -- ---- Answer
 
@@ -178,7 +175,7 @@ module _ {i : ℕ} {ea : Bool} {book : List ErrorEntry} {c : Tally} (t : Inv i e
         → Inv i ea book (on_requests (gives (sent q)) (on_ruled (becomes (λ g. after_acknowledge (pick b (Ok Closed) (Ok Kept)) g)) c))
     head_by x false me e = head_passes
     head_by x true me e =
-        head_closes (me ∙ ap heard.Ea (sym (beq_true h.en x (both (not (is_empty h.batch)) (beq h.en x) e).1)))
+        head_closes (me ∙ ap (λ y. Ok (Some y)) (sym (beq_true h.en x (both (not (is_empty h.batch)) (beq h.en x) e).1)))
 
     pub head_reads_lem : (s : Result (Option Bool) PowerlinkError) → ea_told services i bs ≡ s → Inv i ea book (on_requests (gives (sent q)) (on_ruled (becomes (λ g. after_acknowledge (acknowledge_answer s g) g)) c))
     unfolding ea_answer

@@ -33,6 +33,7 @@ use Rattle.reporter.specs.declared.RaiseError.{RaiseError}
 use Rattle.reporter.specs.declared.ReadOutcome.{ReadOutcome}
 use Rattle.types.specs.declared.hal.PowerlinkError.{PowerlinkError}
 use Rattle.collector.specs.declared.ReadError.{ReadError}
+use Rattle.collector.specs.declared.ReadOutcome.{ReadOutcome as BoxOutcome}
 
 abbrev pub world : List ℕ → List ℕ → Log → World
 world s b l = record { head = s; box = b; log = l }
@@ -162,7 +163,7 @@ module _ {i : ℕ} {s b : List ℕ} {l : Log} {h : Head} {p : Account} (k : Know
   -- ---- the box's calls
 
   -- a frame that is not booked
-  pub passing : (services : List ℕ) (o : Origin) (bs : List ℕ) (r : Result ReadOutcome ReadError) → Reaches services i o bs (tally i l).answers
+  pub passing : (services : List ℕ) (o : Origin) (bs : List ℕ) (r : Result BoxOutcome ReadError) → Reaches services i o bs (tally i l).answers
       → read_answer services bs (box_of b) ≡ r
       → ((A : Type 0) (x y : A) → when_booked r x y ≡ y)
       → Next i s b l (box_read services o bs r) h p

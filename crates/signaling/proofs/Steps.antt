@@ -18,11 +18,8 @@ use Rattle.reporter.proofs.AnyTable.{answer_writes}
 use Rattle.collector.specs.Calls as collector
 use Rattle.collector.specs.Layout.{box_of, account_of}
 use Rattle.collector.specs.Rules.{Account, read_answer, request_frame, status_in}
-use Rattle.collector.specs.declared.ReadError.TheVariants as boxError
 use Rattle.collector.specs.declared.ReadOutcome.TheVariants as box
-use Rattle.collector.specs.declared.RequestError.TheVariants as requesting
 use Rattle.collector.specs.declared.RequestFields.{RequestFields}
-use Rattle.collector.specs.declared.TakeError.TheVariants as taking
 use Rattle.signaling.specs.Calls.{Origin, sent, foreign, Event, answered, head_read, box_read, requested, taken, tally, ruled, hears, Delivered, Reaches, Tells, node, World, Step, raise, answer, head_reads, register, box_reads, request, takes, hosts, Run, fresh, call, ea_of}
 use Rattle.signaling.proofs.Arriving.{reads_sent}
 use Rattle.signaling.proofs.Facts.{either, beq_false, at_lt}
@@ -38,6 +35,7 @@ use Rattle.error_entry.specs.declared.ErrorEntry.{ErrorEntry}
 use Rattle.collector.specs.declared.TakeError.{TakeError}
 use Rattle.reporter.specs.declared.ReadOutcome.{ReadOutcome}
 use Rattle.collector.specs.declared.ReadError.{ReadError}
+use Rattle.collector.specs.declared.ReadOutcome.{ReadOutcome as BoxOutcome}
 
 module _ {i : ℕ} {w : World} (t : Held i w) where
   abbrev h : Head
@@ -78,7 +76,7 @@ module _ {i : ℕ} {w : World} (t : Held i w) where
   -- ---- the box's calls
 
   -- what reaches the box is read as what was sent
-  pub read_as_sent : (services : List ℕ) (p : ℕ) (bs : List ℕ) (r : Result ReadOutcome ReadError) (after : List ℕ)
+  pub read_as_sent : (services : List ℕ) (p : ℕ) (bs : List ℕ) (r : Result BoxOutcome ReadError) (after : List ℕ)
       → (d : Reaches services i (sent p) bs (tally i w.log).answers)
       → collector.Reads services bs r w.box after
       → collector.Reads services d.0 r w.box after
@@ -96,18 +94,15 @@ module _ {i : ℕ} {w : World} (t : Held i w) where
       (box_books inv p bs d.0 d.1 services (beq_false _ _ y.fresh) y.room)
 
   -- an answer as it was sent
-  sent_keeps : (services : List ℕ) (p : ℕ) (bs : List ℕ) (r : Result ReadOutcome ReadError) (after : List ℕ)
+  sent_keeps : (services : List ℕ) (p : ℕ) (bs : List ℕ) (r : Result BoxOutcome ReadError) (after : List ℕ)
       → Delivered services i (sent p) bs (tally i w.log).answers
       → collector.Reads services bs r w.box after
       → Inv i (ea_of (account_of after i)) (book_of (account_of after i)) (tally i (box_read services (sent p) bs r ∷ w.log))
   sent_keeps services p bs (Ok box.Booked) after d c = books services p bs after d c
   sent_keeps services p bs (Ok box.Known) after d c = rw (c.box.accounts i) (box_passes t.inv p bs d.0 d.1)
-  sent_keeps services p bs (Err (boxError.Frame e)) after d c = rw (c.box.accounts i) (box_passes t.inv p bs d.0 d.1)
-  sent_keeps services p bs (Err boxError.NotStatusResponse) after d c = rw (c.box.accounts i) (box_passes t.inv p bs d.0 d.1)
-  sent_keeps services p bs (Err boxError.NotRegistered) after d c = rw (c.box.accounts i) (box_passes t.inv p bs d.0 d.1)
-  sent_keeps services p bs (Err boxError.BookFull) after d c = rw (c.box.accounts i) (box_passes t.inv p bs d.0 d.1)
+  sent_keeps services p bs (Err e) after d c = rw (c.box.accounts i) (box_passes t.inv p bs d.0 d.1)
 
-  box_read_keeps : (services : List ℕ) (from : Origin) (bs : List ℕ) (r : Result ReadOutcome ReadError) (after : List ℕ)
+  box_read_keeps : (services : List ℕ) (from : Origin) (bs : List ℕ) (r : Result BoxOutcome ReadError) (after : List ℕ)
       → Reaches services i from bs (tally i w.log).answers
       → collector.Reads services bs r w.box after
       → Inv i (ea_of (account_of after i)) (book_of (account_of after i)) (tally i (box_read services from bs r ∷ w.log))
@@ -133,15 +128,13 @@ module _ {i : ℕ} {w : World} (t : Held i w) where
   request_keeps : (j : ℕ) (f : RequestFields) (r : Result ℕ RequestError) (target written : List ℕ)
       → collector.Requests (node j) f r w.box target written
       → Inv i (ea_of o) (book_of o) (tally i (requested j r written ∷ w.log))
-  request_keeps j f (Err requesting.NotRegistered) target written c = t.inv
-  request_keeps j f (Err (requesting.Frame e)) target written c = t.inv
+  request_keeps j f (Err e) target written c = t.inv
   request_keeps j f (Ok n) target written c =
       request_sends t.inv (take n written) (request_says j f n target written c)
 
   take_here : (r : Result ErrorEntry TakeError) (after : List ℕ) → collector.Takes (node i) r w.box after
       → Inv i (ea_of (account_of after i)) (book_of (account_of after i)) (tally i (taken i r ∷ w.log))
-  take_here (Err taking.NotRegistered) after c = rw (c.box.accounts i, eq-eqb i i refl) t.inv
-  take_here (Err taking.NothingBooked) after c = rw (c.box.accounts i, eq-eqb i i refl) t.inv
+  take_here (Err x) after c = rw (c.box.accounts i, eq-eqb i i refl) t.inv
   take_here (Ok e) after c =
       let y = why_taken e o c.answer in
       let inv : Inv i y.place.ea y.place.book (tally i w.log) = rw y.known at t.inv in

@@ -23,7 +23,7 @@ use Rattle.reporter.specs.declared.RaiseError.TheVariants.{EntryInvalid, StatusE
 use Rattle.reporter.specs.declared.ReadOutcome.TheVariants as head
 use Rattle.collector.specs.Calls as collector
 use Rattle.collector.specs.Layout.{account_of}
-use Rattle.collector.specs.declared.ReadError.TheVariants as boxError
+use Rattle.collector.specs.declared.ReadError.TheVariants as refusal
 use Rattle.collector.specs.declared.ReadOutcome.TheVariants as box
 use Rattle.signaling.specs.Arrival.{put_in}
 use Rattle.signaling.specs.Calls.{Origin, sent, foreign, Event, raised, answered, head_read, registered, box_read, requested, taken, hosted, Log, tally, accepted, handed_out, answers_sent, is_booked, ruled, World, Reaches, Tells, Step, Run, Drained}
@@ -35,6 +35,7 @@ use Rattle.collector.specs.declared.RequestError.{RequestError}
 use Rattle.collector.specs.declared.TakeError.{TakeError}
 use Rattle.reporter.specs.declared.ReadOutcome.{ReadOutcome}
 use Rattle.collector.specs.declared.ReadError.{ReadError}
+use Rattle.collector.specs.declared.ReadOutcome.{ReadOutcome as BoxOutcome}
 
 abbrev pub example_entry : Bool → ErrorEntryMode → ℕ → ErrorEntry
 example_entry status mode code =
@@ -72,7 +73,7 @@ pub data Call : Type 0 where
   answers : Result ℕ PowerlinkError → Call
   by_head : List ℕ → Origin → Result ReadOutcome PowerlinkError → Call
   registers : ℕ → Result Unit RegisterError → Call
-  by_box : List ℕ → Origin → Result ReadOutcome ReadError → Call
+  by_box : List ℕ → Origin → Result BoxOutcome ReadError → Call
   requests : ℕ → Result ℕ RequestError → Call
   takes : ℕ → Result ErrorEntry TakeError → Call
   hosts : Call
@@ -117,8 +118,8 @@ answered_twice = answers (Ok 132) ∷ answers (Ok 132) ∷ []
 -- each with status entries of its own put in
 abbrev pub read_twice : List Call
 read_twice =
-    by_box ds301 foreign (Err boxError.NotStatusResponse) ∷ by_box house foreign (Err boxError.NotStatusResponse)
-    ∷ by_box ds301 foreign (Err (boxError.Frame (InvalidServiceId 0x20)))
+    by_box ds301 foreign (Err refusal.NotStatusResponse) ∷ by_box house foreign (Err refusal.NotStatusResponse)
+    ∷ by_box ds301 foreign (Err (refusal.Frame (InvalidServiceId 0x20)))
     ∷ by_box house (sent 1) (Ok box.Booked)
     ∷ by_box ds301 (sent 1) (Ok box.Known)
     ∷ []
@@ -147,8 +148,8 @@ pub record LossAndRepeat : Type 0 where
   pub made : calls w.log ≡ at_start ++ (five_raised ++ (answered_twice ++ (read_twice ++ (first_closed ++ (second_closed ++ one_taken)))))
   -- the ASnd of service 20h: under both tables it is the same frame
   pub asnd : List ℕ
-  pub held : get_elem? w.log 14 ≡ some (box_read house foreign asnd (Err boxError.NotStatusResponse))
-  pub unheld : get_elem? w.log 13 ≡ some (box_read ds301 foreign asnd (Err (boxError.Frame (InvalidServiceId 0x20))))
+  pub held : get_elem? w.log 14 ≡ some (box_read house foreign asnd (Err refusal.NotStatusResponse))
+  pub unheld : get_elem? w.log 13 ≡ some (box_read ds301 foreign asnd (Err (refusal.Frame (InvalidServiceId 0x20))))
   -- answer 1: when the box books it, status entries stand before its first and behind its second entry; in its repeat another one behind the last
   pub answer : List ℕ
   pub is_sent : get_elem? (answers_sent 7 w.log) 1 ≡ some answer

@@ -22,7 +22,7 @@ unfolding marked
 returns-then-not-known c =
     prints_as
     (header_version _ c.if-bytes-lt-JOURNAL_START_LEN.false (sym c.has_mark-mark.ensures ∙ c.if-not-mark.false)
-    (λ e. c.if-not-known.true (c.get_u16_le-known.ensures ∙ e)))
+    (λ e. c.if-not-known.true (c.get_le-known.ensures ∙ e)))
     c.refuse-then-not-known.ensures
 
 pub returns : goal.returns
@@ -30,5 +30,5 @@ unfolding marked version1 header_line
 returns c =
     prints_as
     (header_good _ c.if-bytes-lt-JOURNAL_START_LEN.false (sym c.has_mark-mark.ensures ∙ c.if-not-mark.false)
-    (sym c.get_u16_le-known.ensures ∙ c.if-not-known.false))
+    (sym c.get_le-known.ensures ∙ c.if-not-known.false))
     (prints_text (put_left (put_first c.new-line.ensures.empty c.text.ensures.puts) (search rules)))
