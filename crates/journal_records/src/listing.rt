@@ -7,7 +7,7 @@ ghost use Rattle.journal_records.specs.Parts.{later as Parts·later, awaits as P
 use crate::text::{put_line, put_number};
 use crate::{JOURNAL_RECORD_LEN, JOURNAL_START_LEN, VERSION, valid};
 use error_entry::ErrorEntry;
-use octets::little_endian::get_u16_le;
+use octets::little_endian::get_le;
 use octets::slices::{has_mark, put, tail};
 use types::NodeId;
 use types::causes::{NOT_A_JOURNAL, RECORD_INVALID, TOO_SHORT, UNKNOWN_VERSION};
@@ -174,7 +174,7 @@ fn header(bytes: &[u8], out: &mut [u8]) -> Part
         return refuse(Err(ListError::NotAJournal), Phase::Header, out);
     }
     let mark = has_mark(bytes, *b"PLB");
-    let known = get_u16_le(bytes, 3) == VERSION;
+    let known = get_le::<_, u16>(bytes, 3) == VERSION;
     if !mark {
         return refuse(Err(ListError::NotAJournal), Phase::Header, out);
     }

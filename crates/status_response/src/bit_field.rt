@@ -18,7 +18,7 @@ pub struct StaticErrorBitField {
 pub const FIELD_LEN: usize = 8;
 
 impl StaticErrorBitField {
-    // The field that 8 octets are.
+    // The field that 8 octets are. This and `to_bytes` are no `From`: their names say which end of a conversion is octets.
     pub fn from_bytes(octets: &[u8; FIELD_LEN]) -> StaticErrorBitField
         ensures { result ≡ field_of octets.now }
     {

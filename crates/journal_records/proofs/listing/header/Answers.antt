@@ -20,7 +20,7 @@ unfolding marked
 returns-then-not-known c =
     prints_as
     (header_version _ c.if-bytes-lt-JOURNAL_START_LEN.false (sym c.has_mark-mark.ensures ∙ c.if-not-mark.false)
-    (λ e. c.if-not-known.true (c.get_u16_le-known.ensures ∙ e)))
+    (λ e. c.if-not-known.true (c.get_le-known.ensures ∙ e)))
     c.refuse-then-not-known.ensures
 
 pub returns : goal.returns
@@ -28,5 +28,5 @@ unfolding marked version1 header_line
 returns c =
     prints_as
     (header_good _ c.if-bytes-lt-JOURNAL_START_LEN.false (sym c.has_mark-mark.ensures ∙ c.if-not-mark.false)
-    (sym c.get_u16_le-known.ensures ∙ c.if-not-known.false))
+    (sym c.get_le-known.ensures ∙ c.if-not-known.false))
     (record { answer = refl; holds = c.put.ensures })
