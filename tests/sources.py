@@ -7,7 +7,7 @@ IMPL = re.compile(r'^impl(?:<[^{>]*>)? (?:(?P<of>\w+(?:<[^{]*>)?) for )?(?P<owne
 TRAIT = re.compile(r'^(?:pub )?trait (\w+).*?^}', re.M | re.S)
 # What a trait's function gives, where the trait has a member for it.
 GIVES = re.compile(r'^    ghost (\w+)_gives = (?=\{)', re.M)
-FUNCTION = re.compile(r'^[ \t]*(pub(?:\(\w+\))? )?(?:const )?(?:extern "C" )?fn (\w+)(?:<[^(]*>)?(?=\()', re.M)
+FUNCTION = re.compile(r'^[ \t]*(pub(?:\(\w+\))? )?(?:const )?(?:extern "C" )?fn (\w+)(?:<(?:[^<>]|<[^<>]*>)*>)?(?=\()', re.M)
 RESULT = re.compile(r'\s*(?:->\s*([^{]*?))?\s*(?=\{|\brequires\b|\bensures\b)')
 # A clause, with its name where it has one.
 CLAUSE = re.compile(r'\s*(requires|ensures)\*? (?:\w+ )?(?=\{)')
