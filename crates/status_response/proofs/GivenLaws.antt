@@ -71,6 +71,15 @@ group_put s t u batch few whole o eb eu =
     ∙ ap (λ (es : List ErrorEntry). sets t front_length (entries_bytes es)) (take_all (length (take n batch)) (take n batch) (omega arith) ∙ is)
     ∙ ap (sets t front_length) (entries_octets n s (omega arith) o ∙ take_all (entry_length * n) s (omega arith))
 
+-- and four of them, which are the batch
+pub whole_put : (s t u : List ℕ) (batch : List ErrorEntry) → length s ≡ 80 → Octets s → batch ≡ batch_of 4 s
+    → u ≡ entries_put batch t (length batch) → u ≡ sets t front_length s
+whole_put s t u batch n o eb eu =
+    let count : length batch ≡ 4 = ap length eb in
+    let four : length s / 20 ≡ 4 = omega arith in
+    let all : take (length s / 20) batch ≡ batch = take_all (length s / 20) batch (omega arith) in
+    group_put s t u batch (omega arith) (omega arith) o eb (eu ∙ ap (λ (es : List ErrorEntry). entries_put es t (length es)) (sym all))
+
 -- up to k octets of a list, and those behind them
 parted : (k : ℕ) (l x rest : List ℕ) → l ≡ x ++ rest → length x ≡ min k (length l) → (x ≡ take k l) × (rest ≡ drop k l)
 parted k l x rest e n = split (le_or_lt k (length l))
