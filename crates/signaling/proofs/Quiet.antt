@@ -5,12 +5,11 @@ use mathlib.Core.Bool.{Bool, true, false}
 use mathlib.Core.Path.{◌≡◌, refl, ◌∙◌}
 use mathlib.Core.Logic.{◌⊎◌, inl, inr}
 use mathlib.Core.List.{List, [], ◌∷◌}
-use mathlib.Core.Option.{some}
 use native.Mathlib.Omega.{arith}
-use lib.ListN.{length, take, get_elem?, length-append}
+use lib.ListN.{length, take, length-append}
 use lib.Dec.{eqb}
 use borrow.Author.Tests.{eqb-true}
-use Rattle.std.specs.Prelude.{Result, Ok, Err, Some, None, Option}
+use Rattle.std.specs.Prelude.{Result, Ok, Err, Some, None, Option, slice_get}
 use Rattle.types.specs.Codes.{pick}
 use Rattle.types.specs.declared.NodeId.{NodeId}
 use Rattle.types.specs.declared.hal.PowerlinkError.{PowerlinkError}
@@ -128,10 +127,10 @@ shut h = with_batch [] h
 pub record Calm (i : ℕ) (w v : World) : Type 0 where
   pub head : ((head_in v ≡ head_in w) ⊎ (head_in v ≡ shut (head_in w))) ⊎ (head_in v ≡ opened (head_in w))
   pub bit : ea_of (place_for i v) ≡ ea_of (place_for i w)
-  pub answers : (p : ℕ) (a : List ℕ) → get_elem? (answers_sent i v.log) p ≡ some a
-      → (get_elem? (answers_sent i w.log) p ≡ some a) ⊎ Says a (head_in v)
-  pub requests : (q : ℕ) (f : List ℕ) → get_elem? (requests_sent i v.log) q ≡ some f
-      → (get_elem? (requests_sent i w.log) q ≡ some f) ⊎ Tells i w.box f
+  pub answers : (p : ℕ) (a : List ℕ) → slice_get (answers_sent i v.log) p ≡ Some a
+      → (slice_get (answers_sent i w.log) p ≡ Some a) ⊎ Says a (head_in v)
+  pub requests : (q : ℕ) (f : List ℕ) → slice_get (requests_sent i v.log) q ≡ Some f
+      → (slice_get (requests_sent i w.log) q ≡ Some f) ⊎ Tells i w.box f
 
 -- a Take leaves EA
 with_bit : (i j : ℕ) (p : Account) (b : Box) → p.ea ≡ ea_of (b.accounts j) → ea_of ((with_account j p b).accounts i) ≡ ea_of (b.accounts i)

@@ -6,9 +6,7 @@
 -- each reading has a table of services of its own (02, CR 1: "An error exchange under any loaded table books as before"): any octets, more
 -- than the 256 that a call can be lent, and others from call to call.
 -- Assumes nothing.
-use Rattle.std.specs.Prelude.{ℕ, suc, ◌≤◌, Bool, true, false, ◌||◌, ◌≡◌, List, [], ◌∷◌, ◌++◌, length, take, leb, eqb, Result, Ok, Err, Some, None, Option}
-use Rattle.std.proofs.Math.Option.{some}
-use Rattle.std.proofs.Math.ListN.{get_elem?}
+use Rattle.std.specs.Prelude.{ℕ, suc, ◌≤◌, Bool, true, false, ◌||◌, ◌≡◌, List, [], ◌∷◌, ◌++◌, length, take, leb, eqb, Result, Ok, Err, Some, None, Option, slice_get}
 use Rattle.types.specs.Codes.{pick}
 use Rattle.types.specs.Nodes.{managing_node}
 pub use Rattle.types.specs.Nodes.{node}
@@ -230,7 +228,7 @@ NotFrom i (Ok f) = source_of f ≡ i → ⊥
 
 -- what 01's line does to a frame: it neither alters nor reorders, so what is given is what was sent, at or behind the last place given
 abbrev pub Delivered : List ℕ → ℕ → Origin → List ℕ → Line → Type 0
-Delivered services i (sent p) bs l = (l.at ≤ p) × (get_elem? l.frames p ≡ some bs)
+Delivered services i (sent p) bs l = (l.at ≤ p) × (slice_get l.frames p ≡ Some bs)
 Delivered services i foreign bs l = NotFrom i (read_frame services bs)
 
 -- What reaches the box is what the line delivers, an answer with status entries put in (02, CR 2), at each repeat with others; none of them is
