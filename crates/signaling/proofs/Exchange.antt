@@ -8,7 +8,7 @@ use mathlib.Core.List.{List, ◌∷◌}
 use native.Mathlib.Omega.{arith}
 use lib.ListN.{length}
 use lib.Dec.{leb}
-use Rattle.std.specs.Prelude.{Result, Ok, Err, Some, Option, None, slice_get}
+use Rattle.std.specs.Prelude.{IsSome, Result, Ok, Err, Some, Option, None, slice_get}
 use Rattle.std.proofs.lemmas.Option.{slice_get_within}
 use Rattle.types.specs.declared.hal.PowerlinkError.{PowerlinkError}
 use Rattle.status_response.specs.declared.fields.StatusFields.{StatusFields}
@@ -29,7 +29,7 @@ use Rattle.signaling.proofs.Frames.{Says}
 use Rattle.signaling.proofs.Invariant.{Carries, head_in, place_for}
 use Rattle.signaling.proofs.Pending.{opened_twice, opened_fewer, head_hears, closed, AtMost, at_most_stays}
 use Rattle.signaling.proofs.Steps.{read_as_sent}
-use Rattle.signaling.proofs.Quiet.{IsPlace, NoRaise, Ready, goes_on_lem, shut, Calm, calm, quiet_raises_not, quietly, no_repeat, requested_stays}
+use Rattle.signaling.proofs.Quiet.{NoRaise, Ready, goes_on_lem, shut, Calm, calm, quiet_raises_not, quietly, no_repeat, requested_stays}
 
 -- ---- both ends, while nothing changes
 
@@ -81,10 +81,10 @@ first_steady {i} {w} {n} {bs} (answer services f r after target written c) y =
 
 module _ (said : Said) (f : StatusFields) (e : said.fields ≡ Ok f) where
   -- an answer that is not refused with 12 is known or booked
-  outcome : (o : Option Account) → IsPlace o → (account_answer said o ≡ Err refusal.BookFull → ⊥)
+  outcome : (o : Option Account) → IsSome o → (account_answer said o ≡ Err refusal.BookFull → ⊥)
       → ((account_answer said o ≡ Ok box.Known) × (ea_of o ≡ f.en_flag)) ⊎ (account_answer said o ≡ Ok box.Booked)
   unfolding book_answer
-  outcome None is found = absurd is
+  outcome None is found = clash cc
   outcome (Some p) is found =
       either (beq f.en_flag p.ea)
       (λ same. inl (rw (e, same), sym (beq_true f.en_flag p.ea same)))
@@ -94,13 +94,13 @@ module _ (said : Said) (f : StatusFields) (e : said.fields ≡ Ok f) where
       (λ full. absurd (found (rw (e, new, full)))))
 
   -- one that carries EA is known
-  known : (o : Option Account) → IsPlace o → ea_of o ≡ f.en_flag → account_answer said o ≡ Ok box.Known
+  known : (o : Option Account) → IsSome o → ea_of o ≡ f.en_flag → account_answer said o ≡ Ok box.Known
   unfolding book_answer
-  known None is same = absurd is
+  known None is same = clash cc
   known (Some p) is same = rw (e, same, beq_same f.en_flag)
 
-  booked_bit : (o : Option Account) → IsPlace o → (booked_account said o).ea ≡ f.en_flag
-  booked_bit None is = absurd is
+  booked_bit : (o : Option Account) → IsSome o → (booked_account said o).ea ≡ f.en_flag
+  booked_bit None is = clash cc
   booked_bit (Some p) is = rw e
 
 module _ (services : List ℕ) (i : ℕ) (h : Head) (bs : List ℕ) (b : Box) (says : Says bs h) (id : h.id ≡ i) where
@@ -112,7 +112,7 @@ module _ (services : List ℕ) (i : ℕ) (h : Head) (bs : List ℕ) (b : Box) (s
   box_says_lem = rw hears_me
 
   -- then its bit is EA
-  box_agrees : IsPlace (b.accounts i) → (read_answer services bs b ≡ Err refusal.BookFull → ⊥)
+  box_agrees : IsSome (b.accounts i) → (read_answer services bs b ≡ Err refusal.BookFull → ⊥)
       → ea_of ((after_response services (read_answer services bs b) bs b).accounts i) ≡ h.en
   box_agrees is found =
       let said = status_in bs in

@@ -9,7 +9,7 @@ use native.Mathlib.Omega.{arith}
 use lib.ListN.{length, take, length-append}
 use lib.Dec.{eqb}
 use borrow.Author.Tests.{eqb-true}
-use Rattle.std.specs.Prelude.{Result, Ok, Err, Some, None, Option, slice_get}
+use Rattle.std.specs.Prelude.{IsSome, Result, Ok, Err, Some, None, Option, slice_get}
 use Rattle.types.specs.Codes.{pick}
 use Rattle.types.specs.declared.NodeId.{NodeId}
 use Rattle.types.specs.declared.hal.PowerlinkError.{PowerlinkError}
@@ -36,33 +36,29 @@ use Rattle.signaling.proofs.Steps.{answer_says, request_says, keeps}
 
 -- ---- every call: a place stays
 
-abbrev pub IsPlace : Option Account → Type 0
-IsPlace None = ⊥
-IsPlace (Some p) = Unit {0}
+module _ (i : ℕ) (b : Box) (is : IsSome (b.accounts i)) where
+  with_stays : (j : ℕ) (p : Account) → IsSome ((with_account j p b).accounts i)
+  with_stays j p = either (eqb i j) (λ here. rw here refl) (λ away. rw away is)
 
-module _ (i : ℕ) (b : Box) (is : IsPlace (b.accounts i)) where
-  with_stays : (j : ℕ) (p : Account) → IsPlace ((with_account j p b).accounts i)
-  with_stays j p = either (eqb i j) (λ here. rw here tt) (λ away. rw away is)
-
-  register_stays : (j : ℕ) (r : Result Unit RegisterError) → IsPlace ((after_register r j b).accounts i)
+  register_stays : (j : ℕ) (r : Result Unit RegisterError) → IsSome ((after_register r j b).accounts i)
   register_stays j (Ok _) = with_stays j _
   register_stays j (Err x) = is
 
-  booking_stays : (s : Result (Option NodeId) PowerlinkError) (said : Said) → IsPlace ((after_booking s said b).accounts i)
+  booking_stays : (s : Result (Option NodeId) PowerlinkError) (said : Said) → IsSome ((after_booking s said b).accounts i)
   booking_stays (Err e) said = is
   booking_stays (Ok None) said = is
   booking_stays (Ok (Some source)) said = with_stays source.0 _
 
-  read_stays : (services bs : List ℕ) (r : Result BoxOutcome ReadError) → IsPlace ((after_response services r bs b).accounts i)
+  read_stays : (services bs : List ℕ) (r : Result BoxOutcome ReadError) → IsSome ((after_response services r bs b).accounts i)
   read_stays services bs (Ok box.Booked) = booking_stays (response_in services bs) (status_in bs)
   read_stays services bs (Ok box.Known) = is
   read_stays services bs (Err e) = is
 
-  take_stays : (j : ℕ) (r : Result ErrorEntry TakeError) → IsPlace ((after_take r j b).accounts i)
+  take_stays : (j : ℕ) (r : Result ErrorEntry TakeError) → IsSome ((after_take r j b).accounts i)
   take_stays j (Ok e) = with_stays j _
   take_stays j (Err x) = is
 
-place_stays : {i : ℕ} {w v : World} {x : Event} → Step i w x v → IsPlace (place_for i w) → IsPlace (place_for i v)
+place_stays : {i : ℕ} {w v : World} {x : Event} → Step i w x v → IsSome (place_for i w) → IsSome (place_for i v)
 place_stays (raise e r after c) y = y
 place_stays (answer services f r after target written c) y = y
 place_stays (head_reads services o bs r after d c) y = y
@@ -75,7 +71,7 @@ place_stays (hosts bs told) y = y
 -- the head is registered
 pub record Ready (i : ℕ) (w : World) : Type 0 where
   pub held : Held i w
-  pub place : IsPlace (place_for i w)
+  pub place : IsSome (place_for i w)
 
 pub goes_on_lem : {i : ℕ} {w v : World} {x : Event} → Step i w x v → Ready i w → Ready i v
 goes_on_lem s y = record { held = keeps y.held s; place = place_stays s y.place }
