@@ -4,16 +4,15 @@ use Prim.Native.Nat.{ℕ}
 use mathlib.Core.Bool.{Bool, true, false}
 use mathlib.Core.Path.{◌≡◌, refl, ap, ◌∙◌}
 use mathlib.Core.List.{List, [], ◌∷◌}
-use mathlib.Core.Option.{Option, none, some}
 use lib.ListN.{length}
 use lib.Dec.{eqb, leb}
-use Rattle.std.specs.Prelude.{Result, Ok, Err}
+use Rattle.std.specs.Prelude.{Result, Ok, Err, Option, Some, None}
 use Rattle.types.specs.Causes.{row, cause_of, error_told}
 use Rattle.types.specs.Codes.{need, pick}
 use Rattle.types.specs.declared.hal.PowerlinkError.{PowerlinkError}
 use Rattle.types.specs.declared.hal.PowerlinkError.TheVariants.{BufferTooShort, InvalidNmtState}
 use Rattle.section.specs.Write.{min_frame, write_answer, write_cause}
-use Rattle.types.proofs.CausesTell.{not_0, below_8, error_told_lem}
+use Rattle.types.proofs.CausesTell.{not_0, below_8, error_told_lem, no_0}
 use Rattle.error_entry.proofs.Values.{values_tell}
 use Rattle.reporter.specs.CausesTell.{raise_told, write_told, read_told}
 use Rattle.reporter.specs.Rules.{raise_cause, read_cause}
@@ -72,24 +71,24 @@ request_by false m r n n' o o' t = rw t.cause
 pub request_row : (j : ℕ) (f : RequestFields) (t : List ℕ) (p : Option rules.Account) (r n n' o o' : ℕ)
     → RowTold (rules.request_cause (rules.request_answer j f t p)) r n n' o o' → box.request_told (row r (n' ∷ [])) ≡ rules.request_answer j f t p
 unfolding write_answer
-request_row j f t none r n n' o o' y = rw y.cause
-request_row j f t (some p) r n n' o o' y =
+request_row j f t None r n n' o o' y = rw y.cause
+request_row j f t (Some p) r n n' o o' y =
     let bs = rules.request_frame j f p.ea in
     request_by (leb (length bs) (length t)) (length bs) r n n' o o' y
 
 -- ---- a code that names no state does not answer 0
 
-pub unnamed_number : (fits : Bool) (b : ℕ) → eqb (write_cause (need fits (Err BufferTooShort) (Err (InvalidNmtState b)))).number 0 ≡ false
-unnamed_number true b = refl
-unnamed_number false b = refl
+pub unnamed_number : (fits : Bool) (e : PowerlinkError) → eqb (write_cause (need fits (Err BufferTooShort) (Err e))).number 0 ≡ false
+unnamed_number true e = no_0 e
+unnamed_number false e = refl
 
-unasked_by : (fits : Bool) (b : ℕ) → eqb (rules.request_cause (rules.as_request (need fits (Err BufferTooShort) (Err (InvalidNmtState b))))).number 0 ≡ false
-unasked_by true b = refl
-unasked_by false b = refl
+unasked_by : (fits : Bool) (e : PowerlinkError) → eqb (rules.request_cause (rules.as_request (need fits (Err BufferTooShort) (Err e)))).number 0 ≡ false
+unasked_by true e = no_0 e
+unasked_by false e = refl
 
-pub unasked_number : (b : ℕ) (t : List ℕ) (p : Option rules.Account) → eqb (rules.request_cause (unasked b t p)).number 0 ≡ false
-unasked_number b t none = refl
-unasked_number b t (some p) = unasked_by (leb min_frame (length t)) b
+pub unasked_number : (e : PowerlinkError) (t : List ℕ) (p : Option rules.Account) → eqb (rules.request_cause (unasked e t p)).number 0 ≡ false
+unasked_number e t None = refl
+unasked_number e t (Some p) = unasked_by (leb min_frame (length t)) e
 
 -- ---- readings: the octet of a refusal
 

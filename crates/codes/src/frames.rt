@@ -57,7 +57,7 @@ fn header(rt: &impl Print, h: EthernetHeader) -> io::Result<()> {
     )
 }
 
-// A line for what was read: the header; of a frame, its kind and the payload, or else 01's number and the octet with it. Then a
+// A line for what was read: the header; of a frame, its kind and the payload, or else 01's number and the octet with it, or 0. Then a
 // line for a frame's section.
 fn frame(rt: &impl Print, bytes: &[u8]) -> io::Result<()> {
     match deserialize_frame(&DS301, bytes) {
@@ -70,7 +70,7 @@ fn frame(rt: &impl Print, bytes: &[u8]) -> io::Result<()> {
         }
         Err(e) => {
             header(rt, eth_header_at(bytes))?;
-            println!(rt; " {} {}", e.number(), e.byte())
+            println!(rt; " {} {}", e.number(), e.byte().unwrap_or(0))
         }
     }
 }

@@ -6,7 +6,9 @@ use mathlib.Core.List.{List}
 use lib.ListN.{get_or, drop}
 use Rattle.std.specs.Prelude.{Result, Ok, Err}
 use Rattle.types.specs.Header.{eth_length}
+use Rattle.types.specs.declared.hal.PowerlinkError.{PowerlinkError}
 use Rattle.types.specs.declared.message_type.MessageType.TheVariants as message
+use Rattle.types.specs.declared.message_type.MessageType.{MessageType}
 use Rattle.services.specs.Table.{ds301}
 use Rattle.services.proofs.Tables.{ds301_holds}
 use Rattle.frame.specs.Write.{under_table}
@@ -15,8 +17,6 @@ use Rattle.frame.specs.declared.PowerlinkFrame.TheVariants.{Soc, PReq, PRes, SoA
 use Rattle.codec.specs.ASnd.{read_asnd}
 use Rattle.codec.specs.Frame.{kind_of, kind_answer, read_frame, deserialized, deserialize_frame}
 use Rattle.frame_laws.specs.Twelve.{section_in01, frame_in01, whole_in01, deserialized_in01, written_in01, TheTwelve}
-use Rattle.types.specs.declared.message_type.MessageType.{MessageType}
-use Rattle.types.specs.declared.hal.PowerlinkError.{PowerlinkError}
 
 read : (k : Result MessageType PowerlinkError) (s : List ℕ) → kind_answer ds301 k s ≡ section_in01 k s
 unfolding read_asnd

@@ -5,6 +5,7 @@ use Rattle.std.specs.Prelude.{ℕ, ◌≡◌, List, leb, length, get_or, drop, R
 use Rattle.types.specs.Codes.{pick, need}
 use Rattle.types.specs.Header.{eth_length, eth_header_of}
 use Rattle.types.specs.declared.hal.PowerlinkError.TheVariants.{BufferTooShort, InvalidServiceId}
+use Rattle.types.specs.declared.hal.PowerlinkError.{PowerlinkError}
 use Rattle.types.specs.declared.message_type.MessageType.{MessageType}
 use Rattle.types.specs.declared.message_type.MessageType.TheVariants as message
 use Rattle.services.specs.Ids.{is_listed}
@@ -21,7 +22,6 @@ use Rattle.codec.specs.PRes.{read_pres}
 use Rattle.codec.specs.SoA.{read_soa}
 use Rattle.codec.specs.SoC.{read_soc}
 use Rattle.codec.specs.declared.DeserializedFrame.{DeserializedFrame}
-use Rattle.types.specs.declared.hal.PowerlinkError.{PowerlinkError}
 
 -- "ASnd: 4 bytes needed. Byte 3 service: 1 to 5, 0B, 0D to 12 h"
 abbrev pub asnd_in01 : List ℕ → Result PowerlinkFrame PowerlinkError

@@ -12,14 +12,14 @@ use Rattle.reporter.specs.declared.AnswerFields.{AnswerFields}
 use Rattle.reporter.proofs.AnyTable.{answer_writes}
 use Rattle.collector.specs.Calls.{Reads}
 use Rattle.collector.specs.Layout.{response_bytes}
+use Rattle.collector.specs.declared.ReadError.{ReadError}
+use Rattle.collector.specs.declared.ReadOutcome.{ReadOutcome as BoxOutcome}
 use Rattle.signaling.specs.Arrival.{IsASnd}
 use Rattle.signaling.specs.AsSent.{AsSent}
 use Rattle.signaling.proofs.Arriving.{reads_sent, arrives_self, arrives_put}
 use Rattle.signaling.proofs.Calls.{written_frame}
 use Rattle.signaling.proofs.Frames.{answer_asnd_lem}
 use Rattle.signaling.proofs.Steps.{held}
-use Rattle.collector.specs.declared.ReadOutcome.{ReadOutcome as BoxOutcome}
-use Rattle.collector.specs.declared.ReadError.{ReadError}
 
 -- two readings of one frame by one box are the same
 pub reads_once : {services f s after after' : List ℕ} {r r' : Result BoxOutcome ReadError} → Reads services f r s after → Reads services f r' s after'

@@ -62,7 +62,7 @@ module _ (head_services box_services : List ℕ) (i : ℕ) (f : AnswerFields) (g
         let a = answering k head_services f sizes small in
         let b = booking a.knows arrived (opened h) (says_arrived arrives says) from box_services n (frame₁, given₁, arrives) octets books₁ in
         let c = asking b.knows i _ b.knows.place g six in
-        let d = hearing c.knows head_services (sent m) frame₂ (Ok Closed) given₂ from (rw hears₁ closes) in
+        let d = hearing c.knows head_services (sent m) frame₂ (Ok Closed) given₂ from (rw (hears₁, closes)) in
         record {
           state = d.state;
           box = d.box;

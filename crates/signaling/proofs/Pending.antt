@@ -8,15 +8,15 @@ use mathlib.Core.List.{List, [], ◌∷◌, ◌++◌}
 use native.Mathlib.Omega.{arith}
 use lib.ListN.{length, length-append, length-drop, take-append-drop}
 use Rattle.std.specs.Prelude.{Result, Ok, Err, Some}
+use Rattle.types.specs.declared.hal.PowerlinkError.{PowerlinkError}
 use Rattle.error_entry.specs.declared.ErrorEntry.{ErrorEntry}
 use Rattle.reporter.specs.Rules.{opens, with_batch, batch_length, Head, opened, after_answer, ea_answer, after_acknowledge, ea_told}
+use Rattle.reporter.specs.declared.ReadOutcome.{ReadOutcome}
 use Rattle.signaling.specs.Calls.{Origin, Event, head_read, World, Step, raise, answer, head_reads, register, box_reads, request, takes, hosts}
 use Rattle.signaling.proofs.Facts.{beq_same}
 use Rattle.signaling.proofs.Invariant.{head_in, Held}
 use Rattle.signaling.proofs.Quiet.{NoRaise, Ready, goes_on_lem, shut, not_raised, read_head}
 use Rattle.signaling.proofs.Steps.{head_now}
-use Rattle.types.specs.declared.hal.PowerlinkError.{PowerlinkError}
-use Rattle.reporter.specs.declared.ReadOutcome.{ReadOutcome}
 
 -- ---- the head's opening, by cases of the two lists
 
@@ -57,7 +57,8 @@ opened_fewer h = open_fewer h h.batch h.waiting refl refl
 -- ---- the head's reading
 
 -- a request that carries this bit
-pub head_hears : {i : ℕ} {w v : World} {services : List ℕ} {o : Origin} {bs : List ℕ} {r : Result ReadOutcome PowerlinkError} {x : Bool} → ea_told services i bs ≡ Ok (Some x)
+pub head_hears : {i : ℕ} {w v : World} {services : List ℕ} {o : Origin} {bs : List ℕ} {r : Result ReadOutcome PowerlinkError} {x : Bool}
+    → ea_told services i bs ≡ Ok (Some x)
     → Held i w
     → Step i w (head_read services o bs r) v
     → head_in v ≡ after_acknowledge (Ok (ea_answer x (head_in w))) (head_in w)

@@ -5,19 +5,27 @@ use mathlib.Core.Bool.{Bool, true, false}
 use mathlib.Core.Path.{◌≡◌, refl, ◌∙◌}
 use mathlib.Core.Logic.{◌⊎◌, inl, inr}
 use mathlib.Core.List.{List, [], ◌∷◌}
-use mathlib.Core.Option.{Option, none, some}
+use mathlib.Core.Option.{some}
 use native.Mathlib.Omega.{arith}
 use lib.ListN.{length, take, get_elem?, length-append}
 use lib.Dec.{eqb}
 use borrow.Author.Tests.{eqb-true}
-use Rattle.std.specs.Prelude.{Result, Ok, Err, Some, None}
+use Rattle.std.specs.Prelude.{Result, Ok, Err, Some, None, Option}
 use Rattle.types.specs.Codes.{pick}
+use Rattle.types.specs.declared.NodeId.{NodeId}
+use Rattle.types.specs.declared.hal.PowerlinkError.{PowerlinkError}
 use Rattle.error_entry.specs.declared.ErrorEntry.{ErrorEntry}
 use Rattle.reporter.specs.Rules.{with_batch, opened, Head, after_raise, after_acknowledge}
+use Rattle.reporter.specs.declared.RaiseError.{RaiseError}
 use Rattle.reporter.specs.declared.ReadOutcome.TheVariants.{Closed, Kept, Ignored}
+use Rattle.reporter.specs.declared.ReadOutcome.{ReadOutcome}
 use Rattle.collector.specs.Layout.{box_of}
 use Rattle.collector.specs.Rules.{Said, book_length, Account, Box, with_account, after_register, after_booking, after_response, without_first, after_take, response_in, status_in}
+use Rattle.collector.specs.declared.ReadError.{ReadError}
 use Rattle.collector.specs.declared.ReadOutcome.TheVariants as box
+use Rattle.collector.specs.declared.ReadOutcome.{ReadOutcome as BoxOutcome}
+use Rattle.collector.specs.declared.RegisterError.{RegisterError}
+use Rattle.collector.specs.declared.TakeError.{TakeError}
 use Rattle.signaling.specs.Calls.{tally, adds, Tally, nothing_yet, sent, foreign, Event, raised, answered, head_read, registered, box_read, requested, taken, hosted, if_taken, accepted, handed_out, answers_sent, requests_sent, ea_of, Tells, World, Step, raise, answer, head_reads, register, box_reads, request, takes, hosts}
 use Rattle.signaling.specs.Exchanges.{Quiet, NoRepeat, RequestAgain, Quietly, still, next, again, Exchange}
 use Rattle.signaling.proofs.Told.{told_now}
@@ -26,20 +34,12 @@ use Rattle.signaling.proofs.Facts.{clash, either, at_snoc}
 use Rattle.signaling.proofs.Frames.{Says}
 use Rattle.signaling.proofs.Invariant.{head_in, place_for, Held}
 use Rattle.signaling.proofs.Steps.{answer_says, request_says, keeps}
-use Rattle.reporter.specs.declared.RaiseError.{RaiseError}
-use Rattle.collector.specs.declared.RegisterError.{RegisterError}
-use Rattle.collector.specs.declared.TakeError.{TakeError}
-use Rattle.reporter.specs.declared.ReadOutcome.{ReadOutcome}
-use Rattle.types.specs.declared.hal.PowerlinkError.{PowerlinkError}
-use Rattle.collector.specs.declared.ReadError.{ReadError}
-use Rattle.collector.specs.declared.ReadOutcome.{ReadOutcome as BoxOutcome}
-use Rattle.types.specs.declared.NodeId.{NodeId}
 
 -- ---- every call: a place stays
 
 abbrev pub IsPlace : Option Account → Type 0
-IsPlace none = ⊥
-IsPlace (some p) = Unit {0}
+IsPlace None = ⊥
+IsPlace (Some p) = Unit {0}
 
 module _ (i : ℕ) (b : Box) (is : IsPlace (b.accounts i)) where
   with_stays : (j : ℕ) (p : Account) → IsPlace ((with_account j p b).accounts i)
@@ -139,8 +139,8 @@ with_bit i j p b e =
     either (eqb i j) (λ here. let same : i ≡ j = eqb-true i j here in rw (here, same) e) (λ away. rw away)
 
 taken_bit : (o : Option Account) → (without_first o).ea ≡ ea_of o
-taken_bit none = refl
-taken_bit (some p) = refl
+taken_bit None = refl
+taken_bit (Some p) = refl
 
 take_bit : (i j : ℕ) (b : Box) (r : Result ErrorEntry TakeError) → ea_of ((after_take r j b).accounts i) ≡ ea_of (b.accounts i)
 take_bit i j b (Ok e) = with_bit i j _ b (taken_bit (b.accounts j))

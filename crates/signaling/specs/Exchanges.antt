@@ -2,17 +2,16 @@
 -- exchange needs them (`StepwiseProgress`), which is more.
 -- Assumes nothing.
 use Rattle.std.specs.Prelude.{ℕ, suc, ◌+◌, ◌-◌, ◌≤◌, Bool, ◌≡◌, List, [], ◌++◌, length, Result, Ok, Err, Some}
-use Rattle.std.proofs.Math.Option.{some}
+use Rattle.types.specs.declared.hal.PowerlinkError.{PowerlinkError}
 use Rattle.error_entry.specs.declared.ErrorEntry.{ErrorEntry}
 use Rattle.reporter.specs.Rules.{ea_told}
+use Rattle.reporter.specs.declared.ReadOutcome.{ReadOutcome}
 use Rattle.collector.specs.Layout.{account_of}
 use Rattle.collector.specs.Rules.{Account}
 use Rattle.collector.specs.declared.ReadError.TheVariants as refusal
-use Rattle.signaling.specs.Calls.{sent, foreign, Event, raised, answered, head_read, registered, box_read, requested, taken, hosted, answers_sent, requests_sent, ruled, unbooked, World, Step, Run}
-use Rattle.reporter.specs.declared.ReadOutcome.{ReadOutcome}
-use Rattle.types.specs.declared.hal.PowerlinkError.{PowerlinkError}
 use Rattle.collector.specs.declared.ReadError.{ReadError}
 use Rattle.collector.specs.declared.ReadOutcome.{ReadOutcome as BoxOutcome}
+use Rattle.signaling.specs.Calls.{sent, foreign, Event, raised, answered, head_read, registered, box_read, requested, taken, hosted, answers_sent, requests_sent, ruled, unbooked, World, Step, Run}
 
 -- "w entries (waiting and open)"
 abbrev pub pending : ℕ → World → List ErrorEntry
@@ -97,7 +96,7 @@ pub data Exchanges (i : ℕ) : ℕ → World → World → Type 0 where
 -- heads" that have a book, and the answer of any other is refused with 11 and closes nothing.
 pub record Room (i : ℕ) (w : World) : Type 0 where
   pub account : Account
-  pub registered : account_of w.box i ≡ some account
+  pub registered : account_of w.box i ≡ Some account
   pub free : length account.book + length (unbooked i w.log ++ (ruled i w.log).waiting) ≤ 64
 
 pub record Progress : Type 0 where
@@ -109,7 +108,7 @@ pub record Progress : Type 0 where
 -- ---- free places, exchange by exchange: Takes between two exchanges make places too
 
 abbrev pub IsRegistered : ℕ → World → Type 0
-IsRegistered i w = (account : Account) × (account_of w.box i ≡ some account)
+IsRegistered i w = (account : Account) × (account_of w.box i ≡ Some account)
 
 -- each exchange finds the places that it needs: its answer, when first read, is not refused with 12
 abbrev pub Found : {i n : ℕ} {w v : World} → Exchanges i n w v → Type 0

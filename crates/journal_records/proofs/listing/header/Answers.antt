@@ -1,8 +1,10 @@
 -- `header` meets its contract.
 -- Assumes nothing.
-use mathlib.Core.Path.{refl, sym, ◌∙◌}
+use borrow.Author.Rules.{rules}
+use mathlib.Core.Path.{sym, ◌∙◌}
 use Rattle.journal_records.specs.Listing.{marked, version1, header_line}
-use Rattle.journal_records.proofs.StepLaws.{header_cut, header_unmarked, header_version, header_good, prints_as}
+use Rattle.journal_records.proofs.StepLaws.{header_cut, header_unmarked, header_version, header_good, prints_as, prints_text}
+use Rattle.journal_records.proofs.TextLaws.{put_first, put_left}
 use Rattle.journal_records.proofs.listing.header.Goals as goal
 
 pub returns-then-bytes-lt-JOURNAL_START_LEN : goal.returns-then-bytes-lt-JOURNAL_START_LEN
@@ -29,4 +31,4 @@ returns c =
     prints_as
     (header_good _ c.if-bytes-lt-JOURNAL_START_LEN.false (sym c.has_mark-mark.ensures ∙ c.if-not-mark.false)
     (sym c.get_le-known.ensures ∙ c.if-not-known.false))
-    (record { answer = refl; holds = c.put.ensures })
+    (prints_text (put_left (put_first c.new-line.ensures.empty c.text.ensures.puts) (search rules)))
