@@ -1,262 +1,246 @@
 // 01's lines to check that are not proved as a table, 02's rules of tables of services and of status entries, and others beside
-// them (script: how a line is read).
-use crate::World;
-use crate::script::play;
+// them.
+use crate::cause::Cause;
+use crate::entries::Kind;
+use crate::house::FILE;
+use crate::odd::Odd;
+use crate::outcome::{DONE, KEPT, KNOWN, Success};
+use crate::script::Call::{
+    Answer, AnswerZeros, Asnd, BoxReads, Exchanges, Fresh, HeadReads, Load, PReq, PReqWithoutEa,
+    PutIn, Raise, RaiseOne, Register, Request, Spoil, Take,
+};
+use crate::script::Line;
+use crate::script::Line::{Quiet, Shown};
+use crate::script::Script;
+use crate::world::World;
 
-fn of_head(rt: &impl Print, w: World) -> World {
-    play(
-        rt,
-        w,
-        b"F  0  13  a head of ID 0\n\
-        F240  13  a head of ID 240\n\
-        F239 900  a head of ID 239\n\
-        F  7\n\
-        E  0   8  an entry of mode 0\n\
-        E  1   8  an entry of profile 4,096\n\
-        R 16 900  a 16th waiting entry\n\
-        R  1   9  a 17th waiting entry\n\
-        E  1   8  a 17th of profile 4,096\n\
-        F  7\n\
-        R  1\n\
-        A 71   1  an answer of 72 octets into 71\n\
-        R  1\n\
-        A192  92  the next answer, with one more raised\n\
-        R  2\n\
-        A192  92  its repeat, with two more raised\n",
-    )
-}
+const OF_HEAD: [Line; 16] = [
+    Shown(Fresh(0), Err(Cause::IdOutOfRange), "a head of ID 0"),
+    Shown(Fresh(240), Err(Cause::IdOutOfRange), "a head of ID 240"),
+    Shown(Fresh(239), DONE, "a head of ID 239"),
+    Quiet(Fresh(7)),
+    Shown(RaiseOne(Kind::Terminator), Err(Cause::EntryInvalid), "an entry of mode 0"),
+    Shown(RaiseOne(Kind::WideProfile), Err(Cause::EntryInvalid), "an entry of profile 4,096"),
+    Shown(Raise(16), DONE, "a 16th waiting entry"),
+    Shown(Raise(1), Err(Cause::QueueFull), "a 17th waiting entry"),
+    Shown(RaiseOne(Kind::WideProfile), Err(Cause::EntryInvalid), "a 17th of profile 4,096"),
+    Quiet(Fresh(7)),
+    Quiet(Raise(1)),
+    Shown(Answer(71), Err(Cause::TooShort), "an answer of 72 octets into 71"),
+    Quiet(Raise(1)),
+    Shown(Answer(192), Ok(Success::Written(92)), "the next answer, with one more raised"),
+    Quiet(Raise(2)),
+    Shown(Answer(192), Ok(Success::Written(92)), "its repeat, with two more raised"),
+];
 
-fn of_box(rt: &impl Print, w: World) -> World {
-    play(
-        rt,
-        w,
-        b"F  7\n\
-        G  0  13  registering 0\n\
-        G240  13  registering 240\n\
-        G  7 900  registering 7\n\
-        G  7  14  registering 7 again\n\
-        G 21 900  a second head\n\
-        G120 900  a third head\n\
-        G239 900  a fourth head\n\
-        G200  15  a fifth head\n\
-        G240  13  a fifth of ID 240\n\
-        G  7  14  a fifth of ID 7\n\
-        F  7\n\
-        G  7\n\
-        T  8  11  taking for an unregistered ID\n\
-        T  0  11  taking for ID 0\n\
-        T  7  16  taking with nothing booked\n\
-        Q  7  60  a request into 60 octets\n\
-        S  7   1  a request into 59\n\
-        S  8  11  one to an unregistered ID into 59\n",
-    )
-}
+const OF_BOX: [Line; 19] = [
+    Quiet(Fresh(7)),
+    Shown(Register(0), Err(Cause::IdOutOfRange), "registering 0"),
+    Shown(Register(240), Err(Cause::IdOutOfRange), "registering 240"),
+    Shown(Register(7), DONE, "registering 7"),
+    Shown(Register(7), Err(Cause::IdRegistered), "registering 7 again"),
+    Shown(Register(21), DONE, "a second head"),
+    Shown(Register(120), DONE, "a third head"),
+    Shown(Register(239), DONE, "a fourth head"),
+    Shown(Register(200), Err(Cause::BoxFull), "a fifth head"),
+    Shown(Register(240), Err(Cause::IdOutOfRange), "a fifth of ID 240"),
+    Shown(Register(7), Err(Cause::IdRegistered), "a fifth of ID 7"),
+    Quiet(Fresh(7)),
+    Quiet(Register(7)),
+    Shown(Take(8), Err(Cause::NotRegistered), "taking for an unregistered ID"),
+    Shown(Take(0), Err(Cause::NotRegistered), "taking for ID 0"),
+    Shown(Take(7), Err(Cause::NothingBooked), "taking with nothing booked"),
+    Shown(Request(7, 60), Ok(Success::Written(60)), "a request into 60 octets"),
+    Shown(Request(7, 59), Err(Cause::TooShort), "a request into 59"),
+    Shown(Request(8, 59), Err(Cause::NotRegistered), "one to an unregistered ID into 59"),
+];
 
-// Frames in the box's order: 10, 11, the rules of StatusResponses, known. Then a book that is full.
-fn of_reading(rt: &impl Print, w: World) -> World {
-    play(
-        rt,
-        w,
-        b"F  8\n\
-        G  7\n\
-        R  1\n\
-        A192\n\
-        D 11\n\
-        B192  10  an SoC to the box\n\
-        A192\n\
-        B192  11  an answer of an unregistered head\n\
-        B 31  11  31 octets of it\n\
-        G  8\n\
-        B 31   1  the 31 once it is registered\n\
-        B192 900  the whole answer\n\
-        D 12\n\
-        B192   5  its repeat with a state that is none\n\
-        F  7\n\
-        G  7\n\
-        Z192\n\
-        B192 901  an answer of zeros\n\
-        L 15\n\
-        R  4\n\
-        A192\n\
-        B192 900  the answer that fills the book\n\
-        B192 901  a known answer with a full book\n\
-        Q  7\n\
-        H    900  the request behind it\n\
-        R  1\n\
-        A192\n\
-        B192  12  a new answer with a full book\n\
-        T  7 900  taking one\n\
-        B192 900  the same answer again\n",
-    )
-}
+const OF_READING: [Line; 30] = [
+    Quiet(Fresh(8)),
+    Quiet(Register(7)),
+    Quiet(Raise(1)),
+    Quiet(Answer(192)),
+    Quiet(Spoil(Odd::SoC)),
+    Shown(BoxReads(192), Err(Cause::NotStatusResponse), "an SoC to the box"),
+    Quiet(Answer(192)),
+    Shown(BoxReads(192), Err(Cause::NotRegistered), "an answer of an unregistered head"),
+    Shown(BoxReads(31), Err(Cause::NotRegistered), "31 octets of it"),
+    Quiet(Register(8)),
+    Shown(BoxReads(31), Err(Cause::TooShort), "the 31 once it is registered"),
+    Shown(BoxReads(192), DONE, "the whole answer"),
+    Quiet(Spoil(Odd::NoState)),
+    Shown(BoxReads(192), Err(Cause::UnknownState), "its repeat with a state that is none"),
+    Quiet(Fresh(7)),
+    Quiet(Register(7)),
+    Quiet(AnswerZeros(192)),
+    Shown(BoxReads(192), KNOWN, "an answer of zeros"),
+    Quiet(Exchanges(15)),
+    Quiet(Raise(4)),
+    Quiet(Answer(192)),
+    Shown(BoxReads(192), DONE, "the answer that fills the book"),
+    Shown(BoxReads(192), KNOWN, "a known answer with a full book"),
+    Quiet(Request(7, 60)),
+    Shown(HeadReads, DONE, "the request behind it"),
+    Quiet(Raise(1)),
+    Quiet(Answer(192)),
+    Shown(BoxReads(192), Err(Cause::BookFull), "a new answer with a full book"),
+    Shown(Take(7), DONE, "taking one"),
+    Shown(BoxReads(192), DONE, "the same answer again"),
+];
 
-// A fault is closed; the answer with the next one is lost, and then the host sends a PReq. What EA it carries decides whether
-// that fault is lost too.
-fn of_host(rt: &impl Print, w: World) -> World {
-    play(
-        rt,
-        w,
-        b"F  7\n\
-        G  7\n\
-        R  1\n\
-        A192\n\
-        B192\n\
-        Q  7\n\
-        H   \n\
-        R  1\n\
-        A192  72  the answer with a second fault, which is lost\n\
-        P  7\n\
-        H    902  a PReq of the host, with the EA that `flags` says\n\
-        A192  72  the next answer\n\
-        B192 900  the box reads it\n\
-        P  7\n\
-        H    900  the next PReq with the EA of `flags`\n\
-        T  7 900  taking the first fault\n\
-        T  7 900  taking the second\n\
-        F  7\n\
-        G  7\n\
-        R  1\n\
-        A192\n\
-        B192\n\
-        Q  7\n\
-        H   \n\
-        R  1\n\
-        A192  72  the same with EA 0: the answer is lost\n\
-        X  7\n\
-        H    900  the PReq closes what is not booked\n\
-        A192  60  the next answer carries nothing\n\
-        B192 900  the box reads it, and books nothing\n\
-        T  7 900  taking the first fault\n\
-        T  7  16  taking the second: it is lost\n",
-    )
-}
+const OF_HOST: [Line; 32] = [
+    Quiet(Fresh(7)),
+    Quiet(Register(7)),
+    Quiet(Raise(1)),
+    Quiet(Answer(192)),
+    Quiet(BoxReads(192)),
+    Quiet(Request(7, 60)),
+    Quiet(HeadReads),
+    Quiet(Raise(1)),
+    Shown(Answer(192), Ok(Success::Written(72)), "the answer with a second fault, which is lost"),
+    Quiet(PReq),
+    Shown(HeadReads, KEPT, "a PReq of the host, with the EA that `flags` says"),
+    Shown(Answer(192), Ok(Success::Written(72)), "the next answer"),
+    Shown(BoxReads(192), DONE, "the box reads it"),
+    Quiet(PReq),
+    Shown(HeadReads, DONE, "the next PReq with the EA of `flags`"),
+    Shown(Take(7), DONE, "taking the first fault"),
+    Shown(Take(7), DONE, "taking the second"),
+    Quiet(Fresh(7)),
+    Quiet(Register(7)),
+    Quiet(Raise(1)),
+    Quiet(Answer(192)),
+    Quiet(BoxReads(192)),
+    Quiet(Request(7, 60)),
+    Quiet(HeadReads),
+    Quiet(Raise(1)),
+    Shown(Answer(192), Ok(Success::Written(72)), "the same with EA 0: the answer is lost"),
+    Quiet(PReqWithoutEa),
+    Shown(HeadReads, DONE, "the PReq closes what is not booked"),
+    Shown(Answer(192), Ok(Success::Written(60)), "the next answer carries nothing"),
+    Shown(BoxReads(192), DONE, "the box reads it, and books nothing"),
+    Shown(Take(7), DONE, "taking the first fault"),
+    Shown(Take(7), Err(Cause::NothingBooked), "taking the second: it is lost"),
+];
 
-// Tables of services (02, CR 1): 20 is tested first and 22 last. Until one is loaded, the twelve of DS 301 are in use.
-fn of_tables(rt: &impl Print, w: World) -> World {
-    play(
-        rt,
-        w,
-        b"N  1  20  a table of services of 4 octets\n\
-        N  2  20  one with the mark PLB\n\
-        N  3  20  one of version 2\n\
-        N  4  20  one of version 257\n\
-        N  5  21  one with an ID twice\n\
-        N  6  21  one with descending IDs and without 2\n\
-        N  7  22  one without IDs\n\
-        N  8  22  one without 2\n\
-        F  7\n\
-        G  7\n\
-        W 60   6  writing an ASnd of service 20h, with the twelve of DS 301\n\
-        W 59   1  writing it into 59 octets\n\
-        A192\n\
-        D  9\n\
-        B192   6  the box reads such an ASnd\n\
-        N  0 900  the house's table: 2, 20h, 80h and FFh\n\
-        B192  10  the box reads the same ASnd under it\n\
-        N  8\n\
-        B192  10  the same again, after a table was refused\n\
-        D  8\n\
-        B192   6  an IdentResponse, which the house's table lacks\n\
-        W 60  60  writing an ASnd of service 20h\n\
-        R  1\n\
-        A192  72  an answer under the house's table\n\
-        B192 900  the box reads it\n\
-        Q  7\n\
-        H    900  the request behind it\n\
-        T  7 900  taking the fault\n",
-    )
-}
+const OF_TABLES: [Line; 28] = [
+    Shown(Load(b"PLS\x01"), Err(Cause::NotATable), "a table of services of 4 octets"),
+    Shown(Load(b"PLB\x01\x00\x02"), Err(Cause::NotATable), "one with the mark PLB"),
+    Shown(Load(b"PLS\x02\x00\x02"), Err(Cause::NotATable), "one of version 2"),
+    Shown(Load(b"PLS\x01\x01\x02"), Err(Cause::NotATable), "one of version 257"),
+    Shown(Load(b"PLS\x01\x00\x02\x02"), Err(Cause::NotAscending), "one with an ID twice"),
+    Shown(Load(b"PLS\x01\x00\x04\x03"), Err(Cause::NotAscending), "one with descending IDs and without 2"),
+    Shown(Load(b"PLS\x01\x00"), Err(Cause::WithoutStatusResponse), "one without IDs"),
+    Shown(Load(b"PLS\x01\x00\x01\x03"), Err(Cause::WithoutStatusResponse), "one without 2"),
+    Quiet(Fresh(7)),
+    Quiet(Register(7)),
+    Shown(Asnd(60), Err(Cause::UnknownService), "writing an ASnd of service 20h, with the twelve of DS 301"),
+    Shown(Asnd(59), Err(Cause::TooShort), "writing it into 59 octets"),
+    Quiet(Answer(192)),
+    Quiet(Spoil(Odd::HouseService)),
+    Shown(BoxReads(192), Err(Cause::UnknownService), "the box reads such an ASnd"),
+    Shown(Load(FILE), DONE, "the house's table: 2, 20h, 80h and FFh"),
+    Shown(BoxReads(192), Err(Cause::NotStatusResponse), "the box reads the same ASnd under it"),
+    Quiet(Load(b"PLS\x01\x00\x01\x03")),
+    Shown(BoxReads(192), Err(Cause::NotStatusResponse), "the same again, after a table was refused"),
+    Quiet(Spoil(Odd::IdentResponse)),
+    Shown(BoxReads(192), Err(Cause::UnknownService), "an IdentResponse, which the house's table lacks"),
+    Shown(Asnd(60), Ok(Success::Written(60)), "writing an ASnd of service 20h"),
+    Quiet(Raise(1)),
+    Shown(Answer(192), Ok(Success::Written(72)), "an answer under the house's table"),
+    Shown(BoxReads(192), DONE, "the box reads it"),
+    Quiet(Request(7, 60)),
+    Shown(HeadReads, DONE, "the request behind it"),
+    Shown(Take(7), DONE, "taking the fault"),
+];
 
-// Entries with bit 15 set (02, CR 2): no head of ours raises one, and no box books one.
-fn of_status(rt: &impl Print, w: World) -> World {
-    play(
-        rt,
-        w,
-        b"F  7\n\
-        E  3  23  an entry with bit 15 set\n\
-        E  2   8  one of mode 0 with bit 15 set\n\
-        R 16\n\
-        E  3  23  a 17th with bit 15 set\n\
-        F  7\n\
-        G  7\n\
-        R  2\n\
-        A240\n\
-        U  3\n\
-        U 23\n\
-        U 43\n\
-        B240 900  two entries with status entries before, between and behind\n\
-        A240\n\
-        U 13\n\
-        B240 901  the answer again, with another status entry\n\
-        T  7 900  taking the first entry\n\
-        T  7 900  taking the second\n\
-        T  7  16  taking a third: no status entry is booked\n\
-        Q  7\n\
-        H    900  the request behind it\n\
-        F  7\n\
-        G  7\n\
-        R  2\n\
-        A240\n\
-        U 12\n\
-        B240 900  two entries with one of mode 0 and bit 15 set between\n\
-        T  7 900  taking the first entry\n\
-        T  7  16  taking the second: the reading ends in front of it\n",
-    )
-}
+const OF_STATUS: [Line; 29] = [
+    Quiet(Fresh(7)),
+    Shown(RaiseOne(Kind::Status), Err(Cause::StatusEntry), "an entry with bit 15 set"),
+    Shown(RaiseOne(Kind::StatusTerminator), Err(Cause::EntryInvalid), "one of mode 0 with bit 15 set"),
+    Quiet(Raise(16)),
+    Shown(RaiseOne(Kind::Status), Err(Cause::StatusEntry), "a 17th with bit 15 set"),
+    Quiet(Fresh(7)),
+    Quiet(Register(7)),
+    Quiet(Raise(2)),
+    Quiet(Answer(240)),
+    Quiet(PutIn(0, Kind::Status)),
+    Quiet(PutIn(2, Kind::Status)),
+    Quiet(PutIn(4, Kind::Status)),
+    Shown(BoxReads(240), DONE, "two entries with status entries before, between and behind"),
+    Quiet(Answer(240)),
+    Quiet(PutIn(1, Kind::Status)),
+    Shown(BoxReads(240), KNOWN, "the answer again, with another status entry"),
+    Shown(Take(7), DONE, "taking the first entry"),
+    Shown(Take(7), DONE, "taking the second"),
+    Shown(Take(7), Err(Cause::NothingBooked), "taking a third: no status entry is booked"),
+    Quiet(Request(7, 60)),
+    Shown(HeadReads, DONE, "the request behind it"),
+    Quiet(Fresh(7)),
+    Quiet(Register(7)),
+    Quiet(Raise(2)),
+    Quiet(Answer(240)),
+    Quiet(PutIn(1, Kind::StatusTerminator)),
+    Shown(BoxReads(240), DONE, "two entries with one of mode 0 and bit 15 set between"),
+    Shown(Take(7), DONE, "taking the first entry"),
+    Shown(Take(7), Err(Cause::NothingBooked), "taking the second: the reading ends in front of it"),
+];
 
-// A batch of nothing else.
-fn of_status_alone(rt: &impl Print, w: World) -> World {
-    play(
-        rt,
-        w,
-        b"F  7\n\
-        G  7\n\
-        A240\n\
-        D 13\n\
-        U  3\n\
-        U 13\n\
-        B240 900  nothing but status entries, with EN 1\n\
-        T  7  16  taking with nothing booked\n\
-        B240 901  the same answer again\n",
-    )
-}
+const OF_STATUS_ALONE: [Line; 9] = [
+    Quiet(Fresh(7)),
+    Quiet(Register(7)),
+    Quiet(Answer(240)),
+    Quiet(Spoil(Odd::EnOne)),
+    Quiet(PutIn(0, Kind::Status)),
+    Quiet(PutIn(1, Kind::Status)),
+    Shown(BoxReads(240), DONE, "nothing but status entries, with EN 1"),
+    Shown(Take(7), Err(Cause::NothingBooked), "taking with nothing booked"),
+    Shown(BoxReads(240), KNOWN, "the same answer again"),
+];
 
-// They take no place of a book.
-fn of_full_book(rt: &impl Print, w: World) -> World {
-    play(
-        rt,
-        w,
-        b"F  7\n\
-        G  7\n\
-        L 15\n\
-        R  4\n\
-        A240\n\
-        U  3\n\
-        U 33\n\
-        U 63\n\
-        B240 900  four entries and three status entries, with four free places\n\
-        U 43\n\
-        B240 901  the answer again, with a fourth and a full book\n\
-        Q  7\n\
-        H    900  the request behind it\n\
-        A240\n\
-        D 13\n\
-        U  3\n\
-        B240 900  nothing but a status entry, with EN 1 and a full book\n\
-        A240\n\
-        U  3\n\
-        B240 900  the same with EN 0\n\
-        R  1\n\
-        A240\n\
-        U  3\n\
-        B240  12  a status entry and an entry with a full book\n\
-        T  7 900  taking one\n\
-        B240 900  the same answer again\n",
-    )
-}
+const OF_FULL_BOOK: [Line; 26] = [
+    Quiet(Fresh(7)),
+    Quiet(Register(7)),
+    Quiet(Exchanges(15)),
+    Quiet(Raise(4)),
+    Quiet(Answer(240)),
+    Quiet(PutIn(0, Kind::Status)),
+    Quiet(PutIn(3, Kind::Status)),
+    Quiet(PutIn(6, Kind::Status)),
+    Shown(BoxReads(240), DONE, "four entries and three status entries, with four free places"),
+    Quiet(PutIn(4, Kind::Status)),
+    Shown(BoxReads(240), KNOWN, "the answer again, with a fourth and a full book"),
+    Quiet(Request(7, 60)),
+    Shown(HeadReads, DONE, "the request behind it"),
+    Quiet(Answer(240)),
+    Quiet(Spoil(Odd::EnOne)),
+    Quiet(PutIn(0, Kind::Status)),
+    Shown(BoxReads(240), DONE, "nothing but a status entry, with EN 1 and a full book"),
+    Quiet(Answer(240)),
+    Quiet(PutIn(0, Kind::Status)),
+    Shown(BoxReads(240), DONE, "the same with EN 0"),
+    Quiet(Raise(1)),
+    Quiet(Answer(240)),
+    Quiet(PutIn(0, Kind::Status)),
+    Shown(BoxReads(240), Err(Cause::BookFull), "a status entry and an entry with a full book"),
+    Shown(Take(7), DONE, "taking one"),
+    Shown(BoxReads(240), DONE, "the same answer again"),
+];
 
-pub fn all(rt: &impl Print, w: World) -> World {
-    let of_01 = of_host(rt, of_reading(rt, of_box(rt, of_head(rt, w))));
-    let tables = of_tables(rt, of_01);
-    of_full_book(rt, of_status_alone(rt, of_status(rt, tables)))
+// Plays them all in a fresh world, and answers it.
+pub fn play(rt: &impl Print) -> World {
+    let mut script = Script::new();
+    for lines in [
+        OF_HEAD.as_slice(),
+        &OF_BOX,
+        &OF_READING,
+        &OF_HOST,
+        &OF_TABLES,
+        &OF_STATUS,
+        &OF_STATUS_ALONE,
+        &OF_FULL_BOOK,
+    ] {
+        script.play(rt, lines);
+    }
+    script.world
 }
