@@ -2,8 +2,12 @@
 import re
 import typing
 
-IMPL = re.compile(r'^impl(?:<[^>]*>)? (\w+).*?^}', re.M | re.S)
-FUNCTION = re.compile(r'^[ \t]*(pub(?:\(\w+\))? )?(?:const )?(?:extern "C" )?fn (\w+)(?:<[^>]*>)?(?=\()', re.M)
+# A block of a type's own functions, or of those that a trait asks of it; and a trait.
+IMPL = re.compile(r'^impl(?:<[^{>]*>)? (?:(?P<of>\w+(?:<[^{]*>)?) for )?(?P<owner>\w+).*?^}', re.M | re.S)
+TRAIT = re.compile(r'^(?:pub )?trait (\w+).*?^}', re.M | re.S)
+# What a trait's function gives, where the trait has a member for it.
+GIVES = re.compile(r'^    ghost (\w+)_gives = (?=\{)', re.M)
+FUNCTION = re.compile(r'^[ \t]*(pub(?:\(\w+\))? )?(?:const )?(?:extern "C" )?fn (\w+)(?:<(?:[^<>]|<[^<>]*>)*>)?(?=\()', re.M)
 RESULT = re.compile(r'\s*(?:->\s*([^{]*?))?\s*(?=\{|\brequires\b|\bensures\b)')
 # A clause, with its name where it has one.
 CLAUSE = re.compile(r'\s*(requires|ensures)\*? (?:\w+ )?(?=\{)')
@@ -16,8 +20,8 @@ MODULE = re.compile(rf'{WORDS}module .*\bwhere$')
 
 
 class Function(typing.NamedTuple):
-    name: str  # MODULE::fn_name, or MODULE::Type::fn_name
-    public: bool
+    name: str  # MODULE::fn_name, MODULE::Type::fn_name, or MODULE::TypeTrait::fn_name, as rt names them
+    public: bool  # so is what a trait asks of a type
     parameters: list  # of each its name and its type; that of `self` is empty, but for what lends it
     result: str
     requires: list
@@ -53,12 +57,21 @@ def module_of(path):
     return [part for part in path.removesuffix('.rt').split('/') if part not in ('lib', 'main', 'mod')]
 
 
+def owner_of(impl):
+    """The name that rt gives to a block's functions: `NmtStateTryFromU8` of `impl TryFrom<u8> for NmtState`."""
+    trait = re.sub(r"'\w+", '', impl['of'] or '')
+    return impl['owner'] if not trait else ''.join(word[0].upper() + word[1:] for word in re.findall(r'\w+', impl['owner'] + ' ' + trait))
+
+
 def functions(path, text):
-    """The functions of the file `path` of a folder src/."""
+    """The functions of the file `path` of a folder src/. Those that a trait declares are of each type that has it."""
     text = re.sub(r'//[^\n]*', '', text)
-    owners = [(impl.start(), impl.end(), impl[1]) for impl in IMPL.finditer(text)]
+    text = TRAIT.sub(lambda trait: re.sub(r'[^\n]', ' ', trait[0]), text)
+    owners = [(impl.start(), impl.end(), owner_of(impl), impl['of'], impl[0]) for impl in IMPL.finditer(text)]
     for found in FUNCTION.finditer(text):
-        owner = [name for start, end, name in owners if start <= found.start() < end]
+        within = [one for one in owners if one[0] <= found.start() < one[1]]
+        owner = [name for _, _, name, _, _ in within]
+        asked = [block for _, _, _, trait, block in within if trait]
         taken, at = inside(text, found.end())
         result = RESULT.match(text, at)
         at = result.end()
@@ -66,8 +79,10 @@ def functions(path, text):
         while clause := CLAUSE.match(text, at):
             said, at = inside(text, clause.end())
             clauses[clause[1]].append(bare(said))
+        for gives in (one for block in asked for one in GIVES.finditer(block) if one[1] == found[2]):
+            clauses['ensures'].append(bare(inside(asked[0], gives.end())[0]))
         name = '::'.join(module_of(path) + owner + [found[2]])
-        yield Function(name, found[1] == 'pub ', list(parameters(taken)), bare(result[1] or ''), **clauses)
+        yield Function(name, found[1] == 'pub ' or bool(asked), list(parameters(taken)), bare(result[1] or ''), **clauses)
 
 
 def declarations(text):

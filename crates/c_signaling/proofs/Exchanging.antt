@@ -50,13 +50,13 @@ not_0 n e h = absurd (eqb-false n 0 h (sym e))
 module _ {i : ℕ} {w v : World} where
   answer_written : (m : Result NmtState PowerlinkError) (k : ℕ) (f : NmtState → Coded) (t t' : List ℕ) (n n' o o' : ℕ) → WritesCoded (stated k m f) 0 t t' n n' o o'
       → Translated i w (answer_events m 0 t' n') v → Step i w (answered (Ok n') t') v
-  answer_written (Err (InvalidNmtState b)) k f t t' n n' o o' c s = not_0 _ c.cause (unnamed_number (leb k (length t)) b)
+  answer_written (Err x) k f t t' n n' o o' c s = not_0 _ c.cause (unnamed_number (leb k (length t)) b)
   answer_written (Ok m) k f t t' n n' o o' c s = the_step s
 
   request_written : (j : ℕ) (f : NmtState → RequestFields) (m : Result NmtState PowerlinkError) (p : Option Account) (t t' : List ℕ) (n n' o o' : ℕ)
       → RowTold (request_cause (request_by j f m t p)) 0 n n' o o'
       → Translated i w (request_events j m 0 t' n') v → Step i w (requested j (Ok n') t') v
-  request_written j f (Err (InvalidNmtState b)) p t t' n n' o o' c s = not_0 _ c.cause (unasked_number b t p)
+  request_written j f (Err x) p t t' n n' o o' c s = not_0 _ c.cause (unasked_number b t p)
   request_written j f (Ok m) p t t' n n' o o' c s = the_step s
 
 answer_0 : {i s n : ℕ} {t : List ℕ} {w v : Site} → CStep i w (reporter_answer s 0 t n) v → Step i (world_of w) (answered (Ok n) t) (world_of v)
@@ -83,16 +83,16 @@ module _ (i : ℕ) where
   refused_quiet e false false = tt
 
   raise_quiet : (g : Raising) (m : Result ErrorEntryMode UnknownMode) (r : ℕ) → (r ≡ 0 → ⊥) → Each (Quiet i) (raise_events g m r)
-  raise_quiet g (Err (record { 0 = b })) r h = tt
+  raise_quiet g (Err x) r h = tt
   raise_quiet g (Ok m) r h =
       either (eqb r 0) (λ t. absurd (h (eqb-true r 0 t))) (λ t. (rw t (refused_quiet (raised_entry g m) (eqb r 8) (eqb r 23)), tt))
 
   answer_quiet : (m : Result NmtState PowerlinkError) (r : ℕ) (t : List ℕ) (n : ℕ) → Each (Quiet i) (answer_events m r t n)
-  answer_quiet (Err (InvalidNmtState b)) r t n = tt
+  answer_quiet (Err x) r t n = tt
   answer_quiet (Ok k) r t n = (tt, tt)
 
   request_quiet : (j : ℕ) (m : Result NmtState PowerlinkError) (r : ℕ) (t : List ℕ) (n : ℕ) → Each (Quiet i) (request_events j m r t n)
-  request_quiet j (Err (InvalidNmtState b)) r t n = tt
+  request_quiet j (Err x) r t n = tt
   request_quiet j (Ok k) r t n = (tt, tt)
 
   quiet_events : (x : Call) → CQuiet x → Each (Quiet i) (events_of x)

@@ -41,7 +41,7 @@ use Rattle.types.specs.declared.error_mode.ErrorEntryMode.{ErrorEntryMode}
 module _ (i : ℕ) (w : Site) where
   raise_call : (g : Raising) (m : Result ErrorEntryMode UnknownMode) (r : ℕ) (after : List ℕ) → RaisesBy (raised_entry g) m r w.head after
       → Translated i (world_of w) (raise_events g m r) (record { head = after; box = w.box; log = raise_events g m r ++ events w.log })
-  raise_call g (Err (record { 0 = b })) r after c = rw c.stays nothing
+  raise_call g (Err x) r after c = rw c.stays nothing
   raise_call g (Ok m) r after c =
       let a = raise_answer (raised_entry g m) (head_of w.head) in
       let e : raise_told (row r []) ≡ a = rw c.cause (raise_number a) in
@@ -51,7 +51,7 @@ module _ (i : ℕ) (w : Site) where
       → WritesCoded (stated (answer_length (length (opened (head_of w.head)).batch)) m (λ s. answer_writing services (f s) (opened (head_of w.head)))) r t t' n n' o o'
       → AnswersBy services f m w.head after t t'
       → Translated i (world_of w) (answer_events m r t' n') (record { head = after; box = w.box; log = answer_events m r t' n' ++ events w.log })
-  answer_call services f (Err (InvalidNmtState b)) r after t t' n n' o o' c d = rw d nothing
+  answer_call services f (Err x) r after t t' n n' o o' c d = rw d nothing
   answer_call services f (Ok k) r after t t' n n' o o' c d =
       let h = opened (head_of w.head) in
       let a = coded_answer (answer_writing services (f k) h) t in
@@ -62,7 +62,7 @@ module _ (i : ℕ) (w : Site) where
       → RowTold (request_cause (request_by j f m t (account_of w.box j))) r n n' o o'
       → RequestsBy j f m w.box t t'
       → Translated i (world_of w) (request_events j m r t' n') (record { head = w.head; box = w.box; log = request_events j m r t' n' ++ events w.log })
-  request_call j f (Err (InvalidNmtState b)) r t t' n n' o o' c d = nothing
+  request_call j f (Err x) r t t' n n' o o' c d = nothing
   request_call j f (Ok k) r t t' n n' o o' c d =
       let a = request_answer j (f k) t (account_of w.box j) in
       let e : box.request_told (row r (n' ∷ [])) ≡ a = request_row j (f k) t (account_of w.box j) r n n' o o' c in

@@ -13,7 +13,7 @@ use Rattle.types.specs.Codes.{need, pick}
 use Rattle.types.specs.declared.hal.PowerlinkError.{PowerlinkError}
 use Rattle.types.specs.declared.hal.PowerlinkError.TheVariants.{BufferTooShort, InvalidNmtState}
 use Rattle.section.specs.Write.{min_frame, write_answer, write_cause}
-use Rattle.types.proofs.CausesTell.{not_0, below_8, error_told_lem}
+use Rattle.types.proofs.CausesTell.{not_0, below_8, error_told_lem, no_0}
 use Rattle.error_entry.proofs.Values.{values_tell}
 use Rattle.reporter.specs.CausesTell.{raise_told, write_told, read_told}
 use Rattle.reporter.specs.Rules.{raise_cause, read_cause}
@@ -79,17 +79,17 @@ request_row j f t (some p) r n n' o o' y =
 
 -- ---- a code that names no state does not answer 0
 
-pub unnamed_number : (fits : Bool) (b : ℕ) → eqb (write_cause (need fits (Err BufferTooShort) (Err (InvalidNmtState b)))).number 0 ≡ false
-unnamed_number true b = refl
-unnamed_number false b = refl
+pub unnamed_number : (fits : Bool) (e : PowerlinkError) → eqb (write_cause (need fits (Err BufferTooShort) (Err e))).number 0 ≡ false
+unnamed_number true e = no_0 e
+unnamed_number false e = refl
 
-unasked_by : (fits : Bool) (b : ℕ) → eqb (rules.request_cause (rules.as_request (need fits (Err BufferTooShort) (Err (InvalidNmtState b))))).number 0 ≡ false
-unasked_by true b = refl
-unasked_by false b = refl
+unasked_by : (fits : Bool) (e : PowerlinkError) → eqb (rules.request_cause (rules.as_request (need fits (Err BufferTooShort) (Err e)))).number 0 ≡ false
+unasked_by true e = no_0 e
+unasked_by false e = refl
 
-pub unasked_number : (b : ℕ) (t : List ℕ) (p : Option rules.Account) → eqb (rules.request_cause (unasked b t p)).number 0 ≡ false
-unasked_number b t none = refl
-unasked_number b t (some p) = unasked_by (leb min_frame (length t)) b
+pub unasked_number : (e : PowerlinkError) (t : List ℕ) (p : Option rules.Account) → eqb (rules.request_cause (unasked e t p)).number 0 ≡ false
+unasked_number e t none = refl
+unasked_number e t (some p) = unasked_by (leb min_frame (length t)) e
 
 -- ---- readings: the octet of a refusal
 

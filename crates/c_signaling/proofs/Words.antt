@@ -81,20 +81,20 @@ module _ (i : ℕ) (l : Log) where
 
   raise_seen : (g : Raising) (m : Result ErrorEntryMode UnknownMode) (r : ℕ) (s after : List ℕ) → RaisesBy (raised_entry g) m r s after
       → seen_in i (raise_events g m r ++ l) ≡ with_accepted (if_zero r (accepted i l ++ raised_entries g m) (accepted i l))
-  raise_seen g (Err (record { 0 = b })) r s after k = rw k.cause
+  raise_seen g (Err x) r s after k = rw k.cause
   raise_seen g (Ok m) r s after k =
       ap with_accepted (raised_if (accepted i l ++ (raised_entry g m ∷ [])) (accepted i l) (eqb r 0) (eqb r 8) (eqb r 23))
 
   answer_seen : (m : Result NmtState PowerlinkError) (k : ℕ) (f : NmtState → Coded) (r : ℕ) (t t' : List ℕ) (n : ℕ)
       → r ≡ (write_cause (coded_answer (stated k m f) t)).number
       → seen_in i (answer_events m r t' n ++ l) ≡ with_answers (if_zero r (answers_sent i l ++ (take n t' ∷ [])) (answers_sent i l))
-  answer_seen (Err (InvalidNmtState b)) k f r t t' n e = rw (e, unnamed_number (leb k (length t)) b)
+  answer_seen (Err x) k f r t t' n e = rw (e, unnamed_number (leb k (length t)) x)
   answer_seen (Ok m) k f r t t' n e = ap with_answers (answered_if n _ t' (answers_sent i l) (eqb r 0))
 
   request_seen : (j : ℕ) (f : NmtState → RequestFields) (m : Result NmtState PowerlinkError) (p : Option Account) (r : ℕ) (t t' : List ℕ) (n : ℕ)
       → r ≡ (request_cause (request_by j f m t p)).number
       → seen_in i (request_events j m r t' n ++ l) ≡ with_requests (if_zero r (requests_sent i l ++ (take n t' ∷ [])) (requests_sent i l))
-  request_seen j f (Err (InvalidNmtState b)) p r t t' n e = rw (e, unasked_number b t p)
+  request_seen j f (Err x) p r t t' n e = rw (e, unasked_number x t p)
   request_seen j f (Ok m) p r t t' n e = ap with_requests (requested_if n (error_told r n) t' (requests_sent i l) (eqb r 0) (ltb r 8))
 
   take_seen : (mine : Bool) (r : ℕ) (vs : List ℕ)

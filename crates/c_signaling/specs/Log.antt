@@ -65,7 +65,7 @@ if_zero r new old = pick (eqb r 0) new old
 
 -- the entry of a Raise whose mode is one
 abbrev pub raised_entries : Raising → Result ErrorEntryMode UnknownMode → List ErrorEntry
-raised_entries g (Err (record { 0 = b })) = []
+raised_entries g (Err x) = []
 raised_entries g (Ok m) = raised_entry g m ∷ []
 
 -- what a call adds, for the head with ID i
@@ -118,16 +118,16 @@ seen i (x ∷ l) = seen_with i x (seen i l)
 
 -- 0 is raised, 8 an invalid entry, 23 a status entry, 9 a full queue
 abbrev pub raise_events : Raising → Result ErrorEntryMode UnknownMode → ℕ → Log
-raise_events g (Err (record { 0 = b })) r = []
+raise_events g (Err x) r = []
 raise_events g (Ok m) r = raised (raised_entry g m) (raise_told (row r [])) ∷ []
 
 -- 0 is written, with the length
 abbrev pub answer_events : Result NmtState PowerlinkError → ℕ → List ℕ → ℕ → Log
-answer_events (Err (InvalidNmtState b)) r t n = []
+answer_events (Err e) r t n = []
 answer_events (Ok k) r t n = answered (write_told (row r (n ∷ []))) t ∷ []
 
 abbrev pub request_events : ℕ → Result NmtState PowerlinkError → ℕ → List ℕ → ℕ → Log
-request_events j (Err (InvalidNmtState b)) r t n = []
+request_events j (Err e) r t n = []
 request_events j (Ok k) r t n = requested j (box.request_told (row r (n ∷ []))) t ∷ []
 
 -- a reading's row: 0 with the outcome, or the cause with the octet

@@ -4,7 +4,7 @@ ghost use Rattle.types.specs.Causes.{cause_number};
 ghost use Rattle.section.specs.Write.{write_cause, unnamed_answer};
 ghost use Rattle.c_values.specs.Answers.{length_after, error_octet, octet_after};
 
-use types::causes::{TOO_SHORT, UNKNOWN_MESSAGE};
+use types::causes::TOO_SHORT;
 use types::hal::PowerlinkError;
 
 // A writer's answer: the number, and the length where octets were written.
@@ -41,12 +41,10 @@ pub fn refusal(e: PowerlinkError, octet: &mut u8) -> u8
     ensures value { result ≡ cause_number e }
     ensures octet_after { octet.new ≡ error_octet e octet.old }
 {
-    let number = e.number();
-    if number < UNKNOWN_MESSAGE {
-        return number;
+    if let Some(b) = e.byte() {
+        *octet = b;
     }
-    *octet = e.byte();
-    number
+    e.number()
 }
 
 // A code that names nothing, where `needed` octets would go into `len`: cause 1 is tested first.
@@ -64,5 +62,5 @@ pub fn unnamed(e: PowerlinkError, needed: usize, len: usize, octet: &mut u8) -> 
 pub fn padded_len(least: usize, used: usize) -> usize
     ensures { result ≡ max least used }
 {
-    if used < least { least } else { used }
+    least.max(used)
 }

@@ -1,17 +1,11 @@
 // An entry as numbers, in the order in which include/powerlink.h names them: those that a caller is told, and those that it
 // gives. specs/ defines the numbers of frames and of a StatusResponse's front too: `powerlink` makes these.
 ghost use Rattle.std.specs.Prelude.{◌≡◌};
-ghost use Rattle.c_values.specs.Values.{as_number, entry_numbers, time, entry_with};
+ghost use Rattle.c_values.specs.Values.{entry_numbers, time, entry_with};
 
 use error_entry::{EntryType, ErrorEntry};
 use types::common::NetTime;
 use types::error_mode::ErrorEntryMode;
-
-fn number(on: bool) -> u64
-    ensures { result ≡ as_number on }
-{
-    if on { 1 } else { 0 }
-}
 
 pub fn entry_values(e: ErrorEntry) -> [u64; 8]
     ensures { result ≡ entry_numbers e }
@@ -19,13 +13,13 @@ pub fn entry_values(e: ErrorEntry) -> [u64; 8]
     let entry_type = e.entry_type;
     let mode = entry_type.mode;
     [
-        number(entry_type.is_status_entry),
-        number(entry_type.send_to_queue),
-        u8::from(mode) as u64,
-        entry_type.profile as u64,
-        e.error_code as u64,
-        e.timestamp.seconds as u64,
-        e.timestamp.nanoseconds as u64,
+        u64::from(entry_type.is_status_entry),
+        u64::from(entry_type.send_to_queue),
+        u64::from(u8::from(mode)),
+        u64::from(entry_type.profile),
+        u64::from(e.error_code),
+        u64::from(e.timestamp.seconds),
+        u64::from(e.timestamp.nanoseconds),
         e.additional_information,
     ]
 }

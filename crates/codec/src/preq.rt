@@ -4,7 +4,7 @@ ghost use Rattle.codec.specs.Verdicts.{preq_answer};
 ghost use Rattle.codec.specs.PReq.{preq_of, read_preq};
 
 use frame::PowerlinkFrame;
-use octets::little_endian::get_u16_le;
+use octets::little_endian::get_le;
 use octets::slices::byte_at;
 use poll::preq::{EA, PReqFlags, PReqFrame};
 use poll::{FIELDS_LEN, MS, RD};
@@ -19,7 +19,7 @@ pub fn judge(s: &[u8]) -> Result<u16, PowerlinkError>
     if s.len() < FIELDS_LEN {
         return Err(PowerlinkError::BufferTooShort);
     }
-    let size = get_u16_le(s, 8);
+    let size: u16 = get_le(s, 8);
     let len = size as usize;
     if s.len() - FIELDS_LEN < len {
         return Err(PowerlinkError::BufferTooShort);

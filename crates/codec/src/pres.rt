@@ -4,7 +4,7 @@ ghost use Rattle.codec.specs.Verdicts.{pres_answer};
 ghost use Rattle.codec.specs.PRes.{pres_of, pres_flags_of, read_pres};
 
 use frame::PowerlinkFrame;
-use octets::little_endian::get_u16_le;
+use octets::little_endian::get_le;
 use octets::slices::byte_at;
 use poll::pres::{EN, PResFlags, PResFrame, STATE_AT};
 use poll::{FIELDS_LEN, MS, RD};
@@ -25,7 +25,7 @@ pub fn judge(s: &[u8]) -> Result<(NmtState, u16), PowerlinkError>
         return Err(PowerlinkError::InvalidPlFrame);
     }
     let nmt_state = NmtState::try_from(s[STATE_AT])?;
-    let size = get_u16_le(s, 8);
+    let size: u16 = get_le(s, 8);
     let len = size as usize;
     if s.len() - FIELDS_LEN < len {
         return Err(PowerlinkError::BufferTooShort);

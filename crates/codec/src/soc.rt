@@ -5,7 +5,7 @@ ghost use Rattle.codec.specs.SoC.{read_soc};
 
 use control::soc::{FIELDS_LEN, MC, PS, SocFlags, SocFrame};
 use frame::PowerlinkFrame;
-use octets::little_endian::{get_u32_le, get_u64_le};
+use octets::little_endian::get_le;
 use octets::slices::byte_at;
 use types::NodeId;
 use types::common::{NetTime, RelativeTime};
@@ -19,10 +19,10 @@ pub fn judge(s: &[u8]) -> Result<(NetTime, RelativeTime), PowerlinkError>
         return Err(PowerlinkError::BufferTooShort);
     }
     let net_time = NetTime {
-        seconds: get_u32_le(&s[6..10], 0),
-        nanoseconds: get_u32_le(&s[10..14], 0),
+        seconds: get_le(&s[6..10], 0),
+        nanoseconds: get_le(&s[10..14], 0),
     };
-    let relative_time = RelativeTime(get_u64_le(&s[14..22], 0));
+    let relative_time = RelativeTime(get_le(&s[14..22], 0));
     Ok((net_time, relative_time))
 }
 

@@ -11,120 +11,36 @@ use control::asnd::ASndFrame;
 use control::soa::SoAFrame;
 use control::soc::SocFrame;
 use poll::pres::PResFrame;
-use print::{column, end, name, octet, octets, say};
+use print::Octets;
 use std::io;
-use tables::Listed;
+use types::basic::MacAddress;
 use types::constants;
 use types::poll_flags::RSFlag;
 
-#[derive(Clone, Copy, Debug, PartialEq, Eq)]
-enum Table {
-    Messages,
-    States,
-    Services,
-    RequestedServices,
-    Priorities,
-    Modes,
-}
-
-fn listed(table: Table, b: u8) -> Listed {
-    match table {
-        Table::Messages => tables::message(b),
-        Table::States => tables::state(b),
-        Table::Services => tables::service(b),
-        Table::RequestedServices => tables::requested_service(b),
-        Table::Priorities => tables::priority(b),
-        Table::Modes => tables::mode(b),
-    }
-}
-
-fn entry(rt: &impl Print, names: &[u8], listed: Listed) -> io::Result<()> {
-    match listed {
-        Listed::Nothing => Ok(()),
-        Listed::Value { code, place } => {
-            name(rt, names, place)?;
-            octet(rt, code)?;
-            end(rt)
-        }
-    }
-}
-
-// The first name is the table's.
-fn list(rt: &impl Print, names: &[u8], table: Table) -> io::Result<()> {
-    name(rt, names, 0)?;
-    say(rt, b"code\n")?;
-    for b in 0..256u64 {
-        entry(rt, names, listed(table, b as u8))?;
+fn addresses(rt: &impl Print) -> io::Result<()> {
+    let MacAddress(asnd) = ASndFrame::multicast();
+    let addresses = [
+        ("SoC address", SocFrame::MULTICAST),
+        ("PRes address", PResFrame::MULTICAST),
+        ("SoA address", SoAFrame::MULTICAST),
+        ("ASnd address", asnd),
+    ];
+    for (name, address) in addresses {
+        println!(rt; "{name:<24}{}", Octets(&address))?;
     }
     Ok(())
 }
 
-fn lists(rt: &impl Print) -> io::Result<()> {
-    list(
-        rt,
-        b"message types           SoC                     PReq                    PRes                    SoA                     ASnd                    ",
-        Table::Messages,
-    )?;
-    list(
-        rt,
-        b"NMT states              NmtGsOff                NmtGsInitialising       NmtGsResetApplication   NmtGsResetCommunication NmtGsResetConfiguration NmtNotActive            NmtPreOperational1      NmtPreOperational2      NmtReadyToOperate       NmtOperational          NmtCsStopped            NmtBasicEthernet        ",
-        Table::States,
-    )?;
-    list(
-        rt,
-        b"services                IdentResponse           StatusResponse          NmtRequest              NmtCommand              Sdo                     NMTPublishTime          NMTPublishNMTState      NMTPublishNodeState     NMTPublishNodeList      NMTPublishEmergNew      NMTPublishHeartbeat     NMTPublishActiveNodes   ",
-        Table::Services,
-    )?;
-    list(
-        rt,
-        b"requested services      NoService               IdentRequest            StatusRequest           NmtRequestInvite        UnspecifiedInvite       ",
-        Table::RequestedServices,
-    )?;
-    list(
-        rt,
-        b"priorities              PrioNmtRequest          High3                   High2                   High1                   PrioGenericRequest      Low3                    Low2                    Low1                    ",
-        Table::Priorities,
-    )?;
-    list(
-        rt,
-        b"error entry modes       Terminator              ErrorActive             ErrorCleared            EventOccurred           ",
-        Table::Modes,
-    )
-}
-
-fn multicast(k: u8) -> [u8; 6] {
-    match k {
-        0 => SocFrame::MULTICAST,
-        1 => PResFrame::MULTICAST,
-        2 => SoAFrame::MULTICAST,
-        _ => ASndFrame::multicast().0,
-    }
-}
-
-fn addresses(rt: &impl Print, names: &[u8]) -> io::Result<()> {
-    for k in 0..4u8 {
-        name(rt, names, k)?;
-        octets(rt, &multicast(k))?;
-        end(rt)?;
-    }
-    Ok(())
-}
-
-fn constant(k: u8) -> u64 {
+fn numbers(rt: &impl Print) -> io::Result<()> {
     let constants = constants::all();
-    match k {
-        0 => constants.ethertype_epl as u64,
-        1 => constants.mn_def_node_id as u64,
-        2 => constants.max_cn_node_id as u64,
-        _ => constants.broadcast_node_id as u64,
-    }
-}
-
-fn numbers(rt: &impl Print, names: &[u8]) -> io::Result<()> {
-    for k in 0..4u8 {
-        name(rt, names, k)?;
-        column(rt, constant(k))?;
-        end(rt)?;
+    let numbers = [
+        ("EtherType", constants.ethertype_epl),
+        ("managing node", u16::from(constants.mn_def_node_id)),
+        ("last controlled node", u16::from(constants.max_cn_node_id)),
+        ("all nodes", u16::from(constants.broadcast_node_id)),
+    ];
+    for (name, number) in numbers {
+        println!(rt; "{name:<24} {number}")?;
     }
     Ok(())
 }
@@ -132,21 +48,16 @@ fn numbers(rt: &impl Print, names: &[u8]) -> io::Result<()> {
 // How many frames wait, of 0 to 9: above 7 counts as 7.
 fn requests(rt: &impl Print) -> io::Result<()> {
     for n in 0..10u8 {
-        column(rt, RSFlag::new(n).0 as u64)?;
+        let waiting = RSFlag::new(n).0;
+        print!(rt; " {waiting}")?;
     }
-    end(rt)
+    println!(rt)
 }
 
 fn main(rt: HostRuntime) -> io::Result<()> {
-    lists(&rt)?;
-    addresses(
-        &rt,
-        b"SoC address             PRes address            SoA address             ASnd address            ",
-    )?;
-    numbers(
-        &rt,
-        b"EtherType               managing node           last controlled node    all nodes               ",
-    )?;
+    tables::all(&rt)?;
+    addresses(&rt)?;
+    numbers(&rt)?;
     requests(&rt)?;
     frames::all(&rt)?;
     batch::all(&rt)

@@ -1,64 +1,29 @@
-// Text, names and numbers on standard output.
-use octets::slices::{front, tail};
-use std::io;
+// Octets and answers on standard output.
+use std::{fmt, io};
 use types::hal::PowerlinkError;
-
-// The width of a name.
-const WIDTH: usize = 24;
 
 // Every octet of a target before the call.
 pub const FILL: u8 = 0xFC;
 
-pub fn say(rt: &impl Print, text: &[u8]) -> io::Result<()> {
-    rt.write_all(text)
-}
+// Octets as they are printed, a space in front of each.
+#[derive(Clone, Copy)]
+pub struct Octets<'a>(pub &'a [u8]);
 
-pub fn end(rt: &impl Print) -> io::Result<()> {
-    say(rt, b"\n")
-}
-
-// Name `k` of a list of them.
-pub fn name(rt: &impl Print, names: &[u8], k: u8) -> io::Result<()> {
-    say(rt, front(tail(names, WIDTH * (k as usize)), WIDTH))
-}
-
-pub fn octet(rt: &impl Print, b: u8) -> io::Result<()> {
-    print!(rt; "{b:02x}")
-}
-
-pub fn octets(rt: &impl Print, s: &[u8]) -> io::Result<()> {
-    let mut i = 0;
-    while i < s.len() {
-        say(rt, b" ")?;
-        octet(rt, s[i])?;
-        i += 1;
-    }
-    Ok(())
-}
-
-pub fn number(rt: &impl Print, label: &[u8], n: u64) -> io::Result<()> {
-    say(rt, label)?;
-    print!(rt; "{n}")
-}
-
-pub fn column(rt: &impl Print, n: u64) -> io::Result<()> {
-    number(rt, b" ", n)
-}
-
-pub fn flag(rt: &impl Print, on: bool) -> io::Result<()> {
-    column(rt, if on { 1 } else { 0 })
-}
-
-fn length_or_number(answer: Result<usize, PowerlinkError>) -> u64 {
-    match answer {
-        Err(e) => e.number() as u64,
-        Ok(n) => n as u64,
+impl fmt::Display for Octets<'_> {
+    fn fmt<W: fmt::Write>(&self, f: &mut fmt::Formatter<W>) -> fmt::Result {
+        for b in self.0 {
+            write!(f, " {b:02x}")?;
+        }
+        Ok(())
     }
 }
 
 // A line: 01's number or the length, and what the target holds after the call.
-pub fn written(rt: &impl Print, answer: Result<usize, PowerlinkError>, target: &[u8]) -> io::Result<()> {
-    column(rt, length_or_number(answer))?;
-    octets(rt, target)?;
-    end(rt)
+pub fn written(
+    rt: &impl Print,
+    answer: Result<usize, PowerlinkError>,
+    target: &[u8],
+) -> io::Result<()> {
+    let n = answer.unwrap_or_else(|e| usize::from(e.number()));
+    println!(rt; " {n}{}", Octets(target))
 }

@@ -4,11 +4,10 @@ use Prim.Native.Nat.{ℕ, zero, suc, ◌+◌, ◌≤◌, ◌<◌}
 use mathlib.Core.Path.{◌≡◌}
 use mathlib.Core.Bool.{Bool, true, false, beq}
 use mathlib.Core.List.{List}
-use mathlib.Core.Option.{none}
 use native.Mathlib.Omega.{arith}
 use lib.ListN.{length}
 use borrow.Author.Tests.{le-leb, lt-leb, lt-ltb}
-use Rattle.std.specs.Prelude.{Ok, Err}
+use Rattle.std.specs.Prelude.{Ok, Err, None}
 use Rattle.types.specs.Nodes.{is_cn_node_id}
 use Rattle.error_entry.specs.declared.ErrorEntry.{ErrorEntry}
 use Rattle.collector.specs.Layout.{collector_length, ea_in, find_of, slot_of, count_in, start_in, entry_in, account_in, account_of, vacant_of, box_of}
@@ -40,7 +39,7 @@ module _ (s : List ℕ) (i : ℕ) where
         rw (cn, place_some s i k)
 
     module _ (unknown : heads ≤ find_of s i) where
-      nowhere : account_of s i ≡ none
+      nowhere : account_of s i ≡ None
       nowhere = place_none s i (rw (slot_find s i (cn_low i cn)) unknown)
 
       pub register_full : heads ≤ find_of s 0 → (Err Full) ≡ register_answer i (box_of s)

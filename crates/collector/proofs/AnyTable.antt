@@ -4,11 +4,11 @@ use Prim.Native.Nat.{ℕ}
 use mathlib.Core.Path.{◌≡◌, refl, sym, ap, ◌∙◌}
 use mathlib.Core.Logic.{inl, inr}
 use mathlib.Core.List.{List}
-use mathlib.Core.Option.{Option, none, some, none-ne-some, some-injective}
+use native.Mathlib.Omega.{arith}
 use lib.ListN.{get_or, drop}
 use lib.Seq.{get_or-drop}
 use borrow.Author.Tests.{ne_eqb}
-use Rattle.std.specs.Prelude.{Result, Ok, Err, Some, None}
+use Rattle.std.specs.Prelude.{Result, Ok, Err, Some, None, Option}
 use Rattle.types.specs.Header.{eth_length}
 use Rattle.types.specs.declared.NodeId.{NodeId}
 use Rattle.types.specs.declared.hal.PowerlinkError.TheVariants.{InvalidServiceId}
@@ -34,14 +34,14 @@ heard_alike G same services others f =
 
 -- whose StatusResponse it is
 abbrev source_or : Result (Option NodeId) PowerlinkError → Option NodeId
-source_or (Ok (Some source)) = some source
-source_or (Ok None) = none
-source_or (Err e) = none
+source_or (Ok (Some source)) = Some source
+source_or (Ok None) = None
+source_or (Err e) = None
 
-source_back : (x : Result (Option NodeId) PowerlinkError) (source : NodeId) → source_or x ≡ some source → x ≡ Ok (Some source)
-source_back (Ok (Some s)) source e = ap Ok (Some (some-injective s source e))
-source_back (Ok None) source e = absurd (none-ne-some source e)
-source_back (Err x) source e = absurd (none-ne-some source e)
+source_back : (x : Result (Option NodeId) PowerlinkError) (source : NodeId) → source_or x ≡ Some source → x ≡ Ok (Some source)
+source_back (Ok (Some s)) source e = ap Ok e
+source_back (Ok None) source e = let z : ◌≡◌ {A = ℕ} 0 1 = cc in absurd (omega arith)
+source_back (Err x) source e = let z : ◌≡◌ {A = ℕ} 0 1 = cc in absurd (omega arith)
 
 pub any_table : AnyTable
 unfolding read_answer

@@ -44,11 +44,6 @@ module _ (k : ℕ) where
       ∙ ap (λ (l : List ErrorEntry). l ++ es) (book_pushed s k e size place (omega arith) each.0)
       ∙ append_assoc (book_in s k) (e ∷ []) es
 
-  pub all_append : (a b : List ErrorEntry) (s : List ℕ) → pushed_all s k (a ++ b) ≡ pushed_all (pushed_all s k a) k b
-  unfolding pushed_all
-  all_append [] b s = refl
-  all_append (e ∷ a) b s = all_append a b (pushed_bytes s k e)
-
 -- ---- and its bit
 
 book_set : (s : List ℕ) (k x : ℕ) → book_in (set s (block k + ea_at) x) k ≡ book_in s k

@@ -4,22 +4,19 @@ use Prim.Native.Nat.{ℕ, ◌+◌, ◌≤◌, ◌<◌}
 use mathlib.Core.Bool.{Bool, true, false, ◌&&◌}
 use mathlib.Core.Path.{◌≡◌, refl, sym, ap, ◌∙◌}
 use mathlib.Core.List.{List, [], ◌∷◌}
-use mathlib.Core.Option.{Option, none, some}
 use native.Mathlib.Omega.{arith}
 use lib.ListN.{length}
 use lib.Dec.{eqb, leb, ltb}
 use borrow.Author.Tests.{eqb-true, leb-true, ltb-true}
-use Rattle.std.specs.Prelude.{Result, Ok, Err, Some, None}
+use Rattle.std.specs.Prelude.{Result, Ok, Err, Some, None, Option}
 use Rattle.octets.proofs.Cases.{either}
 use Rattle.types.specs.Codes.{need}
 use Rattle.error_entry.specs.declared.ErrorEntry.{ErrorEntry}
 use Rattle.collector.specs.Bounds.{BoxRun, fresh, registers, reads, takes, is_in, EachOnce, OfHeads, BoxBounds}
 use Rattle.collector.specs.Layout.{box_of}
 use Rattle.collector.specs.Rules.{Account, Box, Same, with_account, is_registered, register_vacant, register_answer, after_register, Said, account_answer, response_answer, read_answer, response_in, status_in, after_booking, after_response, take_answer, after_take}
-use Rattle.collector.specs.declared.ReadError.TheVariants.{Frame, NotStatusResponse, NotRegistered, BookFull}
 use Rattle.collector.specs.declared.ReadOutcome.TheVariants.{Booked, Known}
-use Rattle.collector.specs.declared.RegisterError.TheVariants.{IdOutOfRange, IdRegistered, Full}
-use Rattle.collector.specs.declared.TakeError.TheVariants as taking
+use Rattle.collector.specs.declared.RegisterError.TheVariants.{IdOutOfRange, Full}
 use Rattle.collector.proofs.Meaning.{book_bound}
 use Rattle.collector.specs.declared.RegisterError.{RegisterError}
 use Rattle.collector.specs.declared.TakeError.{TakeError}
@@ -64,8 +61,8 @@ put_alike b i p is =
 -- ---- reading
 
 known_place : (said : Said) (o : Option Account) → (Ok Booked) ≡ account_answer said o → is_registered o ≡ true
-known_place said none e = cc
-known_place said (some p) e = refl
+known_place said None e = cc
+known_place said (Some p) e = refl
 
 booking : (h : Result (Option NodeId) PowerlinkError) (said : Said) (b : Box) → (Ok Booked) ≡ response_answer h said b → Alike (after_booking h said b) b
 booking (Err e) said b q = unchanged b
@@ -76,21 +73,17 @@ reading : (services f : List ℕ) (b : Box) (r : Result ReadOutcome ReadError) �
 unfolding read_answer
 reading services f b (Ok Booked) e = booking (response_in services f) (status_in f) b e
 reading services f b (Ok Known) e = unchanged b
-reading services f b (Err (Frame x)) e = unchanged b
-reading services f b (Err NotStatusResponse) e = unchanged b
-reading services f b (Err NotRegistered) e = unchanged b
-reading services f b (Err BookFull) e = unchanged b
+reading services f b (Err x) e = unchanged b
 
 -- ---- Take
 
 taken_place : (e : ErrorEntry) (o : Option Account) → Ok e ≡ take_answer o → is_registered o ≡ true
-taken_place e none q = cc
-taken_place e (some p) q = refl
+taken_place e None q = cc
+taken_place e (Some p) q = refl
 
 handing : (i : ℕ) (b : Box) (r : Result ErrorEntry TakeError) → r ≡ take_answer (b.accounts i) → Alike (after_take r i b) b
 handing i b (Ok e) q = put_alike b i _ (taken_place e (b.accounts i) q)
-handing i b (Err taking.NotRegistered) q = unchanged b
-handing i b (Err taking.NothingBooked) q = unchanged b
+handing i b (Err x) q = unchanged b
 
 -- ---- registering
 
@@ -100,28 +93,31 @@ record WhyRegistered (i : ℕ) (b : Box) : Type 0 where
   free : is_registered (b.accounts i) ≡ false
   room : 0 < b.vacant
 
-vacant_by : (t : Bool) → (Ok tt) ≡ need t (Err Full) (Ok tt) → t ≡ true
+abbrev Registered : Result Unit RegisterError → Type 0
+Registered r = Ok tt ≡ r
+
+vacant_by : (t : Bool) → Registered (need t (Err Full) (Ok tt)) → t ≡ true
 vacant_by true e = refl
 vacant_by false e = cc
 
-free_by : (o : Option Account) (n : ℕ) → (Ok tt) ≡ register_vacant o n → (is_registered o ≡ false) × (0 < n)
-free_by none n e = (refl, ltb-true 0 n (vacant_by (ltb 0 n) e))
-free_by (some p) n e = let z : ◌≡◌ {A = ℕ} 0 1 = cc in absurd (omega arith)
+free_by : (o : Option Account) (n : ℕ) → Registered (register_vacant o n) → (is_registered o ≡ false) × (0 < n)
+free_by None n e = (refl, ltb-true 0 n (vacant_by (ltb 0 n) e))
+free_by (Some p) n e = let z : ◌≡◌ {A = ℕ} 0 1 = cc in absurd (omega arith)
 
-ok_by : (low high : Bool) (o : Option Account) (n : ℕ) → (Ok tt) ≡ need (low && high) (Err IdOutOfRange) (register_vacant o n)
+ok_by : (low high : Bool) (o : Option Account) (n : ℕ) → Registered (need (low && high) (Err IdOutOfRange) (register_vacant o n))
     → (low ≡ true) × (high ≡ true) × (is_registered o ≡ false) × (0 < n)
 ok_by true true o n e = let f = free_by o n e in (refl, refl, f.0, f.1)
 ok_by true false o n e = let z : ◌≡◌ {A = ℕ} 0 1 = cc in absurd (omega arith)
 ok_by false high o n e = let z : ◌≡◌ {A = ℕ} 0 1 = cc in absurd (omega arith)
 
-why : (i : ℕ) (b : Box) → (Ok tt) ≡ register_answer i b → WhyRegistered i b
+why : (i : ℕ) (b : Box) → Registered (register_answer i b) → WhyRegistered i b
 unfolding register_answer
 why i b e =
     let f = ok_by (leb 1 i) (leb i 239) (b.accounts i) b.vacant e in
     record { low = leb-true 1 i f.0; high = leb-true i 239 f.1; free = f.2; room = f.3 }
 
 registering : (i : ℕ) (b : Box) (r : Result Unit RegisterError) → r ≡ register_answer i b → IdsIn b → IdsIn (after_register r i b)
-registering i b (Ok tt) e h =
+registering i b (Ok u) e h =
     let y = why i b e in
     record {
       ids = i ∷ h.ids;
@@ -130,9 +126,7 @@ registering i b (Ok tt) e h =
       range = (y.low, y.high, h.range);
       four = omega (arith, y.room, h.four);
     }
-registering i b (Err IdOutOfRange) e h = h
-registering i b (Err IdRegistered) e h = h
-registering i b (Err Full) e h = h
+registering i b (Err x) e h = h
 
 -- ---- every list
 

@@ -3,6 +3,7 @@
 use mathlib.Core.Path.{◌≡◌, refl, ap, ◌∙◌}
 use Rattle.std.specs.Prelude.{Result, Ok, Err, Option, Some, None, ℕ}
 use Rattle.types.proofs.Apart.{apart}
+use Rattle.types.specs.declared.hal.PowerlinkError.{PowerlinkError}
 use Rattle.types.proofs.CausesTell.{not_0, below_8, error_told_lem}
 use Rattle.error_entry.proofs.Values.{flag_told_lem, values_tell}
 use Rattle.collector.specs.CausesTell.{register_told, read_told, flags_told, request_told, take_told, CausesTell}
@@ -29,7 +30,7 @@ register_told_lem (Err Full) = refl
 pub read_told_lem : (a : Result ReadOutcome ReadError) → read_told (read_cause a) ≡ a
 read_told_lem (Ok Booked) = cc
 read_told_lem (Ok Known) = cc
-read_told_lem (Err (Frame e)) = not_0 e _ _ ∙ below_8 e _ _ ∙ ap Err (Frame (error_told_lem e 0))
+read_told_lem (Err (Frame e)) = not_0 e _ _ ∙ below_8 e _ _ ∙ ap (λ (x : PowerlinkError). Err (Frame x)) (error_told_lem e 0)
 read_told_lem (Err NotStatusResponse) = cc
 read_told_lem (Err NotRegistered) = cc
 read_told_lem (Err BookFull) = cc
@@ -41,7 +42,7 @@ flags_told_lem None = refl
 pub request_told_lem : (a : Result ℕ RequestError) → request_told (request_cause a) ≡ a
 request_told_lem (Ok n) = refl
 request_told_lem (Err requesting.NotRegistered) = refl
-request_told_lem (Err (requesting.Frame e)) = not_0 e _ _ ∙ below_8 e _ _ ∙ ap Err (requesting.Frame (error_told_lem e 0))
+request_told_lem (Err (requesting.Frame e)) = not_0 e _ _ ∙ below_8 e _ _ ∙ ap (λ (x : PowerlinkError). Err (requesting.Frame x)) (error_told_lem e 0)
 
 pub take_told_lem : (a : Result ErrorEntry TakeError) → take_told (take_cause a) ≡ a
 take_told_lem (Ok e) = ap Ok (values_tell.entries e)

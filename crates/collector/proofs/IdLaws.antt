@@ -5,14 +5,14 @@ use mathlib.Core.Path.{◌≡◌, refl, sym, ap, ◌∙◌}
 use mathlib.Core.Bool.{Bool, true, false}
 use mathlib.Core.List.{List}
 use mathlib.Core.Logic.{◌⊎◌, inl, inr, ⊎_elim}
-use mathlib.Core.Option.{none, some}
 use native.Mathlib.Omega.{arith}
-use lib.Dec.{eqb}
+use lib.Dec.{eqb, ltb}
 use borrow.Author.Tests.{eqb-true, eqb-false, eq-eqb, ne_eqb, lt-ltb, le-ltb}
+use Rattle.std.specs.Prelude.{is_some, Some, None}
 use Rattle.octets.proofs.Order.{le_or_lt}
 use Rattle.types.specs.Codes.{pick}
 use Rattle.collector.specs.Rules.{heads, Account, Same, with_account}
-use Rattle.collector.specs.Layout.{node_in, find_of, slot_of, account_in, account_of, vacant_of, box_of}
+use Rattle.collector.specs.Layout.{node_in, find_of, slot_of, account_in, account_of, vacant_of, box_of, block_found}
 use Rattle.collector.proofs.BlockLaws.{Kept, node_kept, place_kept}
 
 pub eq_or_ne : (a b : ℕ) → (a ≡ b) ⊎ (a ≡ b → ⊥)
@@ -39,6 +39,59 @@ found s b h = go (eqb (node_in s 0) b) (eqb (node_in s 1) b) (eqb (node_in s 2) 
     go false false false true e₀ e₁ e₂ e₃ h = eqb-true (node_in s 3) b e₃
     go false false false false e₀ e₁ e₂ e₃ h = absurd (let z : ⊥ = omega arith in z)
 
+-- the first block with a node ID is found
+pub find_first : (s : List ℕ) (b k : ℕ) → k < heads → node_in s k ≡ b → ((o : ℕ) → o < k → node_in s o ≡ b → ⊥) → find_of s b ≡ k
+unfolding find_of
+find_first s b zero h e f = rw (eq-eqb (node_in s 0) b e)
+find_first s b (suc zero) h e f = rw (ne_eqb (node_in s 0) b (f 0 (omega arith)), eq-eqb (node_in s 1) b e)
+find_first s b (suc (suc zero)) h e f =
+    rw (ne_eqb (node_in s 0) b (f 0 (omega arith)), ne_eqb (node_in s 1) b (f 1 (omega arith)), eq-eqb (node_in s 2) b e)
+find_first s b (suc (suc (suc zero))) h e f =
+    rw (
+      ne_eqb (node_in s 0) b (f 0 (omega arith)),
+      ne_eqb (node_in s 1) b (f 1 (omega arith)),
+      ne_eqb (node_in s 2) b (f 2 (omega arith)),
+      eq-eqb (node_in s 3) b e,
+    )
+find_first s b (suc (suc (suc (suc k)))) h e f = absurd (let z : ⊥ = omega arith in z)
+
+-- and none, where no block has it
+pub find_none : (s : List ℕ) (b : ℕ) → ((o : ℕ) → o < heads → node_in s o ≡ b → ⊥) → find_of s b ≡ heads
+unfolding find_of
+find_none s b f =
+    rw (
+      ne_eqb (node_in s 0) b (f 0 (omega arith)),
+      ne_eqb (node_in s 1) b (f 1 (omega arith)),
+      ne_eqb (node_in s 2) b (f 2 (omega arith)),
+      ne_eqb (node_in s 3) b (f 3 (omega arith)),
+    )
+
+pub found_block : (k : ℕ) → k < heads → block_found k ≡ Some k
+found_block k h = rw (lt-ltb k heads h)
+
+-- what a block that was found says of its number, and none
+pub found_is : (k b : ℕ) → Some b ≡ block_found k → (k ≡ b) × (k < heads)
+found_is k b e =
+    ⊎_elim
+    (λ (out : heads ≤ k). let q : Some b ≡ None = rw (le-ltb k heads out) at e in let z : ◌≡◌ {A = ℕ} 0 1 = cc in absurd (omega arith))
+    (λ (below : k < heads). let q : Some b ≡ Some k = e ∙ found_block k below in let z : k ≡ b = cc in (z, below))
+    (le_or_lt heads k)
+
+pub found_not : (k : ℕ) → None ≡ block_found k → heads ≤ k
+found_not k e =
+    ⊎_elim
+    (λ (out : heads ≤ k). out)
+    (λ (below : k < heads). let q : None ≡ Some k = e ∙ found_block k below in let z : ◌≡◌ {A = ℕ} 0 1 = cc in absurd (omega arith))
+    (le_or_lt heads k)
+
+-- whether one was found
+pub found_any : (k : ℕ) (b : Bool) → b ≡ is_some (block_found k) → b ≡ ltb k heads
+found_any k b e = e ∙ either_way (ltb k heads)
+  where
+    either_way : (t : Bool) → is_some (pick t (Some k) None) ≡ t
+    either_way true = refl
+    either_way false = refl
+
 pub slot_find : (s : List ℕ) (i : ℕ) → 0 < i → slot_of s i ≡ find_of s i
 unfolding slot_of
 slot_find s i h = rw (ne_eqb i 0 (omega arith))
@@ -63,11 +116,11 @@ slots_apart s a b ha hb ne e = ne (sym (slot_node s a ha) ∙ ap (node_in s) e �
 
 -- ---- what a node has
 
-pub place_some : (s : List ℕ) (i : ℕ) → slot_of s i < heads → account_of s i ≡ some (account_in s (slot_of s i))
+pub place_some : (s : List ℕ) (i : ℕ) → slot_of s i < heads → account_of s i ≡ Some (account_in s (slot_of s i))
 unfolding account_of
 place_some s i h = rw (lt-ltb (slot_of s i) heads h)
 
-pub place_none : (s : List ℕ) (i : ℕ) → heads ≤ slot_of s i → account_of s i ≡ none
+pub place_none : (s : List ℕ) (i : ℕ) → heads ≤ slot_of s i → account_of s i ≡ None
 unfolding account_of
 place_none s i h = rw (le-ltb (slot_of s i) heads h)
 
@@ -78,7 +131,7 @@ place_stays s t i e same =
     ⊎_elim
     (λ (h : heads ≤ slot_of s i). place_none t i (omega arith) ∙ sym (place_none s i h))
     (λ (h : slot_of s i < heads).
-    place_some t i (omega arith) ∙ ap (λ (k : ℕ). some (account_in t k)) e ∙ ap (λ (p : Account). some p) (same h) ∙ sym (place_some s i h))
+    place_some t i (omega arith) ∙ ap (λ (k : ℕ). Some (account_in t k)) e ∙ ap (λ (p : Account). Some p) (same h) ∙ sym (place_some s i h))
     (le_or_lt heads (slot_of s i))
 
 -- ---- the block of a node changes, and its ID stays
@@ -102,12 +155,12 @@ module _ (s t : List ℕ) (i : ℕ) (known : slot_of s i < heads) (kept : Kept s
   pub block_means : (p : Account) → account_in t (slot_of s i) ≡ p → Same (box_of t) (with_account i p (box_of s))
   block_means p is = record { accounts = accounts; vacant = vacant }
     where
-      accounts : (j : ℕ) → account_of t j ≡ pick (eqb j i) (some p) (account_of s j)
+      accounts : (j : ℕ) → account_of t j ≡ pick (eqb j i) (Some p) (account_of s j)
       accounts j =
           ⊎_elim
           (λ (e : j ≡ i).
           rw (eq-eqb j i e)
-          (ap (account_of t) e ∙ place_some t i (omega (arith, slots i)) ∙ ap (λ (k : ℕ). some (account_in t k)) (slots i) ∙ ap (λ (q : Account). some q) is))
+          (ap (account_of t) e ∙ place_some t i (omega (arith, slots i)) ∙ ap (λ (k : ℕ). Some (account_in t k)) (slots i) ∙ ap (λ (q : Account). Some q) is))
           (λ (ne : j ≡ i → ⊥).
           rw (ne_eqb j i ne)
           (place_stays s t j (slots j) (λ h. place_kept s t (slot_of s i) kept (slot_of s j) (slots_apart s j i h known ne))))

@@ -5,7 +5,6 @@ use mathlib.Core.Path.{◌≡◌, refl, sym, ap, ◌∙◌}
 use mathlib.Core.Bool.{Bool, true, false, beq}
 use mathlib.Core.List.{List}
 use mathlib.Core.Logic.{⊎_elim}
-use mathlib.Core.Option.{none, some}
 use native.Mathlib.Omega.{arith}
 use lib.ListN.{length, get_or, replicate}
 use lib.Seq.{get_or-drop}
@@ -24,11 +23,9 @@ use Rattle.error_entry.specs.declared.ErrorEntry.{ErrorEntry}
 use Rattle.status_response.specs.Fields.{read_fields}
 use Rattle.collector.specs.Layout.{node_at, collector_length, block, node_in, find_of, slot_of, count_in, book_in, account_in, account_of, vacant_of, box_of, fresh_bytes, register_bytes, response_bytes, booking_bytes, booked_bytes, taken_bytes, take_bytes}
 use Rattle.collector.specs.Rules.{said_in, Said, heads, book_length, Account, Box, Same, fresh_box, with_account, register_answer, after_register, en_in, status_payload, book_answer, status_answer, response_answer, read_answer, booked_account, after_booking, after_response, request_frame, take_answer, without_first, after_take, response_in, status_in, booked_entries}
-use Rattle.collector.specs.declared.ReadError.TheVariants.{Frame, NotStatusResponse, NotRegistered, BookFull}
+use Rattle.collector.specs.declared.ReadError.TheVariants.{NotRegistered, BookFull}
 use Rattle.collector.specs.declared.ReadOutcome.TheVariants.{Booked, Known}
-use Rattle.collector.specs.declared.RegisterError.TheVariants.{IdOutOfRange, IdRegistered, Full}
 use Rattle.collector.specs.declared.RequestFields.{RequestFields}
-use Rattle.collector.specs.declared.TakeError.TheVariants as taking
 use Rattle.collector.proofs.AnswerLaws.{cn_low, register_bad, register_full, register_new, register_known, take_unknown, take_one, take_nothing}
 use Rattle.collector.proofs.BatchLaws.{booked_kept, booked_node, booked_place, booked_length}
 use Rattle.collector.proofs.BookLaws.{book_most, taken_kept, taken_node, book_taken, taken_ea, taken_length, book_length_lem}
@@ -48,12 +45,12 @@ pub same_box : (b : Box) → Same b b
 same_box b = record { accounts = λ i. refl; vacant = refl }
 
 -- a place's book is within its bound
-pub book_bound : (s : List ℕ) (i : ℕ) (p : Account) → account_of s i ≡ some p → length p.book ≤ book_length
+pub book_bound : (s : List ℕ) (i : ℕ) (p : Account) → account_of s i ≡ Some p → length p.book ≤ book_length
 book_bound s i p e =
     ⊎_elim
-    (λ (h : heads ≤ slot_of s i). absurd (let q : none ≡ some p = sym (place_none s i h) ∙ e in let z : ◌≡◌ {A = ℕ} 0 1 = cc in omega arith))
+    (λ (h : heads ≤ slot_of s i). absurd (let q : None ≡ Some p = sym (place_none s i h) ∙ e in let z : ◌≡◌ {A = ℕ} 0 1 = cc in omega arith))
     (λ (h : slot_of s i < heads).
-    let q : some (account_in s (slot_of s i)) ≡ some p = sym (place_some s i h) ∙ e in
+    let q : Some (account_in s (slot_of s i)) ≡ Some p = sym (place_some s i h) ∙ e in
     let r : account_in s (slot_of s i) ≡ p = cc in
     omega (arith, book_most s (slot_of s i), ap (λ (x : Account). length x.book) r))
     (le_or_lt heads (slot_of s i))
@@ -102,9 +99,7 @@ register_means s size i = by_id (is_cn_node_id i) refl
 
 pub register_length : (r : Result Unit RegisterError) (i : ℕ) (s : List ℕ) → length (register_bytes r i s) ≡ length s
 register_length (Ok _) i s = placed_length s (find_of s 0) i
-register_length (Err IdOutOfRange) i s = refl
-register_length (Err IdRegistered) i s = refl
-register_length (Err Full) i s = refl
+register_length (Err e) i s = refl
 
 -- ---- take
 
@@ -129,8 +124,7 @@ take_means s size i =
 
 pub take_length : (r : Result ErrorEntry TakeError) (i : ℕ) (s : List ℕ) → length (take_bytes r i s) ≡ length s
 take_length (Ok e) i s = taken_length s (slot_of s i)
-take_length (Err taking.NotRegistered) i s = refl
-take_length (Err taking.NothingBooked) i s = refl
+take_length (Err x) i s = refl
 
 -- ---- read
 
@@ -187,10 +181,7 @@ module _ (s : List ℕ) (size : length s ≡ collector_length) (services f : Lis
       go : (r : Result ReadOutcome ReadError) → read_answer services f (box_of s) ≡ r → Same (box_of (response_bytes services r f s)) (after_response services r f (box_of s))
       go (Ok Booked) q = booking_means s size (status_payload f) payload_octets (response_in services f) q
       go (Ok Known) q = same_box (box_of s)
-      go (Err (Frame e)) q = same_box (box_of s)
-      go (Err NotStatusResponse) q = same_box (box_of s)
-      go (Err NotRegistered) q = same_box (box_of s)
-      go (Err BookFull) q = same_box (box_of s)
+      go (Err e) q = same_box (box_of s)
 
 booking_length : (h : Result (Option NodeId) PowerlinkError) (said : Said) (s : List ℕ) → length (booking_bytes h said s) ≡ length s
 booking_length (Err e) said s = refl
@@ -200,10 +191,7 @@ booking_length (Ok (Some source)) said s = booked_length s (slot_of s source.0) 
 pub read_length : (services : List ℕ) (r : Result ReadOutcome ReadError) (f s : List ℕ) → length (response_bytes services r f s) ≡ length s
 read_length services (Ok Booked) f s = booking_length (response_in services f) (status_in f) s
 read_length services (Ok Known) f s = refl
-read_length services (Err (Frame e)) f s = refl
-read_length services (Err NotStatusResponse) f s = refl
-read_length services (Err NotRegistered) f s = refl
-read_length services (Err BookFull) f s = refl
+read_length services (Err e) f s = refl
 
 -- ---- request
 

@@ -5,16 +5,16 @@ use mathlib.Core.Path.{◌≡◌, refl, sym, ap, ◌∙◌}
 use mathlib.Core.Bool.{Bool, true, false}
 use mathlib.Core.List.{List}
 use mathlib.Core.Logic.{⊎_elim}
-use mathlib.Core.Option.{some}
 use native.Mathlib.Omega.{arith}
 use lib.ListN.{length}
 use lib.Dec.{eqb}
 use borrow.Author.Tests.{eq-eqb, ne_eqb}
+use Rattle.std.specs.Prelude.{Some}
 use Rattle.types.specs.Codes.{pick}
 use Rattle.collector.specs.Rules.{heads, Account, Same, fresh_account, with_account}
 use Rattle.collector.specs.Layout.{collector_length, node_in, find_of, slot_of, account_in, account_of, is_vacant, vacant_of, box_of, placed_bytes}
 use Rattle.collector.proofs.BlockLaws.{node_kept, place_kept}
-use Rattle.collector.proofs.IdLaws.{first, found, eq_or_ne, slot_find, place_some, place_stays, slot_taken}
+use Rattle.collector.proofs.IdLaws.{first, found, find_first, eq_or_ne, slot_find, place_some, place_stays, slot_taken}
 use Rattle.collector.proofs.PlacedLaws.{placed_node, placed_kept, placed_fresh}
 
 -- ---- free blocks
@@ -65,26 +65,6 @@ module _ (s t : List ℕ) where
 
 -- ---- finding
 
--- the only block with a node ID is found
-find_only : (t : List ℕ) (b k : ℕ) → k < heads → node_in t k ≡ b → ((o : ℕ) → o < heads → (o ≡ k → ⊥) → node_in t o ≡ b → ⊥) → find_of t b ≡ k
-unfolding find_of
-find_only t b zero h e f = rw (eq-eqb (node_in t 0) b e)
-find_only t b (suc zero) h e f = rw (ne_eqb (node_in t 0) b (f 0 (omega arith) (omega arith)), eq-eqb (node_in t 1) b e)
-find_only t b (suc (suc zero)) h e f =
-    rw (
-      ne_eqb (node_in t 0) b (f 0 (omega arith) (omega arith)),
-      ne_eqb (node_in t 1) b (f 1 (omega arith) (omega arith)),
-      eq-eqb (node_in t 2) b e,
-    )
-find_only t b (suc (suc (suc zero))) h e f =
-    rw (
-      ne_eqb (node_in t 0) b (f 0 (omega arith) (omega arith)),
-      ne_eqb (node_in t 1) b (f 1 (omega arith) (omega arith)),
-      ne_eqb (node_in t 2) b (f 2 (omega arith) (omega arith)),
-      eq-eqb (node_in t 3) b e,
-    )
-find_only t b (suc (suc (suc (suc k)))) h e f = absurd (let z : ⊥ = omega arith in z)
-
 -- nothing is found, so no block has the node ID
 module _ (s : List ℕ) (b : ℕ) (h : heads ≤ find_of s b) where
   nothing : holding (eqb (node_in s 0) b) (eqb (node_in s 1) b) (eqb (node_in s 2) b) (eqb (node_in s 3) b) ≡ 0
@@ -134,8 +114,8 @@ module _ (s : List ℕ) (i : ℕ) (size : length s ≡ collector_length) (real :
         let k : ℕ = find_of s 0 in
         let t : List ℕ = placed_bytes s k i in
         slot_find t i real
-        ∙ find_only t i k free (placed_node s k i size free)
-        (λ o l ne q. not_found s i unknown o l (sym (node_kept s t k (placed_kept s k i) o ne) ∙ q))
+        ∙ find_first t i k free (placed_node s k i size free)
+        (λ o l q. not_found s i unknown o (omega arith) (sym (node_kept s t k (placed_kept s k i) o (omega arith)) ∙ q))
 
     pub placed_means : Same (box_of (placed_bytes s (find_of s 0) i)) (record { accounts = (with_account i fresh_account (box_of s)).accounts; vacant = vacant_of s - 1 })
     placed_means =
@@ -147,8 +127,8 @@ module _ (s : List ℕ) (i : ℕ) (size : length s ≡ collector_length) (real :
               ⊎_elim
               (λ (e : j ≡ i).
               rw (eq-eqb j i e)
-              (ap (account_of t) e ∙ place_some t i (omega (arith, slot_new)) ∙ ap (λ (o : ℕ). some (account_in t o)) slot_new
-              ∙ ap (λ (p : Account). some p) (placed_fresh s k i size free)))
+              (ap (account_of t) e ∙ place_some t i (omega (arith, slot_new)) ∙ ap (λ (o : ℕ). Some (account_in t o)) slot_new
+              ∙ ap (λ (p : Account). Some p) (placed_fresh s k i size free)))
               (λ (ne : j ≡ i → ⊥).
               rw (ne_eqb j i ne)
               (place_stays s t j (slot_other j ne)

@@ -13,7 +13,7 @@ use Rattle.collector.specs.declared.ReadError.{ReadError}
 
 -- 6 with the octet of the service, the last in front of the payload, or 10
 abbrev pub SixOrTen : List ℕ → Result ReadOutcome ReadError → Type 0
-SixOrTen bytes r = (r ≡ Refused (InvalidServiceId (get_or bytes (asnd_payload_at - 1) 0))) ⊎ (r ≡ (Err NotStatusResponse))
+SixOrTen bytes r = (r ≡ Err (Frame (InvalidServiceId (get_or bytes (asnd_payload_at - 1) 0)))) ⊎ (r ≡ Err NotStatusResponse)
 
 pub record AnyTable : Type 0 where
   -- whose StatusResponse octets are

@@ -1,7 +1,6 @@
 -- 01's bounds of a box: of a book, for any octets of a state; of the registered IDs, after any list of calls from a fresh state.
 -- Assumes nothing.
-use Rattle.std.specs.Prelude.{ℕ, ◌+◌, ◌≤◌, Bool, true, false, ◌≡◌, List, [], ◌∷◌, length, eqb, Result}
-use Rattle.std.proofs.Math.Option.{some}
+use Rattle.std.specs.Prelude.{ℕ, ◌+◌, ◌≤◌, Bool, true, false, ◌≡◌, List, [], ◌∷◌, length, eqb, Result, Some}
 use Rattle.types.specs.Codes.{pick}
 use Rattle.types.specs.declared.NodeId.{NodeId}
 use Rattle.collector.specs.Calls.{Fresh, Registers, Reads, Takes}
@@ -44,5 +43,5 @@ pub record Ids (s : List ℕ) : Type 0 where
 
 pub record BoxBounds : Type 0 where
   -- "a book of up to 64 entries"
-  pub book : (s : List ℕ) (i : ℕ) (p : Account) → account_of s i ≡ some p → length p.book ≤ 64
+  pub book : (s : List ℕ) (i : ℕ) (p : Account) → account_of s i ≡ Some p → length p.book ≤ 64
   pub registered : (s : List ℕ) → BoxRun s → Ids s

@@ -2,8 +2,7 @@
 -- list of octets means a box: a start counts modulo 64, a count above 64 is 64, EA is the lowest bit, and where two blocks have
 -- the same node ID the first is the node's.
 -- Assumes nothing.
-use Rattle.std.specs.Prelude.{ℕ, ◌+◌, ◌*◌, ◌-◌, ◌%◌, min, Bool, List, [], ◌∷◌, get_or, set, replicate, eqb, ltb, Result, Ok, Err, Some, None}
-use Rattle.std.proofs.Math.Option.{Option, none, some}
+use Rattle.std.specs.Prelude.{ℕ, ◌+◌, ◌*◌, ◌-◌, ◌%◌, min, Bool, List, [], ◌∷◌, get_or, set, replicate, eqb, ltb, Result, Ok, Err, Some, None, Option}
 use Rattle.types.specs.Codes.{pick}
 use Rattle.error_entry.specs.declared.ErrorEntry.{ErrorEntry}
 use Rattle.records.specs.Records.{entry_length, record_at, with_record}
@@ -63,6 +62,10 @@ find_of s i =
 unfoldable pub slot_of : List ℕ → ℕ → ℕ
 slot_of s i = pick (eqb i 0) heads (find_of s i)
 
+-- the block of that number, where there is one
+abbrev pub block_found : ℕ → Option ℕ
+block_found k = pick (ltb k heads) (Some k) None
+
 unfoldable pub ea_in : List ℕ → ℕ → Bool
 ea_in s k = eqb (get_or s (block k + ea_at) 0 % 2) 1
 
@@ -87,7 +90,7 @@ abbrev pub account_in : List ℕ → ℕ → Account
 account_in s k = record { ea = ea_in s k; book = book_in s k }
 
 unfoldable pub account_of : List ℕ → ℕ → Option Account
-account_of s i = pick (ltb (slot_of s i) heads) (some (account_in s (slot_of s i))) none
+account_of s i = pick (ltb (slot_of s i) heads) (Some (account_in s (slot_of s i))) None
 
 abbrev pub is_vacant : List ℕ → ℕ → ℕ
 is_vacant s k = pick (eqb (node_in s k) 0) 1 0

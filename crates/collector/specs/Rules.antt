@@ -1,8 +1,7 @@
 -- The rules of 01, "The error exchange", for the box: the managing node that collects errors (EPSG DS 301, 6.5).
 -- Assumes nothing.
-use Rattle.std.specs.Prelude.{ℕ, ◌+◌, ◌-◌, Bool, true, false, ◌≡◌, List, [], ◌∷◌, ◌++◌, length, drop, leb, ltb, eqb, Result, Ok, Err, Some, None}
+use Rattle.std.specs.Prelude.{ℕ, ◌+◌, ◌-◌, Bool, true, false, ◌≡◌, List, [], ◌∷◌, ◌++◌, length, drop, leb, ltb, eqb, Result, Ok, Err, Some, None, Option}
 use Rattle.std.specs.Bool.{beq}
-use Rattle.std.proofs.Math.Option.{Option, none, some}
 use Rattle.types.specs.CauseNumbers as cause
 use Rattle.types.specs.Causes.{Cause, row, cause_of}
 use Rattle.types.specs.Codes.{pick, need}
@@ -59,7 +58,7 @@ pub record Box : Type 0 where
 
 -- "Fresh: bits 0, all empty"
 abbrev pub fresh_box : Box
-fresh_box = record { accounts = λ i. none; vacant = heads }
+fresh_box = record { accounts = λ i. None; vacant = heads }
 
 abbrev pub fresh_account : Account
 fresh_account = record { ea = false; book = [] }
@@ -77,18 +76,18 @@ pub record Same (a b : Box) : Type 0 where
 
 -- what node i has becomes p
 abbrev pub with_account : ℕ → Account → Box → Box
-with_account i p b = record { accounts = λ j. pick (eqb j i) (some p) (b.accounts j); vacant = b.vacant }
+with_account i p b = record { accounts = λ j. pick (eqb j i) (Some p) (b.accounts j); vacant = b.vacant }
 
 -- ---- registering
 
 abbrev pub is_registered : Option Account → Bool
-is_registered none = false
-is_registered (some p) = true
+is_registered None = false
+is_registered (Some p) = true
 
 -- 14, then 15: "four registered"
 abbrev pub register_vacant : Option Account → ℕ → Result Unit RegisterError
-register_vacant (some p) vacant = Err IdRegistered
-register_vacant none vacant = need (ltb 0 vacant) (Err Full) (Ok tt)
+register_vacant (Some p) vacant = Err IdRegistered
+register_vacant None vacant = need (ltb 0 vacant) (Err Full) (Ok tt)
 
 -- 13: "ID to register not 1 to 239"
 unfoldable pub register_answer : ℕ → Box → Result Unit RegisterError
@@ -103,9 +102,7 @@ register_cause (Err Full) = row cause.four_registered []
 
 abbrev pub when_registered : {A : Type 0} → Result Unit RegisterError → A → A → A
 when_registered (Ok _) a b = a
-when_registered (Err IdOutOfRange) a b = b
-when_registered (Err IdRegistered) a b = b
-when_registered (Err Full) a b = b
+when_registered (Err e) a b = b
 
 -- "gives a head a place": EA 0 and an empty book
 abbrev pub after_register : Result Unit RegisterError → ℕ → Box → Box
@@ -175,8 +172,8 @@ status_answer (Ok f) es p = book_answer f.en_flag es p
 
 -- 11: "ID not registered"
 abbrev pub account_answer : Said → Option Account → Result ReadOutcome ReadError
-account_answer said none = Err NotRegistered
-account_answer said (some p) = status_answer said.fields said.entries p
+account_answer said None = Err NotRegistered
+account_answer said (Some p) = status_answer said.fields said.entries p
 
 -- "Box order: frame rules, 10, 11, StatusResponse rules (1, 5), known, 12"
 abbrev pub response_answer : Result (Option NodeId) PowerlinkError → Said → Box → Result ReadOutcome ReadError
@@ -199,15 +196,12 @@ read_cause (Err BookFull) = row cause.book_full []
 abbrev pub when_booked : {A : Type 0} → Result ReadOutcome ReadError → A → A → A
 when_booked (Ok Booked) a b = a
 when_booked (Ok Known) a b = b
-when_booked (Err (Frame e)) a b = b
-when_booked (Err NotStatusResponse) a b = b
-when_booked (Err NotRegistered) a b = b
-when_booked (Err BookFull) a b = b
+when_booked (Err e) a b = b
 
 -- "the whole batch goes into the book and EA becomes EN": of the batch the entries to book, which may be none
 abbrev pub booked_account : Said → Option Account → Account
-booked_account said none = fresh_account
-booked_account said (some p) = with_ea (en_in said.fields) (with_book (p.book ++ said.entries) p)
+booked_account said None = fresh_account
+booked_account said (Some p) = with_ea (en_in said.fields) (with_book (p.book ++ said.entries) p)
 
 abbrev pub after_booking : Result (Option NodeId) PowerlinkError → Said → Box → Box
 after_booking (Err e) said b = b
@@ -222,8 +216,8 @@ after_response services r f b = when_booked r (after_booking (response_in servic
 
 -- what every frame of the box to a head carries: "EA, er 0"; or 11
 abbrev pub flags_answer : Option Account → Option SoAFlags
-flags_answer none = None
-flags_answer (some p) = Some (record { ea = p.ea; er = false })
+flags_answer None = None
+flags_answer (Some p) = Some (record { ea = p.ea; er = false })
 
 -- EA, then ER
 abbrev pub flags_cause : Option SoAFlags → Cause
@@ -250,8 +244,8 @@ request_written bs target = as_request (write_answer bs target)
 
 -- 11, then 1
 abbrev pub request_answer : ℕ → RequestFields → List ℕ → Option Account → Result ℕ RequestError
-request_answer i f target none = Err requesting.NotRegistered
-request_answer i f target (some p) = request_written (request_frame i f p.ea) target
+request_answer i f target None = Err requesting.NotRegistered
+request_answer i f target (Some p) = request_written (request_frame i f p.ea) target
 
 abbrev pub request_cause : Result ℕ RequestError → Cause
 request_cause (Ok n) = row 0 (n ∷ [])
@@ -260,8 +254,8 @@ request_cause (Err (requesting.Frame e)) = cause_of e
 
 -- what the target then holds
 abbrev pub after_request : ℕ → RequestFields → List ℕ → Option Account → List ℕ
-after_request i f target none = target
-after_request i f target (some p) = overwritten (request_frame i f p.ea) target
+after_request i f target None = target
+after_request i f target (Some p) = overwritten (request_frame i f p.ea) target
 
 -- ---- Take
 
@@ -272,8 +266,8 @@ take_first (e ∷ es) = Ok e
 
 -- 11, then 16; "the oldest booked entry is handed out"
 abbrev pub take_answer : Option Account → Result ErrorEntry TakeError
-take_answer none = Err taking.NotRegistered
-take_answer (some p) = take_first p.book
+take_answer None = Err taking.NotRegistered
+take_answer (Some p) = take_first p.book
 
 -- the entry's numbers
 abbrev pub take_cause : Result ErrorEntry TakeError → Cause
@@ -283,13 +277,12 @@ take_cause (Err taking.NothingBooked) = row cause.nothing_booked []
 
 -- "and its place is used again"
 abbrev pub without_first : Option Account → Account
-without_first none = fresh_account
-without_first (some p) = with_book (drop 1 p.book) p
+without_first None = fresh_account
+without_first (Some p) = with_book (drop 1 p.book) p
 
 abbrev pub when_taken : {A : Type 0} → Result ErrorEntry TakeError → A → A → A
 when_taken (Ok e) a b = a
-when_taken (Err taking.NotRegistered) a b = b
-when_taken (Err taking.NothingBooked) a b = b
+when_taken (Err x) a b = b
 
 abbrev pub after_take : Result ErrorEntry TakeError → ℕ → Box → Box
 after_take r i b = when_taken r (with_account i (without_first (b.accounts i)) b) b

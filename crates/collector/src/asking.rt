@@ -29,8 +29,6 @@ pub(crate) fn write_request(
     );
     let eth_header = soa.eth_header;
     let frame = soa.frame;
-    match write_behind(&eth_header.to_bytes(), &frame.to_bytes(), b"", target) {
-        Ok(n) => Ok(n),
-        Err(e) => Err(RequestError::Frame(e)),
-    }
+    let len = write_behind(&eth_header.to_bytes(), &frame.to_bytes(), b"", target)?;
+    Ok(len)
 }

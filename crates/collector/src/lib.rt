@@ -9,6 +9,8 @@ ghost use Rattle.std.specs.Prelude.{◌≡◌};
 ghost use Rattle.collector.specs.Calls.{Fresh, Registers, Reads, Flags, Requests, Takes};
 ghost use Rattle.collector.specs.Layout.{account_of};
 ghost use Rattle.collector.specs.Rules.{is_registered};
+ghost use Rattle.collector.specs.declared.ReadError.TheVariants.{Frame};
+ghost use Rattle.collector.specs.declared.RequestError.TheVariants as requesting;
 
 mod asking;
 mod book;
@@ -24,7 +26,7 @@ use error_entry::ErrorEntry;
 use reading::{hear, read_status};
 use records::ENTRY_LEN;
 use services::table::Services;
-use state::{NODES, count, ea, find, place_node, slot};
+use state::{NODES, find, slot};
 use types::basic::MacAddress;
 use types::hal::PowerlinkError;
 use types::states::NmtState;
@@ -93,6 +95,14 @@ pub enum ReadError {
     BookFull,
 }
 
+impl From<PowerlinkError> for ReadError {
+    ghost from_gives = { λ e r. r ≡ Frame e };
+
+    fn from(error: PowerlinkError) -> ReadError {
+        ReadError::Frame(error)
+    }
+}
+
 // What a request holds beside the node and EA.
 #[derive(Clone, Copy, Debug, PartialEq, Eq)]
 pub struct RequestFields {
@@ -106,6 +116,14 @@ pub struct RequestFields {
 pub enum RequestError {
     NotRegistered,
     Frame(PowerlinkError),
+}
+
+impl From<PowerlinkError> for RequestError {
+    ghost from_gives = { λ e r. r ≡ requesting.Frame e };
+
+    fn from(error: PowerlinkError) -> RequestError {
+        RequestError::Frame(error)
+    }
 }
 
 // Why no entry is handed out.
@@ -129,14 +147,13 @@ pub fn register(state: &mut Collector, id: NodeId) -> Result<(), RegisterError>
     if !id.is_cn() {
         return Err(RegisterError::IdOutOfRange);
     }
-    if find(state, id.0) < NODES {
+    if find(state, id.0).is_some() {
         return Err(RegisterError::IdRegistered);
     }
-    let k = find(state, 0);
-    if NODES <= k {
+    let Some(block) = find(state, 0) else {
         return Err(RegisterError::Full);
-    }
-    place_node(state, k, id.0);
+    };
+    block.place_node(state, id.0);
     Ok(())
 }
 
@@ -144,26 +161,27 @@ pub fn register(state: &mut Collector, id: NodeId) -> Result<(), RegisterError>
 pub fn is_registered(state: &Collector, id: NodeId) -> bool
     ensures { result ≡ is_registered (account_of state.now id.0) }
 {
-    slot(state, id.0) < NODES
+    slot(state, id.0).is_some()
 }
 
 // Reads a frame: the batch of a registered node's StatusResponse goes into its book, whole but for status entries, unless
 // it is there already.
-pub fn read(state: &mut Collector, services: &Services, buffer: &[u8]) -> Result<ReadOutcome, ReadError>
+pub fn read(
+    state: &mut Collector,
+    services: &Services,
+    buffer: &[u8],
+) -> Result<ReadOutcome, ReadError>
     ensures { Reads services.now buffer.now result state.old state.new }
 {
-    match hear(services, buffer) {
-        Err(e) => Err(ReadError::Frame(e)),
-        Ok(None) => Err(ReadError::NotStatusResponse),
-        // The payload from octet 4 of the section on, untrimmed: an answer without entries ends in zeros.
-        Ok(Some(source)) => {
-            let place = PayloadPlace {
-                start: PAYLOAD_AT,
-                len: buffer.len(),
-            };
-            read_status(state, source.0, payload(place, buffer))
-        }
-    }
+    let Some(source) = hear(services, buffer)? else {
+        return Err(ReadError::NotStatusResponse);
+    };
+    // The payload from octet 4 of the section on, untrimmed: an answer without entries ends in zeros.
+    let place = PayloadPlace {
+        start: PAYLOAD_AT,
+        len: buffer.len(),
+    };
+    read_status(state, source.0, payload(place, buffer))
 }
 
 // What every frame of the managing node to a registered node has to carry: EA in a PReq to it, EA and ER in an SoA with it as
@@ -171,12 +189,9 @@ pub fn read(state: &mut Collector, services: &Services, buffer: &[u8]) -> Result
 pub fn flags(state: &Collector, id: NodeId) -> Option<SoAFlags>
     ensures { Flags id result state.now }
 {
-    let k = slot(state, id.0);
-    if NODES <= k {
-        return None;
-    }
+    let block = slot(state, id.0)?;
     Some(SoAFlags {
-        ea: ea(state, k),
+        ea: block.ea(state),
         er: false,
     })
 }
@@ -190,23 +205,21 @@ pub fn request(
 ) -> Result<usize, RequestError>
     ensures { Requests id fields result state.now target.old target.new }
 {
-    let k = slot(state, id.0);
-    if NODES <= k {
+    let Some(block) = slot(state, id.0) else {
         return Err(RequestError::NotRegistered);
-    }
-    write_request(id, fields, ea(state, k), target)
+    };
+    write_request(id, fields, block.ea(state), target)
 }
 
 // Hands out the oldest entry of a node's book; its place is used again.
 pub fn take(state: &mut Collector, id: NodeId) -> Result<ErrorEntry, TakeError>
     ensures { Takes id result state.old state.new }
 {
-    let k = slot(state, id.0);
-    if NODES <= k {
+    let Some(block) = slot(state, id.0) else {
         return Err(TakeError::NotRegistered);
-    }
-    if count(state, k) == 0 {
+    };
+    if block.count(state) == 0 {
         return Err(TakeError::NothingBooked);
     }
-    Ok(take_first(state, k))
+    Ok(take_first(state, block))
 }

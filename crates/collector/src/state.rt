@@ -1,97 +1,112 @@
 // The octets of the state: a block for each of four nodes, with its control octets and then the records of its book.
-ghost use Rattle.std.specs.Prelude.{◌≡◌, ◌≤◌, ◌<◌, length};
-ghost use Rattle.collector.specs.Layout.{collector_length, find_of, slot_of, ea_in, start_in, count_in, record_place, placed_bytes, ea_bytes};
+ghost use Rattle.std.specs.Prelude.{ℕ, ◌≡◌, ◌+◌, ◌≤◌, ◌<◌, set, length, get_or};
+ghost use Rattle.collector.specs.Layout.{block, block_found, control_length, collector_length, find_of, slot_of, ea_in, start_in, count_in, record_length, record_place, placed_bytes, ea_bytes};
 ghost use Rattle.collector.specs.Rules.{heads, book_length};
 
 use crate::{
     BLOCK_LEN, CONTROL_LEN, COUNT_AT, Collector, EA_AT, NODE_AT, PLACES, RECORD_LEN, START_AT,
 };
-use octets::slices::byte_at;
+use std::marker::Model;
 
 // The nodes that can be registered.
 pub const NODES: usize = 4;
 
-// The first block whose node ID is `id`, or 4. That the state has its length is known where it is lent as a slice.
-pub(crate) fn find(state: &Collector, id: u8) -> usize
-    ensures { (result ≡ find_of state.now id) × (result ≤ heads) × (length state.now ≡ collector_length) }
-{
-    if byte_at(state, NODE_AT) == id {
-        return 0;
-    }
-    if byte_at(state, BLOCK_LEN + NODE_AT) == id {
-        return 1;
-    }
-    if byte_at(state, BLOCK_LEN * 2 + NODE_AT) == id {
-        return 2;
-    }
-    if byte_at(state, BLOCK_LEN * 3 + NODE_AT) == id {
-        return 3;
-    }
-    NODES
+// A block of the state, by its number below NODES. `find` alone makes one.
+#[derive(Clone, Copy)]
+pub(crate) struct Block {
+    number: usize,
 }
 
-// 4, as no block is meant. The state is lent as a slice for what this tells of its length.
-fn no_block(_state: &[u8]) -> usize
-    ensures { result ≡ heads }
-{
-    NODES
+impl Model for Block {
+    ghost Value = { ℕ };
+
+    ghost view = { λ b. b.number };
+
+    ghost invariant = { λ b. b.number < heads };
+
+    ghost inverse = { λ k. record { number = k } };
 }
 
-// The block of a registered node, or 4. No node has the ID 0.
-pub(crate) fn slot(state: &Collector, id: u8) -> usize
-    ensures { (result ≡ slot_of state.now id) × (result ≤ heads) × (length state.now ≡ collector_length) }
+// The first block whose node ID is `id`.
+pub(crate) fn find(state: &Collector, id: u8) -> Option<Block>
+    ensures { result ≡ block_found (find_of state.now id) }
+{
+    for number in 0..NODES {
+        if state[BLOCK_LEN * number + NODE_AT] == id {
+            return Some(Block { number });
+        }
+    }
+    None
+}
+
+// The block of a registered node. No node has the ID 0.
+pub(crate) fn slot(state: &Collector, id: u8) -> Option<Block>
+    ensures { result ≡ block_found (slot_of state.now id) }
 {
     if id == 0 {
-        return no_block(state);
+        return None;
     }
     find(state, id)
 }
 
-pub(crate) fn ea(state: &Collector, k: usize) -> bool
-    requires { k < heads }
-    ensures { result ≡ ea_in state.now k }
-{
-    state[BLOCK_LEN * k + EA_AT] % 2 == 1
-}
+impl Block {
+    // A control octet.
+    fn octet(self, state: &Collector, at: usize) -> u8
+        requires { at < control_length }
+        ensures { result ≡ get_or state.now (block self + at) 0 }
+    {
+        state[BLOCK_LEN * self.number + at]
+    }
 
-pub(crate) fn set_ea(state: &mut Collector, k: usize, ea: bool)
-    requires { k < heads }
-    ensures { state.new ≡ ea_bytes state.old k ea }
-{
-    state[BLOCK_LEN * k + EA_AT] = if ea { 1 } else { 0 };
-}
+    pub(crate) fn set_octet(self, state: &mut Collector, at: usize, octet: u8)
+        requires { at < control_length }
+        ensures { state.new ≡ set state.old (block self + at) octet }
+    {
+        state[BLOCK_LEN * self.number + at] = octet;
+    }
 
-pub(crate) fn start(state: &Collector, k: usize) -> u8
-    requires { k < heads }
-    ensures { (result ≡ start_in state.now k) × (result < book_length) }
-{
-    state[BLOCK_LEN * k + START_AT] % PLACES
-}
+    #[tactic(auto, unfolding(crate::specs::Layout::ea_in))]
+    pub(crate) fn ea(self, state: &Collector) -> bool
+        ensures { result ≡ ea_in state.now self }
+    {
+        self.octet(state, EA_AT) % 2 == 1
+    }
 
-pub(crate) fn count(state: &Collector, k: usize) -> u8
-    requires { k < heads }
-    ensures { (result ≡ count_in state.now k) × (result ≤ book_length) }
-{
-    let n = state[BLOCK_LEN * k + COUNT_AT];
-    if n < PLACES { n } else { PLACES }
-}
+    pub(crate) fn set_ea(self, state: &mut Collector, ea: bool)
+        ensures { state.new ≡ ea_bytes state.old self ea }
+    {
+        self.set_octet(state, EA_AT, u8::from(ea));
+    }
 
-// Where the record at a place of a book's ring begins.
-pub(crate) fn record_place(k: usize, place: u8) -> usize
-    requires { k < heads }
-    ensures { result ≡ record_place k place }
-{
-    BLOCK_LEN * k + CONTROL_LEN + RECORD_LEN * ((place % PLACES) as usize)
-}
+    #[tactic(auto, unfolding(crate::specs::Layout::start_in))]
+    pub(crate) fn start(self, state: &Collector) -> u8
+        ensures { (result ≡ start_in state.now self) × (result < book_length) }
+    {
+        self.octet(state, START_AT) % PLACES
+    }
 
-// Gives block `k` to a node: EA 0 and an empty book.
-pub(crate) fn place_node(state: &mut Collector, k: usize, id: u8)
-    requires { k < heads }
-    ensures { state.new ≡ placed_bytes state.old k id }
-{
-    let at = BLOCK_LEN * k;
-    state[at + NODE_AT] = id;
-    state[at + EA_AT] = 0;
-    state[at + START_AT] = 0;
-    state[at + COUNT_AT] = 0;
+    #[tactic(auto, unfolding(crate::specs::Layout::count_in))]
+    pub(crate) fn count(self, state: &Collector) -> u8
+        ensures { (result ≡ count_in state.now self) × (result ≤ book_length) }
+    {
+        self.octet(state, COUNT_AT).min(PLACES)
+    }
+
+    // Where the record at a place of the book's ring begins.
+    pub(crate) fn record_place(self, place: u8) -> usize
+        ensures { (result ≡ record_place self place) × (result + record_length ≤ collector_length) }
+    {
+        BLOCK_LEN * self.number + CONTROL_LEN + RECORD_LEN * usize::from(place % PLACES)
+    }
+
+    // Gives the block to a node: EA 0 and an empty book.
+    #[tactic(auto, unfolding(crate::specs::Layout::placed_bytes))]
+    pub(crate) fn place_node(self, state: &mut Collector, id: u8)
+        ensures { state.new ≡ placed_bytes state.old self id }
+    {
+        self.set_octet(state, NODE_AT, id);
+        self.set_octet(state, EA_AT, 0);
+        self.set_octet(state, START_AT, 0);
+        self.set_octet(state, COUNT_AT, 0);
+    }
 }

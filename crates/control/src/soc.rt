@@ -4,7 +4,7 @@ ghost use Rattle.octets.specs.Numbers.{le_bytes};
 ghost use Rattle.section.specs.Write.{Writes};
 ghost use Rattle.control.specs.SoC.{new_soc, soc_bytes, soc_section};
 
-use octets::little_endian::{put_u32_le, put_u64_le};
+use octets::little_endian::put_le;
 use octets::slices::put;
 use section::{flag, write_section};
 use types::basic::{EthernetHeader, MacAddress, NewFrame};
@@ -73,7 +73,7 @@ impl SocFrame {
         put(&mut octets, 0, &node_octets(self));
         put(&mut octets, 4, &flag_octets(self));
         put(&mut octets, 6, &time_octets(net_time));
-        put_u64_le(&mut octets, 14, self.relative_time.0);
+        put_le(&mut octets, 14, self.relative_time.0);
         octets
     }
 
@@ -108,7 +108,7 @@ fn time_octets(time: NetTime) -> [u8; 8]
     ensures { result ≡ le_bytes 4 time.seconds ++ le_bytes 4 time.nanoseconds }
 {
     let mut octets = [0u8; 8];
-    put_u32_le(&mut octets, 0, time.seconds);
-    put_u32_le(&mut octets, 4, time.nanoseconds);
+    put_le(&mut octets, 0, time.seconds);
+    put_le(&mut octets, 4, time.nanoseconds);
     octets
 }

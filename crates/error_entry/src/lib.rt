@@ -6,9 +6,7 @@ ghost use Rattle.std.proofs.lemmas.List.Edits.{sets};
 ghost use Rattle.section.specs.Write.{Writes};
 ghost use Rattle.error_entry.specs.Entry.{entry_type_of, type_number, entry_of, entry_bytes, or_terminator, ReadsEntry};
 
-use octets::little_endian::{
-    get_u16_le, get_u32_le, get_u64_le, put_u16_le, put_u32_le, put_u64_le,
-};
+use octets::little_endian::{get_le, put_le};
 use types::common::NetTime;
 use types::error_mode::ErrorEntryMode;
 use types::hal::PowerlinkError;
@@ -119,11 +117,11 @@ impl ErrorEntry {
     fn put(self, target: &mut [u8])
         ensures { target.new ≡ sets target.old 0 (entry_bytes self) }
     {
-        put_u16_le(target, 0, u16::from(self.entry_type));
-        put_u16_le(target, 2, self.error_code);
-        put_u32_le(target, 4, self.timestamp.seconds);
-        put_u32_le(target, 8, self.timestamp.nanoseconds);
-        put_u64_le(target, 12, self.additional_information);
+        put_le(target, 0, u16::from(self.entry_type));
+        put_le(target, 2, self.error_code);
+        put_le(target, 4, self.timestamp.seconds);
+        put_le(target, 8, self.timestamp.nanoseconds);
+        put_le(target, 12, self.additional_information);
     }
 }
 
@@ -131,14 +129,14 @@ impl ErrorEntry {
 fn entry_in(s: &[u8]) -> ErrorEntry
     ensures { result ≡ entry_of s.now }
 {
-    let entry_type = EntryType::from(get_u16_le(s, 0));
+    let entry_type = EntryType::from(get_le::<_, u16>(s, 0));
     ErrorEntry {
         entry_type,
-        error_code: get_u16_le(s, 2),
+        error_code: get_le(s, 2),
         timestamp: NetTime {
-            seconds: get_u32_le(s, 4),
-            nanoseconds: get_u32_le(s, 8),
+            seconds: get_le(s, 4),
+            nanoseconds: get_le(s, 8),
         },
-        additional_information: get_u64_le(s, 12),
+        additional_information: get_le(s, 12),
     }
 }

@@ -15,10 +15,10 @@ use Rattle.octets.proofs.Order.{le_or_lt}
 use Rattle.octets.proofs.Trim.{trimmed_padded}
 use Rattle.types.specs.Messages.{message_of}
 use Rattle.services.specs.Table.{holds}
-use Rattle.control.specs.ASnd.{asnd_bytes, asnd_section}
-use Rattle.control.specs.declared.asnd.ASndFrame.{ASndFrame}
 use Rattle.section.specs.Write.{padded}
 use Rattle.section.proofs.Sections.{padded_length}
+use Rattle.control.specs.ASnd.{asnd_bytes, asnd_section}
+use Rattle.control.specs.declared.asnd.ASndFrame.{ASndFrame}
 use Rattle.frame.specs.declared.PowerlinkFrame.TheVariants.{ASnd}
 use Rattle.codec.specs.ASnd.{read_asnd, asnd_payload_length}
 use Rattle.codec.specs.Frame.{kind_in, read_section}

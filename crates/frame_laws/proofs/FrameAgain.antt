@@ -8,19 +8,25 @@ use lib.Dec.{leb, ltb, eqb}
 use lib.ListN.{length, get_or, take, drop, take-append-drop, length-drop}
 use lib.Seq.{get_or-drop, drop-drop}
 use borrow.Author.Tests.{leb-true}
-use Rattle.std.specs.Prelude.{Ok}
+use mathlib.Core.Bool.{Bool, true}
+use Rattle.std.specs.Prelude.{Result, Ok, Err}
 use Rattle.octets.specs.Numbers.{be, be_at, be_bytes}
 use Rattle.types.specs.Header.{eth_header_of, eth_bytes, ethertype_epl}
-use Rattle.types.specs.declared.hal.PowerlinkError.TheVariants.{BufferTooShort, InvalidEthernetFrame, InvalidPlFrame}
+use Rattle.types.specs.Codes.{need}
+use Rattle.types.specs.declared.hal.PowerlinkError.{PowerlinkError}
+use Rattle.types.specs.declared.message_type.MessageType.{MessageType}
 use Rattle.frame.specs.Write.{frame_bytes}
 use Rattle.frame.specs.declared.PowerlinkFrame.{PowerlinkFrame}
 use Rattle.frame.specs.declared.PowerlinkFrame.TheVariants.{Soc, PReq, PRes, SoA, ASnd}
-use Rattle.codec.specs.Frame.{kind_of, read_section, read_frame, place_in_frame, deserialize_frame, payload_of}
+use Rattle.codec.specs.Frame.{kind_of, kind_answer, read_section, read_frame, place_in_frame, deserialize_frame, payload_of}
+use Rattle.codec.specs.declared.DeserializedFrame.{DeserializedFrame}
 use Rattle.frame_laws.specs.WriteBack.{Octets, Plain, payload_in}
 use Rattle.frame_laws.proofs.HeldUnder.{Held}
 use Rattle.frame_laws.proofs.Elements.{elements, elements_are, joined}
-use Rattle.frame_laws.proofs.Passed.{kind_passed, by_tests}
+use Rattle.frame_laws.proofs.Passed.{by_tests}
 use Rattle.frame_laws.proofs.SectionAgain.{section_again}
+use Rattle.frame_laws.proofs.Tests.{no_value, passed_by}
+use Rattle.frame_laws.proofs.Whole.{by_frame}
 
 -- octets from a place on
 pub octets_from : (s : List ℕ) → Octets s → (n : ℕ) → Octets (drop n s)
@@ -55,26 +61,27 @@ module _ (services bytes : List ℕ) (f : PowerlinkFrame) where
   section_read : read_frame services bytes ≡ Ok f → (14 ≤ length bytes) × (read_section services (drop 14 bytes) ≡ Ok f)
   unfolding kind_of read_frame read_section
   section_read e =
-      let r = kind_passed services (leb 14 (length bytes)) BufferTooShort _ (drop 14 bytes) f e in
-      let t = kind_passed services (eqb (be_at 2 12 bytes) ethertype_epl) InvalidEthernetFrame _ (drop 14 bytes) f r.1 in
-      (leb-true 14 (length bytes) r.0, (kind_passed services (ltb 14 (length bytes)) InvalidPlFrame _ (drop 14 bytes) f t.1).1)
+      let kind : (t : Bool) (d : PowerlinkError) (next : Result MessageType PowerlinkError)
+      → kind_answer services (need t (Err d) next) (drop 14 bytes) ≡ Ok f → (t ≡ true) × (kind_answer services next (drop 14 bytes) ≡ Ok f)
+      = λ t d next. passed_by (λ k. kind_answer services k (drop 14 bytes) ≡ Ok f) t (Err d) next no_value in
+      let r = kind (leb 14 (length bytes)) _ _ e in
+      let t = kind (eqb (be_at 2 12 bytes) ethertype_epl) _ _ r.1 in
+      (leb-true 14 (length bytes) r.0, (kind (ltb 14 (length bytes)) _ _ t.1).1)
 
-  pub frame_again : Octets bytes → (deserialize_frame services bytes).answer ≡ Ok f → Plain f (drop 14 bytes)
-      → frame_bytes (deserialize_frame services bytes).eth_header f (payload_of (deserialize_frame services bytes).payload_place bytes) ≡ bytes
-  unfolding deserialize_frame frame_bytes
-  frame_again o e c =
+  section_written : read_frame services bytes ≡ Ok f → Octets bytes → Plain f (drop 14 bytes)
+      → frame_bytes (eth_header_of bytes) f (payload_of (place_in_frame f (drop 14 bytes)) bytes) ≡ bytes
+  unfolding frame_bytes
+  section_written e o c =
       let r = section_read e in
       rw (
-        e,
         same_payload bytes f,
         header_again bytes o r.0,
         section_again services (drop 14 bytes) f (octets_from bytes o 14) r.1 c,
         take-append-drop 14 bytes,
       )
 
-  pub frame_held : (deserialize_frame services bytes).answer ≡ Ok f → Held services f
-  unfolding deserialize_frame
-  frame_held e =
+  section_held : read_frame services bytes ≡ Ok f → Held services f
+  section_held e =
       by_tests services (drop 14 bytes) (Held services)
       (record {
         soc = λ _ _ bs. refl;
@@ -84,3 +91,13 @@ module _ (services bytes : List ℕ) (f : PowerlinkFrame) where
         asnd = λ _ _ held bs. rw held;
       })
       f (section_read e).1
+
+module _ (services bytes : List ℕ) (d : DeserializedFrame) where
+  pub frame_again : Octets bytes → deserialize_frame services bytes ≡ Ok d → Plain d.frame (drop 14 bytes)
+      → frame_bytes d.eth_header d.frame (payload_of d.payload_place bytes) ≡ bytes
+  frame_again o =
+      by_frame services bytes d (λ x. Plain x.frame (drop 14 bytes) → frame_bytes x.eth_header x.frame (payload_of x.payload_place bytes) ≡ bytes)
+      (λ f q. section_written services bytes f q o)
+
+  pub frame_held : deserialize_frame services bytes ≡ Ok d → Held services d.frame
+  frame_held = by_frame services bytes d (λ x. Held services x.frame) (section_held services bytes)

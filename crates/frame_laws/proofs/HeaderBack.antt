@@ -7,10 +7,13 @@ use native.Mathlib.Omega.{arith}
 use lib.ListN.{length}
 use lib.Seq.{take_all}
 use borrow.Author.Tests.{le-leb, lt-ltb}
+use Rattle.std.specs.Prelude.{Ok, Err}
 use Rattle.octets.specs.Numbers.{be_at}
 use Rattle.types.specs.Header.{eth_header_of, eth_bytes}
 use Rattle.types.specs.declared.basic.EthernetHeader.{EthernetHeader}
-use Rattle.codec.specs.Frame.{kind_of, read_frame, read_section, place_of, deserialize_frame}
+use Rattle.types.specs.declared.hal.PowerlinkError.{PowerlinkError}
+use Rattle.frame.specs.declared.PowerlinkFrame.{PowerlinkFrame}
+use Rattle.codec.specs.Frame.{kind_of, read_frame, read_section, place_in_frame, deserialize_frame}
 use Rattle.frame_laws.specs.ReadBack.{IsHeader}
 use Rattle.frame_laws.proofs.Elements.{elements, elements_are}
 
@@ -33,8 +36,13 @@ module _ (services : List ℕ) (h : EthernetHeader) (s : List ℕ) (is : IsHeade
         lt-ltb 14 (length (eth_bytes h ++ s)) (omega arith),
       )
 
-  pub frame_back : 0 < length s
-      → deserialize_frame services (eth_bytes h ++ s)
-      ≡ record { eth_header = h; answer = read_section services s; payload_place = place_of (read_section services s) s }
-  unfolding deserialize_frame eth_bytes
-  frame_back k = rw (section_back k, header_back h s is)
+  module _ (long : 0 < length s) where
+    -- a frame is read with its header and the place of its payload, and a refusal is handed on
+    pub frame_back : (f : PowerlinkFrame) → read_section services s ≡ Ok f
+        → deserialize_frame services (eth_bytes h ++ s) ≡ Ok (record { eth_header = h; frame = f; payload_place = place_in_frame f s })
+    unfolding deserialize_frame eth_bytes
+    frame_back f e = rw (section_back long, e, header_back h s is)
+
+    pub refused_back : (e : PowerlinkError) → read_section services s ≡ Err e → deserialize_frame services (eth_bytes h ++ s) ≡ Err e
+    unfolding deserialize_frame
+    refused_back d e = rw (section_back long, e)

@@ -21,6 +21,8 @@ pub mod SoABack
 pub mod SoCBack
 pub mod StatusAgain
 pub mod StatusPassed
+pub mod Tests
 pub mod Trimmed
 pub mod Twelve
+pub mod Whole
 pub mod WriteBack

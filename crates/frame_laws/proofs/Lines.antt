@@ -6,6 +6,7 @@ use mathlib.Core.List.{List, map}
 use Rattle.octets.specs.Numbers.{le_at, be_at}
 use Rattle.types.specs.Header.{eth_header_of}
 use Rattle.types.specs.Messages.{message_of}
+use Rattle.types.specs.Modes.{mode_in}
 use Rattle.types.specs.PollFlags.{priority_in}
 use Rattle.types.specs.RequestedServices.{requested_of}
 use Rattle.types.specs.States.{state_of}
@@ -16,10 +17,9 @@ use Rattle.codec.specs.PReq.{read_preq}
 use Rattle.codec.specs.PRes.{pres_flags_of, read_pres}
 use Rattle.codec.specs.SoA.{read_soa}
 use Rattle.codec.specs.SoC.{read_soc}
+use Rattle.error_entry.specs.Entry.{entry_type_of, entry_of}
 use Rattle.status_response.specs.Fields.{read_fields}
 use Rattle.status_response.specs.Steps.{status_entries}
-use Rattle.error_entry.specs.Entry.{entry_type_of, entry_of}
-use Rattle.types.specs.Modes.{mode_in}
 use Rattle.frame_laws.specs.FrameLines.{frame_lines}
 use Rattle.frame_laws.specs.Lines.{frame_outcome, status_outcome, TableHolds}
 use Rattle.frame_laws.specs.StatusLines.{status_lines}

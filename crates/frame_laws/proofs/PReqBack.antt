@@ -11,9 +11,9 @@ use Rattle.octets.specs.Numbers.{le_at}
 use Rattle.octets.proofs.Le.{bytes_back}
 use Rattle.types.specs.Messages.{message_of}
 use Rattle.types.specs.declared.hal.PowerlinkError.TheVariants.{BufferTooShort}
+use Rattle.section.specs.Write.{padded}
 use Rattle.poll.specs.PReq.{preq_bytes, preq_section}
 use Rattle.poll.specs.declared.preq.PReqFrame.{PReqFrame}
-use Rattle.section.specs.Write.{padded}
 use Rattle.frame.specs.declared.PowerlinkFrame.TheVariants.{PReq}
 use Rattle.codec.specs.Frame.{kind_in, read_section}
 use Rattle.codec.specs.PReq.{read_preq}

@@ -14,10 +14,10 @@ use Rattle.types.specs.PollFlags.{poll_octet}
 use Rattle.types.specs.declared.hal.PowerlinkError.TheVariants.{BufferTooShort}
 use Rattle.types.proofs.PollBack.{poll_priority, poll_requests}
 use Rattle.types.proofs.ReadBack.{state_known}
+use Rattle.section.specs.Write.{padded}
 use Rattle.poll.specs.PRes.{pres_flag_bits, pres_bytes, pres_section}
 use Rattle.poll.specs.declared.pres.PResFlags.{PResFlags}
 use Rattle.poll.specs.declared.pres.PResFrame.{PResFrame}
-use Rattle.section.specs.Write.{padded}
 use Rattle.frame.specs.declared.PowerlinkFrame.TheVariants.{PRes}
 use Rattle.codec.specs.Frame.{kind_in, read_section}
 use Rattle.codec.specs.PRes.{pres_flags_of, read_pres}

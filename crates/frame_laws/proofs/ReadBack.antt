@@ -1,7 +1,7 @@
 -- A frame that is written is read back: header, fields and payload, under every table that holds its service.
 -- Assumes nothing.
 use Prim.Native.Nat.{ℕ, ◌+◌, ◌-◌}
-use mathlib.Core.Path.{◌≡◌, refl, sym, ◌∙◌}
+use mathlib.Core.Path.{◌≡◌, refl, sym, ap, ◌∙◌}
 use mathlib.Core.List.{List}
 use native.Mathlib.Omega.{arith}
 use lib.ListN.{length, replicate, length-append}
@@ -17,12 +17,15 @@ use Rattle.control.specs.declared.asnd.ASndFrame.{ASndFrame}
 use Rattle.frame.specs.Write.{frame_bytes}
 use Rattle.frame.specs.declared.PowerlinkFrame.{PowerlinkFrame}
 use Rattle.frame.specs.declared.PowerlinkFrame.TheVariants.{Soc, PReq, PRes, SoA, ASnd}
+use Rattle.codec.specs.Frame.{read_frame}
 use Rattle.frame_laws.specs.ReadBack.{ReadsAs, IsHeader, Faithful, FramesReadBack}
 use Rattle.frame_laws.specs.Sizes.{SizeReadsBack}
 use Rattle.frame_laws.proofs.ASndBack.{asnd_back, asnd_payload}
 use Rattle.frame_laws.proofs.Sizes.{from_section, sizes_read_back}
 use Rattle.frame_laws.proofs.SoABack.{soa_back}
 use Rattle.frame_laws.proofs.SoCBack.{soc_back}
+use Rattle.frame_laws.proofs.Tests.{one_value}
+use Rattle.frame_laws.proofs.Whole.{frame_in_it}
 
 module _ (services : List ℕ) where
   -- a size that is the payload's length gives the payload
@@ -30,7 +33,7 @@ module _ (services : List ℕ) where
       → ReadsAs services (frame_bytes h f p) h f p
   own_size h f n p sized e =
       let r = sized.enough (omega (arith, length-append p (replicate (46 - (10 + length p)) 0))) in
-      record { header = r.header; frame = r.frame; octets = r.octets ∙ take_at p _ n (sym e) }
+      record { place = r.place; read = r.read; octets = r.octets ∙ take_at p _ n (sym e) }
 
   -- under a table that holds its service
   asnd_reads : (h : EthernetHeader) (f : ASndFrame) (p : List ℕ) → IsHeader h → Faithful services (ASnd f) p
@@ -48,6 +51,11 @@ module _ (services : List ℕ) where
   reads h (SoA f) p is q = from_section services h (SoA f) p (soa_section f) is refl (omega arith) p (soa_back services f) (sym q)
   reads h (ASnd f) p is q = asnd_reads h f p is q
 
+-- what is read as a frame is that frame
+pub frame_read : {services bytes : List ℕ} {h : EthernetHeader} {f : PowerlinkFrame} {p : List ℕ} → ReadsAs services bytes h f p
+    → read_frame services bytes ≡ Ok f
+frame_read {services} {bytes} r = frame_in_it services bytes _ r.read
+
 pub frames_read_back : FramesReadBack
 frames_read_back =
     record {
@@ -55,11 +63,8 @@ frames_read_back =
       same =
           λ services h k f g p q ih ff ik fg e.
           let a = reads services h f p ih ff in
-          let b = reads services k g q ik fg in (
-            sym a.header ∙ rw e b.header,
-            (
-              let z : Ok f ≡ Ok g = sym a.frame ∙ rw e b.frame in cc,
-              sym a.octets ∙ rw e b.octets,
-            ),
-          );
+          let b = reads services k g q ik fg in
+          let one = one_value (sym a.read ∙ rw e b.read) in
+          let there = ap (λ d. d.payload_place) one in
+          (ap (λ d. d.eth_header) one, (ap (λ d. d.frame) one, sym a.octets ∙ rw (e, there) b.octets));
     }

@@ -1,7 +1,7 @@
 -- PReq and PRes read back by the size that they were given. A frame from its section.
 -- Assumes nothing.
 use Prim.Native.Nat.{ℕ, ◌≤◌, ◌<◌}
-use mathlib.Core.Path.{◌≡◌, refl, ap, ◌∙◌}
+use mathlib.Core.Path.{◌≡◌, refl, ap}
 use mathlib.Core.List.{List, ◌++◌}
 use native.Mathlib.Omega.{arith}
 use lib.ListN.{length, take}
@@ -15,10 +15,10 @@ use Rattle.poll.specs.PRes.{pres_section}
 use Rattle.frame.specs.Write.{frame_section, frame_bytes}
 use Rattle.frame.specs.declared.PowerlinkFrame.{PowerlinkFrame}
 use Rattle.frame.specs.declared.PowerlinkFrame.TheVariants.{PReq, PRes}
-use Rattle.codec.specs.Frame.{read_section, place_in_frame, deserialize_frame, payload_of}
+use Rattle.codec.specs.Frame.{read_section, place_in_frame, payload_of}
 use Rattle.frame_laws.specs.ReadBack.{ReadsAs, IsHeader}
 use Rattle.frame_laws.specs.Sizes.{behind_fields, SizeReadsBack, SizesReadBack}
-use Rattle.frame_laws.proofs.HeaderBack.{frame_back}
+use Rattle.frame_laws.proofs.HeaderBack.{frame_back, refused_back}
 use Rattle.frame_laws.proofs.PReqBack.{preq_back, preq_cut, preq_payload}
 use Rattle.frame_laws.proofs.PResBack.{pres_back, pres_cut, pres_payload}
 
@@ -29,9 +29,7 @@ module _ (services : List ℕ) (h : EthernetHeader) (f : PowerlinkFrame) (p s : 
       → ReadsAs services (frame_bytes h f p) h f q
   unfolding frame_bytes
   from_section q read place =
-      let e : deserialize_frame services (frame_bytes h f p) ≡ record { eth_header = h; answer = Ok f; payload_place = place_in_frame f s } =
-      rw es (frame_back services h s is long ∙ rw read) in
-      record { header = rw e; frame = rw e; octets = rw (e, es) place }
+      record { place = place_in_frame f s; read = rw es (frame_back services h s is long f read); octets = rw es place }
 
   -- where what stands behind the fields decides: read with the first n octets of it, or too short
   by_size : (n : ℕ) → payload_of (place_in_frame f s) (eth_bytes h ++ s) ≡ take n (behind_fields p)
@@ -41,7 +39,7 @@ module _ (services : List ℕ) (h : EthernetHeader) (f : PowerlinkFrame) (p s : 
   by_size n place read cut =
       record {
         enough = λ fits. from_section (take n (behind_fields p)) (read (omega arith)) place;
-        too_few = λ lacks. rw es (frame_back services h s is long ∙ rw (cut (omega arith)));
+        too_few = λ lacks. rw es (refused_back services h s is long BufferTooShort (cut (omega arith)));
       }
 
 pub sizes_read_back : SizesReadBack

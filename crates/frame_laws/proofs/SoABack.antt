@@ -6,9 +6,9 @@ use mathlib.Core.List.{List}
 use Rattle.std.specs.Prelude.{Ok}
 use Rattle.types.specs.Messages.{message_of}
 use Rattle.types.proofs.ReadBack.{state_known, requested_known}
+use Rattle.section.specs.Write.{padded}
 use Rattle.control.specs.SoA.{soa_section}
 use Rattle.control.specs.declared.soa.SoAFrame.{SoAFrame}
-use Rattle.section.specs.Write.{padded}
 use Rattle.frame.specs.declared.PowerlinkFrame.TheVariants.{SoA}
 use Rattle.codec.specs.Frame.{kind_in, read_section}
 use Rattle.codec.specs.SoA.{read_soa}

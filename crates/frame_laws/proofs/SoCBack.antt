@@ -7,9 +7,9 @@ use Rattle.std.specs.Prelude.{Ok}
 use Rattle.octets.specs.Numbers.{le_at}
 use Rattle.octets.proofs.Le.{bytes_back}
 use Rattle.types.specs.Messages.{message_of}
+use Rattle.section.specs.Write.{padded}
 use Rattle.control.specs.SoC.{soc_section}
 use Rattle.control.specs.declared.soc.SocFrame.{SocFrame}
-use Rattle.section.specs.Write.{padded}
 use Rattle.frame.specs.declared.PowerlinkFrame.TheVariants.{Soc}
 use Rattle.codec.specs.Frame.{kind_in, read_section}
 use Rattle.codec.specs.SoC.{read_soc}

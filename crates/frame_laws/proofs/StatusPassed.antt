@@ -2,21 +2,16 @@
 -- Assumes nothing.
 use Prim.Native.Nat.{ℕ, ◌≤◌}
 use mathlib.Core.Path.{◌≡◌, refl, subst}
-use mathlib.Core.Bool.{Bool, true, false}
 use mathlib.Core.List.{List}
-use native.Mathlib.Omega.{arith}
-use lib.Dec.{leb}
 use lib.ListN.{length, get_or}
-use borrow.Author.Tests.{leb-true}
 use Rattle.std.specs.Prelude.{Result, Ok, Err}
-use Rattle.types.specs.Codes.{need}
 use Rattle.types.specs.States.{state_code, state_of}
-use Rattle.types.specs.declared.hal.PowerlinkError.TheVariants.{BufferTooShort, InvalidNmtState}
+use Rattle.types.specs.declared.hal.PowerlinkError.{PowerlinkError}
+use Rattle.types.specs.declared.states.NmtState.{NmtState}
 use Rattle.status_response.specs.Fields.{fields_of, status_by_state, read_fields}
 use Rattle.status_response.specs.declared.fields.StatusFields.{StatusFields}
 use Rattle.frame_laws.proofs.Named.{state_named}
-use Rattle.types.specs.declared.states.NmtState.{NmtState}
-use Rattle.types.specs.declared.hal.PowerlinkError.{PowerlinkError}
+use Rattle.frame_laws.proofs.Tests.{no_value, one_value, enough}
 
 pub record StatusPassed (s : List ℕ) (f : StatusFields) : Type 0 where
   pub long : 14 ≤ length s
@@ -25,16 +20,10 @@ pub record StatusPassed (s : List ℕ) (f : StatusFields) : Type 0 where
 
 module _ (s : List ℕ) (f : StatusFields) where
   by_state : 14 ≤ length s → (a : Result NmtState PowerlinkError) → state_of (get_or s 2 0) ≡ a → status_by_state s a ≡ Ok f → StatusPassed s f
-  by_state long (Err (InvalidNmtState b)) q e = let z : ◌≡◌ {A = ℕ} 0 1 = cc in absurd (omega arith)
+  by_state long (Err d) q e = absurd (no_value e)
   by_state long (Ok st) q e =
-      let z : fields_of s st ≡ f = cc in
-      subst (StatusPassed s) z (record { long = long; fields = refl; state = state_named (get_or s 2 0) st q })
-
-  by_length : (t : Bool) → leb 14 (length s) ≡ t → need t (Err BufferTooShort) (status_by_state s (state_of (get_or s 2 0))) ≡ Ok f
-      → StatusPassed s f
-  by_length true q e = by_state (leb-true 14 (length s) q) (state_of (get_or s 2 0)) refl e
-  by_length false q e = let z : ◌≡◌ {A = ℕ} 0 1 = cc in absurd (omega arith)
+      subst (StatusPassed s) (one_value e) (record { long = long; fields = refl; state = state_named (get_or s 2 0) st q })
 
   pub status_passed : read_fields s ≡ Ok f → StatusPassed s f
   unfolding read_fields
-  status_passed e = by_length (leb 14 (length s)) refl e
+  status_passed e = let r = enough 14 (length s) _ _ e in by_state r.0 (state_of (get_or s 2 0)) refl r.1

@@ -6,17 +6,17 @@ use mathlib.Core.List.{List}
 use lib.ListN.{get_or, drop}
 use Rattle.std.specs.Prelude.{Result, Ok, Err}
 use Rattle.types.specs.Header.{eth_length}
+use Rattle.types.specs.declared.hal.PowerlinkError.{PowerlinkError}
 use Rattle.types.specs.declared.message_type.MessageType.TheVariants as message
+use Rattle.types.specs.declared.message_type.MessageType.{MessageType}
 use Rattle.services.specs.Table.{ds301}
 use Rattle.services.proofs.Tables.{ds301_holds}
 use Rattle.frame.specs.Write.{under_table}
 use Rattle.frame.specs.declared.PowerlinkFrame.{PowerlinkFrame}
 use Rattle.frame.specs.declared.PowerlinkFrame.TheVariants.{Soc, PReq, PRes, SoA, ASnd}
 use Rattle.codec.specs.ASnd.{read_asnd}
-use Rattle.codec.specs.Frame.{kind_of, kind_answer, read_frame, deserialize_frame}
-use Rattle.frame_laws.specs.Twelve.{section_in01, frame_in01, deserialized_in01, written_in01, TheTwelve}
-use Rattle.types.specs.declared.message_type.MessageType.{MessageType}
-use Rattle.types.specs.declared.hal.PowerlinkError.{PowerlinkError}
+use Rattle.codec.specs.Frame.{kind_of, kind_answer, read_frame, deserialized, deserialize_frame}
+use Rattle.frame_laws.specs.Twelve.{section_in01, frame_in01, whole_in01, deserialized_in01, written_in01, TheTwelve}
 
 read : (k : Result MessageType PowerlinkError) (s : List ℕ) → kind_answer ds301 k s ≡ section_in01 k s
 unfolding read_asnd
@@ -38,9 +38,13 @@ answered : (bytes : List ℕ) → read_frame ds301 bytes ≡ frame_in01 bytes
 unfolding read_frame
 answered bytes = read (kind_of bytes) (drop eth_length bytes)
 
+placed : (bytes : List ℕ) (r : Result PowerlinkFrame PowerlinkError) → deserialized bytes r ≡ whole_in01 bytes r
+placed bytes (Ok f) = refl
+placed bytes (Err e) = refl
+
 whole : (bytes : List ℕ) → deserialize_frame ds301 bytes ≡ deserialized_in01 bytes
 unfolding deserialize_frame
-whole bytes = rw (answered bytes)
+whole bytes = rw (answered bytes) (placed bytes (frame_in01 bytes))
 
 pub the_twelve : TheTwelve
 the_twelve = record { reads = whole; writes = written }

@@ -11,12 +11,13 @@ use Rattle.frame.specs.Write.{frame_bytes}
 use Rattle.frame.specs.declared.PowerlinkFrame.{PowerlinkFrame}
 use Rattle.frame.specs.declared.PowerlinkFrame.TheVariants.{Soc, PReq, PRes, SoA, ASnd}
 use Rattle.codec.specs.Frame.{deserialize_frame, payload_of}
+use Rattle.codec.specs.declared.PayloadPlace.{PayloadPlace}
 
--- the bytes read as this header, this frame and this payload
+-- the bytes read as this header and this frame, with a place where this payload lies
 pub record ReadsAs (services bytes : List ℕ) (h : EthernetHeader) (f : PowerlinkFrame) (payload : List ℕ) : Type 0 where
-  pub header : (deserialize_frame services bytes).eth_header ≡ h
-  pub frame : (deserialize_frame services bytes).answer ≡ Ok f
-  pub octets : payload_of (deserialize_frame services bytes).payload_place bytes ≡ payload
+  pub place : PayloadPlace
+  pub read : deserialize_frame services bytes ≡ Ok (record { eth_header = h; frame = f; payload_place = place })
+  pub octets : payload_of place bytes ≡ payload
 
 -- two addresses of six octets, and the EtherType of POWERLINK: with another EtherType nothing is read
 pub record IsHeader (h : EthernetHeader) : Type 0 where

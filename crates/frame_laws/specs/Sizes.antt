@@ -11,7 +11,7 @@ use Rattle.poll.specs.declared.pres.PResFrame.{PResFrame}
 use Rattle.frame.specs.Write.{frame_bytes}
 use Rattle.frame.specs.declared.PowerlinkFrame.{PowerlinkFrame}
 use Rattle.frame.specs.declared.PowerlinkFrame.TheVariants.{PReq, PRes}
-use Rattle.codec.specs.Frame.{deserialize_frame, place}
+use Rattle.codec.specs.Frame.{deserialize_frame}
 use Rattle.frame_laws.specs.ReadBack.{ReadsAs, IsHeader}
 
 -- what stands behind the ten octets of the fields: the payload, and the zeros up to the smallest section
@@ -22,7 +22,7 @@ behind_fields payload = payload ++ replicate (min_section - (poll_fields_length 
 pub record SizeReadsBack (services : List ℕ) (h : EthernetHeader) (f : PowerlinkFrame) (n : ℕ) (payload : List ℕ) : Type 0 where
   pub enough : n ≤ length (behind_fields payload) → ReadsAs services (frame_bytes h f payload) h f (take n (behind_fields payload))
   pub too_few : length (behind_fields payload) < n
-      → deserialize_frame services (frame_bytes h f payload) ≡ record { eth_header = h; answer = Err BufferTooShort; payload_place = place 0 0 }
+      → deserialize_frame services (frame_bytes h f payload) ≡ Err BufferTooShort
 
 -- the size is a number of 16 bits; PRes goes to node 255, with rs at most 7, as in `Faithful`
 pub record SizesReadBack : Type 0 where

@@ -5,6 +5,7 @@ use Rattle.std.specs.Prelude.{ℕ, ◌≡◌, List, leb, length, get_or, drop, R
 use Rattle.types.specs.Codes.{pick, need}
 use Rattle.types.specs.Header.{eth_length, eth_header_of}
 use Rattle.types.specs.declared.hal.PowerlinkError.TheVariants.{BufferTooShort, InvalidServiceId}
+use Rattle.types.specs.declared.hal.PowerlinkError.{PowerlinkError}
 use Rattle.types.specs.declared.message_type.MessageType.{MessageType}
 use Rattle.types.specs.declared.message_type.MessageType.TheVariants as message
 use Rattle.services.specs.Ids.{is_listed}
@@ -15,13 +16,12 @@ use Rattle.frame.specs.Write.{under_table}
 use Rattle.frame.specs.declared.PowerlinkFrame.{PowerlinkFrame}
 use Rattle.frame.specs.declared.PowerlinkFrame.TheVariants.{Soc, PReq, PRes, SoA, ASnd}
 use Rattle.codec.specs.ASnd.{asnd_of}
-use Rattle.codec.specs.Frame.{kind_of, place_of, deserialize_frame}
+use Rattle.codec.specs.Frame.{kind_of, place_in_frame, deserialize_frame}
 use Rattle.codec.specs.PReq.{read_preq}
 use Rattle.codec.specs.PRes.{read_pres}
 use Rattle.codec.specs.SoA.{read_soa}
 use Rattle.codec.specs.SoC.{read_soc}
 use Rattle.codec.specs.declared.DeserializedFrame.{DeserializedFrame}
-use Rattle.types.specs.declared.hal.PowerlinkError.{PowerlinkError}
 
 -- "ASnd: 4 bytes needed. Byte 3 service: 1 to 5, 0B, 0D to 12 h"
 abbrev pub asnd_in01 : List ℕ → Result PowerlinkFrame PowerlinkError
@@ -44,10 +44,13 @@ section_in01 (Ok k) s = kind_in01 k s
 abbrev pub frame_in01 : List ℕ → Result PowerlinkFrame PowerlinkError
 frame_in01 f = section_in01 (kind_of f) (drop eth_length f)
 
--- the whole reading: the header that the octets give, the answer, and the payload's place
-abbrev pub deserialized_in01 : List ℕ → DeserializedFrame
-deserialized_in01 f =
-    record { eth_header = eth_header_of f; answer = frame_in01 f; payload_place = place_of (frame_in01 f) (drop eth_length f) }
+-- the whole reading of the octets f: of a frame, the header that they give, the frame, and the payload's place
+abbrev pub whole_in01 : List ℕ → Result PowerlinkFrame PowerlinkError → Result DeserializedFrame PowerlinkError
+whole_in01 f (Ok x) = Ok (record { eth_header = eth_header_of f; frame = x; payload_place = place_in_frame x (drop eth_length f) })
+whole_in01 f (Err e) = Err e
+
+abbrev pub deserialized_in01 : List ℕ → Result DeserializedFrame PowerlinkError
+deserialized_in01 f = whole_in01 f (frame_in01 f)
 
 -- the octets of a frame: those of an ASnd of another service are refused with 6, after 1
 abbrev pub written_in01 : PowerlinkFrame → List ℕ → Coded

@@ -12,6 +12,7 @@ use Rattle.frame.specs.Write.{frame_section, frame_bytes, under_table}
 use Rattle.frame.specs.declared.PowerlinkFrame.{PowerlinkFrame}
 use Rattle.frame.specs.declared.PowerlinkFrame.TheVariants.{Soc, PReq, PRes, SoA, ASnd}
 use Rattle.codec.specs.Frame.{read_section, place_in_frame, deserialize_frame, payload_of}
+use Rattle.codec.specs.declared.DeserializedFrame.{DeserializedFrame}
 use Rattle.error_entry.specs.Entry.{entry_length}
 use Rattle.error_entry.specs.declared.ErrorEntry.{ErrorEntry}
 use Rattle.status_response.specs.BitField.{field_of}
@@ -122,12 +123,11 @@ payload_in f s = payload_of (place_in_frame f s) (replicate eth_length 0 ++ s)
 pub record SectionsWriteBack : Type 0 where
   pub sections : (services s : List ℕ) (f : PowerlinkFrame) → Octets s → read_section services s ≡ Ok f → Plain f s
       → frame_section f (payload_in f s) ≡ s
-  pub frames : (services bytes : List ℕ) (f : PowerlinkFrame) → Octets bytes → (deserialize_frame services bytes).answer ≡ Ok f
-      → Plain f (drop eth_length bytes)
-      → frame_bytes (deserialize_frame services bytes).eth_header f (payload_of (deserialize_frame services bytes).payload_place bytes) ≡ bytes
+  pub frames : (services bytes : List ℕ) (d : DeserializedFrame) → Octets bytes → deserialize_frame services bytes ≡ Ok d
+      → Plain d.frame (drop eth_length bytes) → frame_bytes d.eth_header d.frame (payload_of d.payload_place bytes) ≡ bytes
   -- under the table that it was read under, no writer refuses it with 6
-  pub held : (services bytes : List ℕ) (f : PowerlinkFrame) → (deserialize_frame services bytes).answer ≡ Ok f
-      → (bs : List ℕ) → under_table services f bs ≡ octets bs
+  pub held : (services bytes : List ℕ) (d : DeserializedFrame) → deserialize_frame services bytes ≡ Ok d
+      → (bs : List ℕ) → under_table services d.frame bs ≡ octets bs
   pub statuses : (s : List ℕ) (f : StatusFields) → Octets s → read_fields s ≡ Ok f → PlainStatus s
       → status_bytes (head_bytes f (field_of (drop 6 s))) (status_entries s) ≡ s
   -- and no more is asked than writing gives: whatever reads back is plain where it is written

@@ -13,8 +13,8 @@ use Rattle.journal_records.specs.Record.{journal_cause}
 use Rattle.journal_records.specs.Whole.{whole_len_cause}
 use Rattle.journal_records.specs.declared.JournalError.TheVariants as written
 use Rattle.journal_records.specs.declared.WholeLenError.TheVariants as whole
-use Rattle.journal_records.specs.declared.listing.ListError.TheVariants as listingError
-use Rattle.journal_records.specs.declared.listing.Stop.TheVariants as listing
+use Rattle.journal_records.specs.declared.listing.ListError.TheVariants as listing
+use Rattle.journal_records.specs.declared.listing.Stop.TheVariants as stop
 use Rattle.journal_records.specs.declared.JournalError.{JournalError}
 use Rattle.journal_records.specs.declared.WholeLenError.{WholeLenError}
 use Rattle.journal_records.specs.declared.listing.Stop.{Stop}
@@ -40,18 +40,18 @@ whole_len_back (Err whole.UnknownVersion) = refl
 
 abbrev list_of : Cause → Result Stop ListError
 list_of c =
-    pick (eqb c.number 0) (pick (eqb (get_or c.returned 0 0) 0) (Ok listing.More) (pick (eqb (get_or c.returned 0 0) 1) (Ok listing.Full) (Ok listing.End)))
-    (pick (eqb c.number 1) (Err listingError.BufferTooShort)
-    (pick (eqb c.number 17) (Err listingError.NotAJournal) (pick (eqb c.number 18) (Err listingError.UnknownVersion) (Err listingError.RecordInvalid))))
+    pick (eqb c.number 0) (pick (eqb (get_or c.returned 0 0) 0) (Ok stop.More) (pick (eqb (get_or c.returned 0 0) 1) (Ok stop.Full) (Ok stop.End)))
+    (pick (eqb c.number 1) (Err listing.BufferTooShort)
+    (pick (eqb c.number 17) (Err listing.NotAJournal) (pick (eqb c.number 18) (Err listing.UnknownVersion) (Err listing.RecordInvalid))))
 
 list_back : (a : Result Stop ListError) → list_of (list_cause a) ≡ a
-list_back (Ok listing.More) = refl
-list_back (Ok listing.Full) = refl
-list_back (Ok listing.End) = refl
-list_back (Err listingError.BufferTooShort) = refl
-list_back (Err listingError.NotAJournal) = refl
-list_back (Err listingError.UnknownVersion) = refl
-list_back (Err listingError.RecordInvalid) = refl
+list_back (Ok stop.More) = refl
+list_back (Ok stop.Full) = refl
+list_back (Ok stop.End) = refl
+list_back (Err listing.BufferTooShort) = refl
+list_back (Err listing.NotAJournal) = refl
+list_back (Err listing.UnknownVersion) = refl
+list_back (Err listing.RecordInvalid) = refl
 
 pub causes_tell : CausesTell
 causes_tell =

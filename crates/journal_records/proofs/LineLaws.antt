@@ -9,8 +9,9 @@ use Rattle.types.specs.Modes.{mode_code}
 use Rattle.types.proofs.Modes.{mode_small}
 use Rattle.error_entry.specs.declared.ErrorEntry.{ErrorEntry}
 use Rattle.journal_records.specs.Listing.{fields_line}
-use Rattle.journal_records.specs.Text.{Puts, hex, decimal}
-use Rattle.journal_records.proofs.TextLaws.{put_next, put_as, hex_length, decimal_short, decimal_ten}
+use Rattle.journal_records.specs.declared.text.Line.{Line}
+use Rattle.journal_records.specs.Text.{Adds, hex, decimal}
+use Rattle.journal_records.proofs.TextLaws.{adds_next, adds_as, hex_length, decimal_short, decimal_ten}
 
 module _ (node : ℕ) (e : ErrorEntry) where
   abbrev columns : List ℕ
@@ -23,14 +24,14 @@ module _ (node : ℕ) (e : ErrorEntry) where
   unfolding fields_line
   columns_line = simp append_assoc
 
-  pub line_put : {m r₁ r₂ r₃ r₄ r₅ r₆ r₇ : ℕ} {out o₁ o₂ o₃ o₄ o₅ o₆ o₇ : List ℕ} → m ≡ mode_code e.entry_type.mode
-      → Puts (decimal node ++ 32 ∷ []) 0 r₁ out o₁ → Puts (hex 4 e.error_code ++ 32 ∷ []) r₁ r₂ o₁ o₂
-      → Puts (decimal m ++ 32 ∷ []) r₂ r₃ o₂ o₃ → Puts (decimal e.entry_type.profile ++ 32 ∷ []) r₃ r₄ o₃ o₄
-      → Puts (decimal e.timestamp.seconds ++ 32 ∷ []) r₄ r₅ o₄ o₅ → Puts (decimal e.timestamp.nanoseconds ++ 32 ∷ []) r₅ r₆ o₅ o₆
-      → Puts (hex 16 e.additional_information ++ 10 ∷ []) r₆ r₇ o₆ o₇ → Puts (fields_line node e) 0 r₇ out o₇
-  line_put em p₁ p₂ p₃ p₄ p₅ p₆ p₇ =
-      let p₃' = put_as p₃ (ap (λ (n : ℕ). decimal n ++ 32 ∷ []) em) in
-      put_as (put_next (put_next (put_next (put_next (put_next (put_next p₁ p₂) p₃') p₄) p₅) p₆) p₇) columns_line
+  pub line_adds : {m : ℕ} {l₀ l₁ l₂ l₃ l₄ l₅ l₆ l₇ : Line} → m ≡ mode_code e.entry_type.mode
+      → Adds (decimal node ++ 32 ∷ []) l₀ l₁ → Adds (hex 4 e.error_code ++ 32 ∷ []) l₁ l₂
+      → Adds (decimal m ++ 32 ∷ []) l₂ l₃ → Adds (decimal e.entry_type.profile ++ 32 ∷ []) l₃ l₄
+      → Adds (decimal e.timestamp.seconds ++ 32 ∷ []) l₄ l₅ → Adds (decimal e.timestamp.nanoseconds ++ 32 ∷ []) l₅ l₆
+      → Adds (hex 16 e.additional_information ++ 10 ∷ []) l₆ l₇ → Adds (fields_line node e) l₀ l₇
+  line_adds em a₁ a₂ a₃ a₄ a₅ a₆ a₇ =
+      let a₃' = adds_as a₃ (ap (λ (n : ℕ). decimal n ++ 32 ∷ []) em) in
+      adds_as (adds_next (adds_next (adds_next (adds_next (adds_next (adds_next a₁ a₂) a₃') a₄) a₅) a₆) a₇) columns_line
 
   pub line_short : node ≤ 239 → e.entry_type.profile < 4096 → length (fields_line node e) ≤ 55
   line_short h k =

@@ -1,7 +1,7 @@
 -- The cases of a record's tests.
 -- Assumes nothing.
 use Prim.Native.Nat.{ℕ, suc, ◌-◌, ◌≤◌, ◌<◌}
-use mathlib.Core.Bool.{Bool, true, false}
+use mathlib.Core.Bool.{Bool, true, false, not}
 use mathlib.Core.Path.{◌≡◌, refl, ap, ◌∙◌}
 use mathlib.Core.List.{List, [], ◌∷◌}
 use native.Mathlib.Omega.{arith}
@@ -15,6 +15,8 @@ use Rattle.octets.proofs.Sets.{sets_front}
 use Rattle.types.specs.Modes.{unless_terminator}
 use Rattle.types.specs.Nodes.{is_cn_node_id}
 use Rattle.types.specs.declared.NodeId.{NodeId}
+use Rattle.types.specs.declared.error_mode.ErrorEntryMode.{ErrorEntryMode}
+use Rattle.types.specs.declared.error_mode.ErrorEntryMode.TheVariants.{Terminator, ErrorActive, ErrorCleared, EventOccurred}
 use Rattle.section.specs.Write.{Writes}
 use Rattle.error_entry.specs.Entry.{entry_bytes}
 use Rattle.error_entry.specs.declared.ErrorEntry.{ErrorEntry}
@@ -24,6 +26,12 @@ use Rattle.records.proofs.RecordLaws.{bytes_length}
 use Rattle.journal_records.specs.Record.{record_bytes, valid_record, WritesRecord}
 use Rattle.journal_records.specs.declared.JournalError.TheVariants.{BufferTooShort, RecordInvalid}
 use Rattle.types.specs.declared.hal.PowerlinkError.{PowerlinkError}
+
+pub not_terminator : (m : ErrorEntryMode) → not (unless_terminator m false true) ≡ unless_terminator m true false
+not_terminator Terminator = refl
+not_terminator ErrorActive = refl
+not_terminator ErrorCleared = refl
+not_terminator EventOccurred = refl
 
 module _ (node : ℕ) (e : ErrorEntry) where
   pub id_bad : is_cn_node_id node ≡ false → false ≡ valid_record node e

@@ -2,19 +2,18 @@
 -- Assumes nothing.
 use Prim.Native.Nat.{ℕ, ◌≤◌, ◌<◌}
 use mathlib.Core.Bool.{Bool, true, false}
-use mathlib.Core.Path.{◌≡◌, refl, ap, ◌∙◌}
+use mathlib.Core.Path.{◌≡◌, refl, ap}
 use mathlib.Core.List.{List}
 use native.Mathlib.Nat.{zero-add}
 use native.Mathlib.Omega.{arith}
-use lib.Dec.{ltb}
-use lib.ListN.{length, drop}
-use borrow.Author.Tests.{le-leb, lt-leb, eq-eqb, ne_eqb}
+use lib.Dec.{leb, ltb}
+use lib.ListN.{length, drop, length-drop}
+use borrow.Author.Tests.{le-leb, lt-leb, leb-true, leb-false, eq-eqb, ne_eqb}
 use Rattle.std.specs.Prelude.{Result, Ok, Err}
+use Rattle.octets.proofs.Cases.{either}
 use Rattle.octets.specs.Numbers.{le_at}
-use Rattle.error_entry.specs.Entry.{read_entry, or_terminator}
+use Rattle.error_entry.specs.Entry.{read_entry}
 use Rattle.error_entry.specs.declared.ErrorEntry.{ErrorEntry}
-use Rattle.records.specs.Records.{record_at}
-use Rattle.records.proofs.RecordLaws.{record_read}
 use Rattle.journal_records.specs.Listing.{node_of, recorded_entry, version1, layout_of, header_line, record_line, good_record, marked, fields_line}
 use Rattle.journal_records.specs.Parts.{Piece, stopped, refusal, one_line, header_step, record_step, phase_step, needed, awaits, ended, step_of, told, Prints}
 use Rattle.journal_records.specs.Record.{valid_record}
@@ -29,16 +28,16 @@ use Rattle.journal_records.specs.declared.listing.Stop.{Stop}
 use Rattle.journal_records.specs.declared.listing.ListError.{ListError}
 
 module _ (s : List ℕ) where
-  pub header_cut : length s < 5 → header_step s ≡ refusal (Err NotAJournal) Header
+  pub header_cut : length s < 5 → header_step s ≡ refusal NotAJournal Header
   unfolding header_step
   header_cut h = rw (lt-leb 5 (length s) h)
 
   module _ (long : 5 ≤ length s) where
-    pub header_unmarked : marked s ≡ false → header_step s ≡ refusal (Err NotAJournal) Header
+    pub header_unmarked : marked s ≡ false → header_step s ≡ refusal NotAJournal Header
     unfolding header_step
     header_unmarked e = rw (le-leb 5 (length s) long, e)
 
-    pub header_version : marked s ≡ true → (le_at 2 3 s ≡ 1 → ⊥) → header_step s ≡ refusal (Err UnknownVersion) Header
+    pub header_version : marked s ≡ true → (le_at 2 3 s ≡ 1 → ⊥) → header_step s ≡ refusal UnknownVersion Header
     unfolding header_step layout_of
     header_version e f = rw (le-leb 5 (length s) long, e, ne_eqb (le_at 2 3 s) 1 f)
 
@@ -46,16 +45,27 @@ module _ (s : List ℕ) where
     unfolding header_step layout_of
     header_good e f = rw (le-leb 5 (length s) long, e, eq-eqb (le_at 2 3 s) 1 f)
 
-  pub record_cut : length s < 21 → record_step s ≡ refusal (Err RecordInvalid) Records
+  -- the entry of a record is read where the record is there whole
+  module _ {t : List ℕ} (et : t ≡ drop 1 s) where
+    pub entry_cut : {e : PowerlinkError} → read_entry t ≡ Err e → length s < 21
+    unfolding read_entry
+    entry_cut r =
+        either (leb 20 (length t)) (λ b. let k = rw b at r in cc)
+        (λ b. omega (arith, leb-false _ _ b, ap length et, length-drop 1 s))
+
+    pub entry_read : {e : ErrorEntry} → read_entry t ≡ Ok e → (21 ≤ length s) × (e ≡ recorded_entry s)
+    unfolding read_entry
+    entry_read r =
+        either (leb 20 (length t))
+        (λ b. let k = rw b at r in (omega (arith, leb-true _ _ b, ap length et, length-drop 1 s), rw (← et) (cc)))
+        (λ b. let k = rw b at r in cc)
+
+  pub record_cut : length s < 21 → record_step s ≡ refusal RecordInvalid Records
   unfolding record_step version1 good_record
   record_cut h = rw (lt-leb 21 (length s) h)
 
   module _ (long : 21 ≤ length s) where
-    pub entry_read : (t : List ℕ) (a : Result ErrorEntry PowerlinkError) (e : ErrorEntry) → t ≡ drop 1 s → a ≡ read_entry t → e ≡ or_terminator a → e ≡ recorded_entry s
-    unfolding record_at
-    entry_read t a e et ea ee = record_read s 1 a e (omega arith) (ea ∙ ap read_entry et) ee
-
-    pub record_fault : valid_record (node_of s) (recorded_entry s) ≡ false → record_step s ≡ refusal (Err RecordInvalid) Records
+    pub record_fault : valid_record (node_of s) (recorded_entry s) ≡ false → record_step s ≡ refusal RecordInvalid Records
     unfolding record_step version1 good_record
     record_fault e = rw (le-leb 21 (length s) long, e)
 

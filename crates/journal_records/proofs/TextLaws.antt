@@ -4,16 +4,16 @@ use Prim.Native.Nat.{ℕ, zero, suc, ◌+◌, ◌-◌, ◌/◌, ◌%◌, ◌^◌
 use mathlib.Core.Bool.{Bool, true, false}
 use mathlib.Core.Path.{◌≡◌, refl, sym, ap, ◌∙◌}
 use mathlib.Core.List.{List, [], ◌∷◌, ◌++◌}
-use native.Mathlib.Nat.{mod-eq_of_lt, div-lt_iff_lt-mul, pow-suc, add-suc, not-suc-le-zero}
+use native.Mathlib.Nat.{mod-eq_of_lt, div-lt_iff_lt-mul, pow-suc}
 use native.Mathlib.Numerals.{add-one, sub-one}
 use native.Mathlib.Omega.{arith}
 use lib.Dec.{ltb}
-use lib.ListN.{length, set, length-append}
-use lib.Seq.{sets, set_comm}
+use lib.ListN.{length, length-append}
 use borrow.Author.Tests.{lt-ltb, le-ltb}
 use Rattle.octets.proofs.Sets.{sets_append}
 use Rattle.types.specs.Codes.{pick}
-use Rattle.journal_records.specs.Text.{Puts, digit, hex, decimal_in, decimal}
+use Rattle.journal_records.specs.declared.text.Line.{Line}
+use Rattle.journal_records.specs.Text.{Adds, Puts, digit, hex, decimal_in, decimal}
 
 -- ---- decimal
 
@@ -70,50 +70,24 @@ unfolding hex
 hex_length zero n = refl
 hex_length (suc k) n = rw (length-append, hex_length k (n / 16), add-one)
 
--- a store behind a copy may come before it
-sets_set : (l : List ℕ) (i j v : ℕ) (vs : List ℕ) → i + length vs ≤ j → sets (set l j v) i vs ≡ set (sets l i vs) j v
-sets_set l i j v [] h = refl
-sets_set l i j v (u ∷ us) h =
-    rw (set_comm l j i v u (λ e. omega (arith, e))) (sets_set (set l i u) (suc i) j v us (omega (arith, add-suc i (length us))))
-
--- the last digit is stored, and those in front of it remain
-hex_last : (i at n : ℕ) (l : List ℕ) → sets (set l (at + i) (digit (n % 16))) at (hex i (n / 16)) ≡ sets l at (hex (suc i) n)
+pub hex_none : (k n : ℕ) → k ≡ 0 → [] ≡ hex k n
 unfolding hex
-hex_last i at n l =
-    sets_set l at (at + i) (digit (n % 16)) (hex i (n / 16)) (omega (arith, hex_length i (n / 16)))
-    ∙ sym (sets_append l at (hex i (n / 16)) (digit (n % 16) ∷ []) ∙ rw hex_length)
+hex_none zero n e = refl
+hex_none (suc k) n e = cc
 
-pub hex_step : (i at n : ℕ) (l : List ℕ) → 0 < i → sets (set l (at + (i - 1)) (digit (n % 16))) at (hex (i - 1) (n / 16)) ≡ sets l at (hex i n)
-hex_step zero at n l h = absurd (not-suc-le-zero h)
-hex_step (suc i) at n l h = rw sub-one (hex_last i at n l)
-
--- no digit remains
-pub hex_done : (i at n : ℕ) (l : List ℕ) → i ≤ 0 → l ≡ sets l at (hex i n)
+-- the digits of a sixteenth, and the last one
+pub hex_more : (k n : ℕ) → (k ≡ 0 → ⊥) → hex (k - 1) (n / 16) ++ digit (n % 16) ∷ [] ≡ hex k n
 unfolding hex
-hex_done zero at n l h = refl
-hex_done (suc i) at n l h = absurd (not-suc-le-zero h)
-
--- a text, and one character behind it
-pub text_end : (l : List ℕ) (at v : ℕ) (vs : List ℕ) → set (sets l at vs) (at + length vs) v ≡ sets l at (vs ++ v ∷ [])
-text_end l at v vs = sym (sets_append l at vs (v ∷ []))
-
-pub length_end : (at v : ℕ) (vs : List ℕ) → at + length vs + 1 ≡ at + length (vs ++ v ∷ [])
-length_end at v vs = rw length-append (omega arith)
+hex_more zero n f = absurd (f refl)
+hex_more (suc k) n f = rw sub-one
 
 -- ---- texts as they are stored
 
-pub put_one : {out : List ℕ} {at v : ℕ} {after : List ℕ} → v < 10 → after ≡ set out at (48 + v) → Puts (decimal v) at (at + 1) out after
-put_one {v = v} h e = let d = decimal_one v h in record { next = rw d; holds = e ∙ rw d }
+-- the front of a buffer
+pub put_first : {text : List ℕ} {at r : ℕ} {out front after : List ℕ} → (at ≡ 0) × (front ≡ out) → Puts text at r front after → Puts text 0 r out after
+put_first e p = rw (← e.0, ← e.1) p
 
 module _ {text : List ℕ} {at r : ℕ} {out front : List ℕ} (p : Puts text at r out front) where
-  -- one character behind a text
-  pub put_ended : (end : ℕ) {after : List ℕ} → after ≡ set front r end → Puts (text ++ end ∷ []) at (r + 1) out after
-  put_ended end f =
-      record {
-        next = ap (λ (n : ℕ). n + 1) p.next ∙ length_end at end text;
-        holds = rw (f, p.next, p.holds) (text_end out at end text);
-      }
-
   -- a text behind a text
   pub put_next : {more : List ℕ} {r' : ℕ} {after : List ℕ} → Puts more r r' front after → Puts (text ++ more) at r' out after
   put_next {more} q =
@@ -125,9 +99,18 @@ module _ {text : List ℕ} {at r : ℕ} {out front : List ℕ} (p : Puts text at
   pub put_as : {same : List ℕ} → text ≡ same → Puts same at r out front
   put_as e = rw e at p
 
-pub put_more : {out : List ℕ} {at v r : ℕ} {front after : List ℕ} → 10 ≤ v → v < 10 ^ 10 → Puts (decimal (v / 10)) at r out front
-    → after ≡ set front r (48 + v % 10) → Puts (decimal v) at (r + 1) out after
-put_more {v = v} h k p f = put_as (put_ended p (48 + v % 10) f) (sym (decimal_more v h k))
+  -- what is left in the buffer is what the line has put there
+  pub put_left : {after : List ℕ} → after ≡ front → Puts text at r out after
+  put_left e = rw e p
 
-pub put_digits : {out : List ℕ} {at : ℕ} (k n : ℕ) {front : List ℕ} → front ≡ sets out at (hex k n) → Puts (hex k n) at (at + k) out front
-put_digits k n e = record { next = rw hex_length; holds = e }
+-- ---- how a line grows
+
+pub adds_none : {line : Line} → Adds [] line line
+adds_none = record { puts = record { next = omega arith; holds = refl }; same_reference = refl }
+
+module _ {text : List ℕ} {line grown : Line} (a : Adds text line grown) where
+  pub adds_next : {more : List ℕ} {after : Line} → Adds more grown after → Adds (text ++ more) line after
+  adds_next b = record { puts = put_next a.puts b.puts; same_reference = b.same_reference ∙ a.same_reference }
+
+  pub adds_as : {same : List ℕ} → text ≡ same → Adds same line grown
+  adds_as e = rw e at a

@@ -21,12 +21,12 @@ use Rattle.journal_records.proofs.StepLaws.{header_cut, header_unmarked, header_
 
 -- a step that writes a line
 pub data Lined : Phase → List ℕ → Bool → Piece → Type 0 where
-  head_cut : {s : List ℕ} → length s < 5 → Lined Header s true (refusal (Err NotAJournal) Header)
-  unmarked : {s : List ℕ} {last : Bool} → 5 ≤ length s → marked s ≡ false → Lined Header s last (refusal (Err NotAJournal) Header)
-  other_version : {s : List ℕ} {last : Bool} → 5 ≤ length s → marked s ≡ true → (le_at 2 3 s ≡ 1 → ⊥) → Lined Header s last (refusal (Err UnknownVersion) Header)
+  head_cut : {s : List ℕ} → length s < 5 → Lined Header s true (refusal NotAJournal Header)
+  unmarked : {s : List ℕ} {last : Bool} → 5 ≤ length s → marked s ≡ false → Lined Header s last (refusal NotAJournal Header)
+  other_version : {s : List ℕ} {last : Bool} → 5 ≤ length s → marked s ≡ true → (le_at 2 3 s ≡ 1 → ⊥) → Lined Header s last (refusal UnknownVersion Header)
   head_good : {s : List ℕ} {last : Bool} → 5 ≤ length s → marked s ≡ true → le_at 2 3 s ≡ 1 → Lined Header s last (one_line 5 (header_line version1))
-  short : {s : List ℕ} → length s < 21 → (length s ≡ 0 → ⊥) → Lined Records s true (refusal (Err RecordInvalid) Records)
-  fault : {s : List ℕ} {last : Bool} → 21 ≤ length s → valid_record (node_of s) (recorded_entry s) ≡ false → Lined Records s last (refusal (Err RecordInvalid) Records)
+  short : {s : List ℕ} → length s < 21 → (length s ≡ 0 → ⊥) → Lined Records s true (refusal RecordInvalid Records)
+  fault : {s : List ℕ} {last : Bool} → 21 ≤ length s → valid_record (node_of s) (recorded_entry s) ≡ false → Lined Records s last (refusal RecordInvalid Records)
   good : {s : List ℕ} {last : Bool} → 21 ≤ length s → valid_record (node_of s) (recorded_entry s) ≡ true
       → Lined Records s last (one_line 21 (fields_line (node_of s) (recorded_entry s)))
 

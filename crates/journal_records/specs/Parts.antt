@@ -37,9 +37,9 @@ pub record Piece : Type 0 where
 abbrev pub stopped : Result Stop ListError → Phase → Piece
 stopped a p = record { answer = a; phase = p; consumed = 0; text = [] }
 
--- the line with the answer's number
-abbrev pub refusal : Result Stop ListError → Phase → Piece
-refusal a p = record { answer = a; phase = p; consumed = 0; text = refused_line (list_cause a).number }
+-- the line with the refusal's number
+abbrev pub refusal : ListError → Phase → Piece
+refusal e p = record { answer = Err e; phase = p; consumed = 0; text = refused_line (list_cause (Err e)).number }
 
 -- a line for n octets: records are to come
 abbrev pub one_line : ℕ → List ℕ → Piece
@@ -48,15 +48,15 @@ one_line n text = record { answer = Ok More; phase = Records; consumed = n; text
 -- the line of the version's columns, or 18
 abbrev pub headed : Version → Piece
 headed (known l) = one_line 5 (header_line l)
-headed other = refusal (Err UnknownVersion) Header
+headed other = refusal UnknownVersion Header
 
 -- 17, then 18
 unfoldable pub header_step : List ℕ → Piece
-header_step s = need (leb 5 (length s) && marked s) (refusal (Err NotAJournal) Header) (headed (layout_of (le_at 2 3 s)))
+header_step s = need (leb 5 (length s) && marked s) (refusal NotAJournal Header) (headed (layout_of (le_at 2 3 s)))
 
 -- 19, where the record is cut too
 unfoldable pub record_step : List ℕ → Piece
-record_step s = need (good_record version1 s) (refusal (Err RecordInvalid) Records) (one_line version1.size (record_line version1 s))
+record_step s = need (good_record version1 s) (refusal RecordInvalid Records) (one_line version1.size (record_line version1 s))
 
 abbrev pub phase_step : Phase → List ℕ → Piece
 phase_step Header s = header_step s
@@ -85,9 +85,7 @@ step_of p s last room =
 
 -- 1 is said of the room that a call is lent: once a line is listed, that room is used up
 abbrev pub later : Result Stop ListError → Result Stop ListError
-later (Ok More) = Ok More
-later (Ok Full) = Ok Full
-later (Ok End) = Ok End
+later (Ok s) = Ok s
 later (Err BufferTooShort) = Ok Full
 later (Err NotAJournal) = Err NotAJournal
 later (Err UnknownVersion) = Err UnknownVersion

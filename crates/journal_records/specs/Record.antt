@@ -36,8 +36,7 @@ journal_cause (Err RecordInvalid) = row cause.record_invalid []
 -- the octets, then what the target held behind them; or the target as it was
 abbrev pub journal_holds : Result ℕ JournalError → List ℕ → List ℕ → List ℕ
 journal_holds (Ok n) bs target = bs ++ drop n target
-journal_holds (Err BufferTooShort) bs target = target
-journal_holds (Err RecordInvalid) bs target = target
+journal_holds (Err e) bs target = target
 
 -- r is what writing a record to `target` answers, with 01's number, and `after` what the target then holds
 pub record WritesRecord (node : NodeId) (e : ErrorEntry) (r : Result ℕ JournalError) (target after : List ℕ) : Type 0 where

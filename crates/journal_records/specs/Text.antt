@@ -3,6 +3,7 @@
 use Rattle.std.specs.Prelude.{ℕ, zero, suc, ◌+◌, ◌/◌, ◌%◌, ◌≡◌, List, [], ◌∷◌, ◌++◌, length, ltb}
 use Rattle.std.proofs.lemmas.List.Edits.{sets}
 use Rattle.types.specs.Codes.{pick}
+use Rattle.journal_records.specs.declared.text.Line.{Line}
 
 -- a digit below 16: `0` to `9`, then `A` to `F`
 unfoldable pub digit : ℕ → ℕ
@@ -28,7 +29,7 @@ joined [] = 10 ∷ []
 joined (t ∷ []) = t ++ 10 ∷ []
 joined (t ∷ u ∷ ts) = t ++ 32 ∷ joined (u ∷ ts)
 
--- a place up to which a column may begin: no line is as long
+-- how long a line may be: none of a listing is as long
 abbrev pub place_most : ℕ
 place_most = 100
 
@@ -36,3 +37,8 @@ place_most = 100
 pub record Puts (text : List ℕ) (at r : ℕ) (out after : List ℕ) : Type 0 where
   pub next : r ≡ at + length text
   pub holds : after ≡ sets out at text
+
+-- a line's text grows by this one, in the same buffer
+pub record Adds (text : List ℕ) (before after : Line) : Type 0 where
+  pub puts : Puts text before.len after.len before.out.now after.out.now
+  pub same_reference : after.out.ghost_name ≡ before.out.ghost_name

@@ -46,29 +46,23 @@ pub fn write(node: NodeId, entry: ErrorEntry, target: &mut [u8]) -> Result<usize
     if !valid(node, entry) {
         return Err(JournalError::RecordInvalid);
     }
-    entry.serialize(&mut target[1..]);
+    let _ = entry.serialize(&mut target[1..]);
     target[0] = node.0;
     Ok(JOURNAL_RECORD_LEN)
 }
 
 // Whether a record holds an entry of a controlled node.
+#[tactic(auto, unfolding(crate::specs::Record::valid_record))]
 fn valid(node: NodeId, entry: ErrorEntry) -> bool
     ensures { result ≡ valid_record node.0 entry }
 {
-    let entry_type = entry.entry_type;
-    let mode = entry_type.mode;
-    if !node.is_cn() {
-        return false;
-    }
-    if mode.is_terminator() {
-        return false;
-    }
-    true
+    node.is_cn() && !entry.entry_type.mode.is_terminator()
 }
 
 // How many octets of a journal are its mark, its version and whole records. A writer that was stopped, by a power cut say, may
 // leave a record torn at the end: before anything is appended, the journal is cut to this length. Else the records behind the
 // torn one are read from a wrong place, and faults are listed that nobody raised.
+#[tactic(auto, unfolding(crate::specs::Whole::whole_len, crate::specs::Listing::layout_of, crate::specs::Listing::version1))]
 pub fn whole_len(version: u16, len: usize) -> Result<usize, WholeLenError>
     ensures { TellsWhole version len result }
 {

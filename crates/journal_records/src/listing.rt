@@ -1,25 +1,19 @@
 // The listing of a journal, part by part: a journal may be longer than any buffer, and a record may lie across two
 // parts. What is not consumed of a part goes in front of the next one.
-ghost use Rattle.std.specs.Prelude.{◌≡◌, length};
+ghost use Rattle.std.specs.Prelude.{◌≡◌, length, Err};
 ghost use Rattle.journal_records.specs.Parts.{Lists, Prints, list_cause, answer_after, told, refusal, header_step, record_step, step_of};
 ghost use Rattle.journal_records.specs.Parts.{later as Parts·later, awaits as Parts·awaits, ended as Parts·ended, stopped as Parts·stopped};
 
-use crate::text::{put_line, put_number};
+use crate::text::{Line, put_line};
 use crate::{JOURNAL_RECORD_LEN, JOURNAL_START_LEN, VERSION, valid};
 use error_entry::ErrorEntry;
-use octets::little_endian::get_u16_le;
-use octets::slices::{has_mark, put, tail};
+use octets::little_endian::get_le;
+use octets::slices::{has_mark, tail};
 use types::NodeId;
 use types::causes::{NOT_A_JOURNAL, RECORD_INVALID, TOO_SHORT, UNKNOWN_VERSION};
 
-// The octets of the header's line.
-const HEADER_LINE_LEN: usize = 37;
-
 // The octets of the longest line. With room for fewer nothing is listed.
 pub const LINE_MAX: usize = 55;
-
-// The number where nothing is refused.
-const NOT_REFUSED: u8 = 0;
 
 // What the octets to come are.
 #[derive(Clone, Copy, Debug, PartialEq, Eq)]
@@ -88,6 +82,7 @@ pub fn list_part(phase: Phase, bytes: &[u8], last: bool, out: &mut [u8]) -> Part
 }
 
 // The answer in all, of a last step that consumed nothing.
+#[tactic(auto, unfolding(crate::specs::Parts::answer_after))]
 fn answer_after(consumed: usize, answer: Result<Stop, ListError>) -> Result<Stop, ListError>
     ensures { result ≡ answer_after consumed answer }
 {
@@ -102,13 +97,8 @@ fn later(answer: Result<Stop, ListError>) -> Result<Stop, ListError>
     ensures { result ≡ Parts·later answer }
 {
     match answer {
-        Ok(Stop::More) => Ok(Stop::More),
-        Ok(Stop::Full) => Ok(Stop::Full),
-        Ok(Stop::End) => Ok(Stop::End),
         Err(ListError::BufferTooShort) => Ok(Stop::Full),
-        Err(ListError::NotAJournal) => Err(ListError::NotAJournal),
-        Err(ListError::UnknownVersion) => Err(ListError::UnknownVersion),
-        Err(ListError::RecordInvalid) => Err(ListError::RecordInvalid),
+        _ => answer,
     }
 }
 
@@ -133,6 +123,7 @@ fn step(phase: Phase, bytes: &[u8], last: bool, out: &mut [u8]) -> Part
 }
 
 // Whether octets have to come behind `n` before anything is told of them.
+#[tactic(auto, unfolding(crate::specs::Parts::awaits, crate::specs::Listing::version1))]
 fn awaits(phase: Phase, n: usize, last: bool) -> bool
     ensures { result ≡ Parts·awaits phase n last }
 {
@@ -146,6 +137,7 @@ fn awaits(phase: Phase, n: usize, last: bool) -> bool
 }
 
 // Whether a journal may end with `n` octets left.
+#[tactic(auto, unfolding(crate::specs::Parts::ended))]
 fn ended(phase: Phase, n: usize) -> bool
     ensures { result ≡ Parts·ended phase n }
 {
@@ -171,22 +163,23 @@ fn header(bytes: &[u8], out: &mut [u8]) -> Part
     ensures { Prints (header_step bytes.now) result out.old out.new }
 {
     if bytes.len() < JOURNAL_START_LEN {
-        return refuse(Err(ListError::NotAJournal), Phase::Header, out);
+        return refuse(ListError::NotAJournal, Phase::Header, out);
     }
     let mark = has_mark(bytes, *b"PLB");
-    let known = get_u16_le(bytes, 3) == VERSION;
+    let known = get_le::<_, u16>(bytes, 3) == VERSION;
     if !mark {
-        return refuse(Err(ListError::NotAJournal), Phase::Header, out);
+        return refuse(ListError::NotAJournal, Phase::Header, out);
     }
     if !known {
-        return refuse(Err(ListError::UnknownVersion), Phase::Header, out);
+        return refuse(ListError::UnknownVersion, Phase::Header, out);
     }
-    put(out, 0, b"node code mode profile sec nsec info\n");
+    let mut line = Line::new(out);
+    line.text(b"node code mode profile sec nsec info\n");
     Part {
         answer: Ok(Stop::More),
         phase: Phase::Records,
         consumed: JOURNAL_START_LEN,
-        written: HEADER_LINE_LEN,
+        written: line.len,
     }
 }
 
@@ -194,13 +187,12 @@ fn header(bytes: &[u8], out: &mut [u8]) -> Part
 fn record(bytes: &[u8], out: &mut [u8]) -> Part
     ensures { Prints (record_step bytes.now) result out.old out.new }
 {
-    if bytes.len() < JOURNAL_RECORD_LEN {
-        return refuse(Err(ListError::RecordInvalid), Phase::Records, out);
-    }
+    let Ok(entry) = ErrorEntry::deserialize(tail(bytes, 1)) else {
+        return refuse(ListError::RecordInvalid, Phase::Records, out);
+    };
     let node = NodeId(bytes[0]);
-    let entry = ErrorEntry::deserialize(tail(bytes, 1)).or_terminator();
     if !valid(node, entry) {
-        return refuse(Err(ListError::RecordInvalid), Phase::Records, out);
+        return refuse(ListError::RecordInvalid, Phase::Records, out);
     }
     let written = put_line(node, entry, out);
     Part {
@@ -212,30 +204,28 @@ fn record(bytes: &[u8], out: &mut [u8]) -> Part
 }
 
 // The line of a refusal, with its number.
-fn refuse(answer: Result<Stop, ListError>, phase: Phase, out: &mut [u8]) -> Part
-    ensures { Prints (refusal answer phase) result out.old out.new }
+fn refuse(error: ListError, phase: Phase, out: &mut [u8]) -> Part
+    ensures { Prints (refusal error phase) result out.old out.new }
 {
-    put(out, 0, b"refused ");
-    let written = put_number(cause(answer) as u32, b'\n', 8, out);
+    let mut line = Line::new(out);
+    line.text(b"refused ");
+    line.number(cause(error) as u32, b'\n');
     Part {
-        answer,
+        answer: Err(error),
         phase,
         consumed: 0,
-        written,
+        written: line.len,
     }
 }
 
 // 01's number.
-fn cause(answer: Result<Stop, ListError>) -> u8
-    ensures { result ≡ (list_cause answer).number }
+fn cause(error: ListError) -> u8
+    ensures { result ≡ (list_cause (Err error)).number }
 {
-    match answer {
-        Ok(Stop::More) => NOT_REFUSED,
-        Ok(Stop::Full) => NOT_REFUSED,
-        Ok(Stop::End) => NOT_REFUSED,
-        Err(ListError::BufferTooShort) => TOO_SHORT,
-        Err(ListError::NotAJournal) => NOT_A_JOURNAL,
-        Err(ListError::UnknownVersion) => UNKNOWN_VERSION,
-        Err(ListError::RecordInvalid) => RECORD_INVALID,
+    match error {
+        ListError::BufferTooShort => TOO_SHORT,
+        ListError::NotAJournal => NOT_A_JOURNAL,
+        ListError::UnknownVersion => UNKNOWN_VERSION,
+        ListError::RecordInvalid => RECORD_INVALID,
     }
 }

@@ -1,13 +1,15 @@
 -- Numbers of several bytes, low byte first: one law for every width.
 -- Assumes nothing.
-use Prim.Native.Nat.{ℕ, zero, suc, ◌+◌, ◌*◌, ◌/◌, ◌^◌, ◌≤◌, ◌<◌}
+use Prim.Native.Nat.{ℕ, zero, suc, ◌+◌, ◌-◌, ◌*◌, ◌/◌, ◌^◌, ◌≤◌, ◌<◌}
 use mathlib.Core.Path.{◌≡◌, refl, sym, ap, ◌∙◌}
 use mathlib.Core.List.{List, [], ◌∷◌, ◌++◌}
-use native.Mathlib.Nat.{zero-add, add-zero, suc-add, pow-zero, pow-succ', mul_assoc, mul-zero}
+use native.Mathlib.Nat.{zero-add, suc-add, pow-zero, pow-succ', mul_assoc, mul-zero, le_of_lt}
 use native.Mathlib.Omega.{arith}
-use lib.ListN.{length, take, drop, get_or, length-drop}
-use lib.Seq.{take-nil, get_or-drop, drop-drop, take-append-le, drop-append-le}
+use lib.ListN.{length, take, drop, get_or, replicate, length-drop, length-replicate}
+use lib.Seq.{sets, take_all, take-nil, get_or-drop, take-append-le, drop-append-le}
+use Rattle.std.proofs.lemmas.List.{drop-replicate}
 use Rattle.octets.specs.Numbers.{le, le_at, le_bytes, be_at}
+use Rattle.octets.proofs.Sets.{sets_front}
 
 -- n bytes and the m after them
 pub split : (n m : ℕ) (s : List ℕ) → le (take (n + m) s) ≡ le (take n s) + 256 ^ n * le (take m (drop n s))
@@ -30,26 +32,6 @@ pub joined : (n at lo hi : ℕ) (s t : List ℕ) → t ≡ drop at s → lo ≡ 
 unfolding le_at
 joined n at lo hi s t et el eh = rw (el, eh, et) (sym (split n n (drop at s)))
 
--- a number r that is made of its halves, of n octets each
-pub of_halves : (n at r lo hi : ℕ) (s t : List ℕ) → t ≡ drop at s → lo ≡ le_at n 0 t → hi ≡ le_at n n t → r ≡ lo + 256 ^ n * hi → r ≡ le_at (n + n) at s
-of_halves n at r lo hi s t et el eh er = er ∙ joined n at lo hi s t et el eh
-
-pub of_two : (at r lo hi : ℕ) (s t : List ℕ) → t ≡ drop at s → lo ≡ get_or t 0 0 → hi ≡ get_or t 1 0 → r ≡ lo + 256 * hi → r ≡ le_at 2 at s
-of_two at r lo hi s t et el eh er = of_halves 1 at r lo hi s t et (el ∙ byte 0 t) (eh ∙ byte 1 t) er
-
--- two octets, and four, by the places of each
-pub pair : (i r : ℕ) (t : List ℕ) → r ≡ get_or t i 0 + 256 * get_or t (i + 1) 0 → r ≡ le_at 2 i t
-pair i r t e =
-    let h : get_or t i 0 ≡ get_or (drop i t) 0 0 = rw (get_or-drop i t 0 0, add-zero) in
-    of_two i r _ _ t (drop i t) refl h (sym (get_or-drop i t 1 0)) e
-
-pub quad : (i r lo hi : ℕ) (t : List ℕ) → lo ≡ get_or t i 0 + 256 * get_or t (i + 1) 0 → hi ≡ get_or t (i + 2) 0 + 256 * get_or t (i + 2 + 1) 0
-    → r ≡ lo + 256 ^ 2 * hi → r ≡ le_at 4 i t
-unfolding le_at
-quad i r lo hi t el eh er =
-    let h = pair (i + 2) hi t eh ∙ ap (λ (l : List ℕ). le (take 2 l)) (sym (drop-drop 2 i t)) in
-    of_halves 2 i r lo hi t (drop i t) refl (pair i lo t el) h er
-
 -- the n bytes of a number that n bytes hold are read back as it
 pub bytes_back : (n v : ℕ) → v < 256 ^ n → le (le_bytes n v) ≡ v
 bytes_back zero v h = omega (arith, h, pow-zero 256)
@@ -68,3 +50,19 @@ pub number_front : (n at : ℕ) (s rest : List ℕ) → at + n ≤ length s → 
 unfolding le_at
 number_front n at s rest h =
     ap le (ap (take n) (drop-append-le at s rest (omega arith)) ∙ take-append-le n (drop at s) rest (rw length-drop (omega arith)))
+
+-- a number from the octets that it was read of, where all are there
+pub of_front : (n at v : ℕ) (s t octets : List ℕ) → t ≡ drop at s → octets ≡ take n t → v ≡ le octets → v ≡ le_at n at s
+unfolding le_at
+of_front n at v s t octets et eo ev = rw (ev, eo, et)
+
+zeros_behind : (s : List ℕ) (n : ℕ) → le (s ++ replicate n 0) ≡ le s
+zeros_behind [] zero = refl
+zeros_behind [] (suc n) = omega (arith, zeros_behind [] n)
+zeros_behind (x ∷ xs) n = ap (λ r. x + 256 * r) (zeros_behind xs n)
+
+-- and where some are not, zeros in their place
+pub of_padded : (n at v : ℕ) (s t octets : List ℕ) → t ≡ drop at s → length t < n → octets ≡ sets (replicate n 0) 0 t → v ≡ le octets → v ≡ le_at n at s
+of_padded n at v s t octets et short eo ev =
+    of_front n at v s t t et (sym (take_all n t (le_of_lt short)))
+    (ev ∙ ap le (eo ∙ sets_front (replicate n 0) t (rw length-replicate (le_of_lt short)) ∙ ap (λ zs. t ++ zs) (drop-replicate (length t) n 0)) ∙ zeros_behind t (n - length t))

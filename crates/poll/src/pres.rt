@@ -4,7 +4,7 @@ ghost use Rattle.section.specs.Write.{Writes};
 ghost use Rattle.poll.specs.PRes.{new_pres, pres_bytes, pres_section};
 
 use crate::{FIELDS_LEN, MS, RD};
-use octets::little_endian::put_u16_le;
+use octets::little_endian::put_le;
 use octets::slices::put;
 use section::{flag, write_section};
 use types::basic::{EthernetHeader, MacAddress, NewFrame};
@@ -79,7 +79,7 @@ impl PResFrame {
     {
         let mut octets = [0u8; FIELDS_LEN];
         put(&mut octets, 0, &first_octets(self));
-        put_u16_le(&mut octets, 8, self.payload_size);
+        put_le(&mut octets, 8, self.payload_size);
         octets
     }
 

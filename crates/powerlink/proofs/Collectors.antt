@@ -10,7 +10,7 @@ use lib.Dec.{eqb, leb}
 use Rattle.std.specs.Prelude.{Result, Ok, Err}
 use Rattle.types.specs.Codes.{pick}
 use Rattle.types.specs.States.{state_of}
-use Rattle.types.specs.declared.hal.PowerlinkError.TheVariants.{BufferTooShort, InvalidNmtState}
+use Rattle.types.specs.declared.hal.PowerlinkError.TheVariants.{BufferTooShort}
 use Rattle.types.specs.declared.states.NmtState.{NmtState}
 use Rattle.section.specs.Write.{min_frame, write_answer, write_cause, unnamed_answer}
 use Rattle.collector.specs.Calls.{Registers, Reads, Flags, Requests, Takes}
@@ -67,7 +67,7 @@ same_row (Err e) = refl
 
 module _ (i : ℕ) (f : NmtState → RequestFields) (code : ℕ) where
   -- a state's code that names nothing, for a node without a place and for one with
-  module _ (s : List ℕ) (b : ℕ) (q : state_of code ≡ Err (InvalidNmtState b)) where
+  module _ (s : List ℕ) (e : PowerlinkError) (q : state_of code ≡ Err e) where
     pub asks_nobody : (t : List ℕ) (n o : ℕ) → false ≡ is_registered (account_of s i) → CollectorRequests i f code 11 s t t n n o o
     asks_nobody t n o h =
         record { told = rw (q, no_place (account_of s i) h) (record { cause = refl; value = refl; octet = refl }); requests = rw q refl }
@@ -78,14 +78,14 @@ module _ (i : ℕ) (f : NmtState → RequestFields) (code : ℕ) where
 
     module _ (t : List ℕ) (r n o o' : ℕ) where
       unasked_told : (p : Option Account) → true ≡ is_registered p
-          → (r ≡ (write_cause (unnamed_answer min_frame (InvalidNmtState b) (length t))).number) × (o' ≡ octet_after (unnamed_answer min_frame (InvalidNmtState b) (length t)) o)
-          → RowTold (request_cause (unasked b t p)) r n n o o'
+          → (r ≡ (write_cause (unnamed_answer min_frame e (length t))).number) × (o' ≡ octet_after (unnamed_answer min_frame e (length t)) o)
+          → RowTold (request_cause (unasked e t p)) r n n o o'
       unasked_told none h u = let z : ◌≡◌ {A = Bool} true false = h in record { cause = cc; value = cc; octet = cc }
       unasked_told (some p) h u =
-          rw (same_row (unnamed_answer min_frame (InvalidNmtState b) (length t))) at (unnamed_told (leb min_frame (length t)) (InvalidNmtState b) r n o o' u)
+          rw (same_row (unnamed_answer min_frame e (length t))) at (unnamed_told (leb min_frame (length t)) e r n o o' u)
 
       pub asks_none : true ≡ is_registered (account_of s i)
-          → (r ≡ (write_cause (unnamed_answer min_frame (InvalidNmtState b) (length t))).number) × (o' ≡ octet_after (unnamed_answer min_frame (InvalidNmtState b) (length t)) o)
+          → (r ≡ (write_cause (unnamed_answer min_frame e (length t))).number) × (o' ≡ octet_after (unnamed_answer min_frame e (length t)) o)
           → CollectorRequests i f code r s t t n n o o'
       asks_none h u = record { told = rw q (unasked_told (account_of s i) h u); requests = rw q refl }
 

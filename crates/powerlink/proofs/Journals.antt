@@ -18,11 +18,11 @@ use Rattle.journal_records.specs.declared.WholeLenError.{WholeLenError}
 
 module _ (i : ℕ) (e : ErrorEntryMode → ErrorEntry) (m : Result ErrorEntryMode UnknownMode) (t : List ℕ) (n : ℕ) where
   -- a mode that is none
-  pub records_short : (b : ℕ) → m ≡ Err (record { 0 = b }) → length t < 21 → RecordsBy i e m 1 t t n n
-  records_short b q h = let l = lt-leb 21 (length t) h in record { cause = rw (q, l); target = rw q; written = rw (q, l) }
+  pub records_short : (x : UnknownMode) → m ≡ Err x → length t < 21 → RecordsBy i e m 1 t t n n
+  records_short x q h = let l = lt-leb 21 (length t) h in record { cause = rw (q, l); target = rw q; written = rw (q, l) }
 
-  pub records_none : (b : ℕ) → m ≡ Err (record { 0 = b }) → 21 ≤ length t → RecordsBy i e m 19 t t n n
-  records_none b q h = let l = le-leb 21 (length t) h in record { cause = rw (q, l); target = rw q; written = rw (q, l) }
+  pub records_none : (x : UnknownMode) → m ≡ Err x → 21 ≤ length t → RecordsBy i e m 19 t t n n
+  records_none x q h = let l = le-leb 21 (length t) h in record { cause = rw (q, l); target = rw q; written = rw (q, l) }
 
   pub records_told : (k : ErrorEntryMode) (x : ErrorEntry) (a : Result ℕ JournalError) (r : ℕ) (t' : List ℕ) (n' : ℕ) → m ≡ Ok k → x ≡ e k
       → WritesRecord (node i) x a t t' → r ≡ (journal_cause a).number → n' ≡ record_length_after a n → RecordsBy i e m r t t' n n'

@@ -1,6 +1,7 @@
 -- What a caller of a reader is told, from what the reader answers.
 -- Assumes nothing.
 use Prim.Native.Nat.{ℕ}
+use native.Mathlib.Omega.{arith}
 use mathlib.Core.Path.{◌≡◌, refl, sym, ap, ◌∙◌}
 use mathlib.Core.List.{List, [], ◌∷◌}
 use lib.ListN.{drop}
@@ -8,19 +9,17 @@ use Rattle.std.specs.Prelude.{Result, Ok, Err, Some, None}
 use Rattle.types.specs.Causes.{cause_number}
 use Rattle.types.specs.Messages.{message_code}
 use Rattle.types.specs.declared.hal.PowerlinkError.{PowerlinkError}
+use Rattle.types.specs.declared.basic.EthernetHeader.{EthernetHeader}
 use Rattle.frame.specs.declared.PowerlinkFrame.{PowerlinkFrame}
-use Rattle.codec.specs.Frame.{read_frame, deserialize_frame, place_in_frame}
+use Rattle.codec.specs.Frame.{read_frame, place_in_frame}
 use Rattle.codec.specs.Headers.{deserialize_eth_header, deserialize_pl_header}
-use Rattle.codec.specs.declared.headers.DeserializedEthHeader.{DeserializedEthHeader}
-use Rattle.codec.specs.declared.headers.EthHeaderAnswer.TheVariants as eth
 use Rattle.codec.specs.declared.headers.PlHeader.{PlHeader}
 use Rattle.error_entry.specs.Entry.{read_entry}
 use Rattle.error_entry.specs.declared.ErrorEntry.{ErrorEntry}
 use Rattle.status_response.specs.BitField.{field_bytes, read_field}
-use Rattle.status_response.specs.Fields.{read_fields, read_status}
+use Rattle.status_response.specs.Fields.{read_fields, read_status, with_field}
 use Rattle.status_response.specs.Steps.{step_at}
-use Rattle.status_response.specs.declared.bit_field.DeserializedErrorField.{DeserializedErrorField}
-use Rattle.status_response.specs.declared.bit_field.ErrorFieldAnswer.TheVariants as bits
+use Rattle.status_response.specs.declared.bit_field.StaticErrorBitField.{StaticErrorBitField}
 use Rattle.status_response.specs.declared.fields.DeserializedStatus.{DeserializedStatus}
 use Rattle.status_response.specs.declared.fields.StatusFields.{StatusFields}
 use Rattle.types.proofs.CausesTell.{not_0}
@@ -46,20 +45,15 @@ module _ (services f : List ℕ) where
   -- a frame is told as its section is
   pub frame_section : (a : Result PowerlinkFrame PowerlinkError) (s : List ℕ) → a ≡ read_frame services f → s ≡ drop 14 f → (r : ℕ) (v v' : List ℕ) (o o' : ℕ) → SectionRead a s r v v' o o'
       → FrameRead services f r v v' o o'
-  unfolding deserialize_frame
   frame_section a s q es r v v' o o' w = record { cause = rw (← q) w.cause; values = rw (← q, ← es) w.values; octet = rw (← q) w.octet }
 
-module _ (f : List ℕ) (d : DeserializedEthHeader) (w : d ≡ deserialize_eth_header f) where
-  pub eth_refused : (a b : List ℕ) (t r : ℕ) (e : PowerlinkError) → d.answer ≡ eth.Refused e → r ≡ cause_number e → EthRead f r a a b b t t
-  eth_refused a b t r e ea er =
-      let q = sym (ap (λ (x : DeserializedEthHeader). x.answer) w) ∙ ea in
-      record { cause = er ∙ rw q; destination = rw q; source = rw q; ether_type = rw q }
+module _ (f : List ℕ) where
+  pub eth_refused : (a b : List ℕ) (t r : ℕ) (e : PowerlinkError) → deserialize_eth_header f ≡ Err e → r ≡ cause_number e → EthRead f r a a b b t t
+  eth_refused a b t r e q er = record { cause = er ∙ rw q; destination = rw q; source = rw q; ether_type = rw q }
 
-  pub eth_read : (a b : List ℕ) (t : ℕ) → d.answer ≡ eth.Read
-      → EthRead f 0 a d.eth_header.destination_mac.0 b d.eth_header.source_mac.0 t d.eth_header.ether_type
-  eth_read a b t ea =
-      let q = sym (ap (λ (x : DeserializedEthHeader). x.answer) w) ∙ ea in
-      record { cause = rw q; destination = rw (q, w); source = rw (q, w); ether_type = rw (q, w) }
+  pub eth_read : (a b : List ℕ) (t : ℕ) (h : EthernetHeader) → deserialize_eth_header f ≡ Ok h
+      → EthRead f 0 a h.destination_mac.0 b h.source_mac.0 t h.ether_type
+  eth_read a b t h q = record { cause = rw q; destination = rw q; source = rw q; ether_type = rw q }
 
 module _ (s : List ℕ) (v : List ℕ) where
   pub pl_refused : (r o o' : ℕ) (e : PowerlinkError) → deserialize_pl_header s ≡ Err e → Told e r o o' → PlRead s r v v o o'
@@ -69,27 +63,39 @@ module _ (s : List ℕ) (v : List ℕ) where
       → PlRead s 0 v (m ∷ h.destination.0 ∷ h.source.0 ∷ []) o o
   pl_read o m h q em = record { cause = rw q; values = rw (q, em); octet = rw q }
 
+-- the fields of what was read with an error field
+fields_refused : (field : StaticErrorBitField) (a : Result StatusFields PowerlinkError) (e : PowerlinkError) → with_field field a ≡ Err e → a ≡ Err e
+fields_refused field (Err x) e q = cc
+fields_refused field (Ok f) e q = let z : ◌≡◌ {A = ℕ} 0 1 = cc in absurd (omega arith)
+
+fields_read : (field : StaticErrorBitField) (a : Result StatusFields PowerlinkError) (d : DeserializedStatus) → with_field field a ≡ Ok d
+    → (a ≡ Ok d.fields) × (field ≡ d.static_error_bit_field)
+fields_read field (Ok f) d q =
+    let same : record { fields = f; static_error_bit_field = field } ≡ d = cc in
+    (ap (λ (x : DeserializedStatus). Ok x.fields) same, ap (λ (x : DeserializedStatus). x.static_error_bit_field) same)
+fields_read field (Err e) d q = let z : ◌≡◌ {A = ℕ} 0 1 = cc in absurd (omega arith)
+
+pub read_in : (s : List ℕ) (d : DeserializedStatus) → read_status s ≡ Ok d → Ok d.fields ≡ read_fields s
+read_in s d q = sym (fields_read _ (read_fields s) d q).0
+
 module _ (s v g : List ℕ) where
-  pub status_refused : (r o o' : ℕ) (e : PowerlinkError) → Err e ≡ read_fields s → Told e r o o' → StatusRead s r v v g g o o'
-  status_refused r o o' e q t = record { cause = rw (← q) t.0; values = rw (← q); field = rw (← q); octet = rw (← q) t.1 }
+  pub status_refused : (r o o' : ℕ) (e : PowerlinkError) → read_status s ≡ Err e → Told e r o o' → StatusRead s r v v g g o o'
+  status_refused r o o' e q t =
+      let k = fields_refused _ (read_fields s) e q in
+      record { cause = rw k t.0; values = rw k; field = rw k; octet = rw k t.1 }
 
-  pub status_read_lem : (v' g' : List ℕ) (o : ℕ) (f : StatusFields) (d : DeserializedStatus) → Ok f ≡ read_fields s → d ≡ read_status s
-      → v' ≡ status_numbers f → g' ≡ field_bytes d.static_error_bit_field → StatusRead s 0 v v' g g' o o
-  status_read_lem v' g' o f d q w ev eg =
-      let b = ap (λ (x : DeserializedStatus). field_bytes x.static_error_bit_field) w in
-      record { cause = rw (← q); values = rw (← q) ev; field = rw (← q) (eg ∙ b); octet = rw (← q) }
+  pub status_read_lem : (v' g' : List ℕ) (o : ℕ) (d : DeserializedStatus) → read_status s ≡ Ok d
+      → v' ≡ status_numbers d.fields → g' ≡ field_bytes d.static_error_bit_field → StatusRead s 0 v v' g g' o o
+  status_read_lem v' g' o d q ev eg =
+      let k = fields_read _ (read_fields s) d q in
+      record { cause = rw k.0; values = rw k.0 ev; field = rw (k.0, k.1) eg; octet = rw k.0 }
 
-module _ (s : List ℕ) (d : DeserializedErrorField) (w : d ≡ read_field s) (g : List ℕ) where
-  pub field_refused : (r : ℕ) (e : PowerlinkError) → d.answer ≡ bits.Refused e → r ≡ cause_number e → FieldRead s r g g
-  field_refused r e ea er =
-      let q = sym (ap (λ (x : DeserializedErrorField). x.answer) w) ∙ ea in
-      record { cause = er ∙ rw q; field = rw q }
+module _ (s g : List ℕ) where
+  pub field_refused : (r : ℕ) (e : PowerlinkError) → read_field s ≡ Err e → r ≡ cause_number e → FieldRead s r g g
+  field_refused r e q er = record { cause = er ∙ rw q; field = rw q }
 
-  pub field_read : (g' : List ℕ) → d.answer ≡ bits.Read → g' ≡ field_bytes d.field → FieldRead s 0 g g'
-  field_read g' ea eg =
-      let q = sym (ap (λ (x : DeserializedErrorField). x.answer) w) ∙ ea in
-      let b = ap (λ (x : DeserializedErrorField). field_bytes x.field) w in
-      record { cause = rw q; field = eg ∙ b ∙ rw q }
+  pub field_read : (g' : List ℕ) (f : StaticErrorBitField) → read_field s ≡ Ok f → g' ≡ field_bytes f → FieldRead s 0 g g'
+  field_read g' f q eg = record { cause = rw q; field = eg ∙ rw q }
 
 module _ (s : List ℕ) (v : List ℕ) where
   pub entry_refused : (r : ℕ) (e : PowerlinkError) → read_entry s ≡ Err e → r ≡ cause_number e → EntryRead s r v v

@@ -7,7 +7,6 @@ use lib.ListN.{length}
 use Rattle.std.specs.Prelude.{Result, Ok, Err}
 use Rattle.types.specs.States.{state_of}
 use Rattle.types.specs.declared.error_mode.ErrorEntryMode.{ErrorEntryMode}
-use Rattle.types.specs.declared.hal.PowerlinkError.TheVariants.{InvalidNmtState}
 use Rattle.types.specs.declared.states.NmtState.{NmtState}
 use Rattle.section.specs.Write.{write_cause, unnamed, unnamed_answer}
 use Rattle.error_entry.specs.declared.ErrorEntry.{ErrorEntry}
@@ -41,16 +40,16 @@ module _ (s s' : List ℕ) where
   reads_told services f a r k k' o o' w t = record { told = rw w.answer at t; reads = rw w.answer at w }
 
 -- a mode that is none
-pub raises_none : (s : List ℕ) (e : ErrorEntryMode → ErrorEntry) (m : Result ErrorEntryMode UnknownMode) (b : ℕ) → m ≡ Err (record { 0 = b }) → RaisesBy e m 8 s s
-raises_none s e m b q = rw q (record { cause = refl; stays = refl })
+pub raises_none : (s : List ℕ) (e : ErrorEntryMode → ErrorEntry) (m : Result ErrorEntryMode UnknownMode) (x : UnknownMode) → m ≡ Err x → RaisesBy e m 8 s s
+raises_none s e m x q = rw q (record { cause = refl; stays = refl })
 
 module _ (services : List ℕ) (f : NmtState → AnswerFields) (code r : ℕ) (s t : List ℕ) (n : ℕ) where
-  pub answers_none : (o o' b k : ℕ) → state_of code ≡ Err (InvalidNmtState b) → k ≡ answer_length (length (opened (head_of s)).batch)
-      → (r ≡ (write_cause (unnamed_answer k (InvalidNmtState b) (length t))).number) × (o' ≡ octet_after (unnamed_answer k (InvalidNmtState b) (length t)) o)
+  pub answers_none : (o o' k : ℕ) (e : PowerlinkError) → state_of code ≡ Err e → k ≡ answer_length (length (opened (head_of s)).batch)
+      → (r ≡ (write_cause (unnamed_answer k e (length t))).number) × (o' ≡ octet_after (unnamed_answer k e (length t)) o)
       → ReporterAnswers services f code r s s t t n n o o'
-  answers_none o o' b k q ek h =
-      let w : answer_given services f code (head_of s) ≡ unnamed k (InvalidNmtState b) = rw (q, ek) in
-      record { writes = refuses_coded _ t r n o o' k (InvalidNmtState b) w h; answers = rw q refl }
+  answers_none o o' k e q ek h =
+      let w : answer_given services f code (head_of s) ≡ unnamed k e = rw (q, ek) in
+      record { writes = refuses_coded _ t r n o o' k e w h; answers = rw q refl }
 
   pub answers_told : (s' t' : List ℕ) (n' o o' : ℕ) (k : NmtState) (a : Result ℕ PowerlinkError) → state_of code ≡ Ok k → Answers services (f k) a s s' t t'
       → (r ≡ (write_cause a).number) × ((n' ≡ length_after a n) × (o' ≡ octet_after a o)) → ReporterAnswers services f code r s s' t t' n n' o o'

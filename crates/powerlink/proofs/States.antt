@@ -14,7 +14,7 @@ use Rattle.types.specs.Codes.{need}
 use Rattle.types.specs.Nodes.{broadcast_node}
 use Rattle.types.specs.RequestedServices.{requested_code, requested_of}
 use Rattle.types.specs.States.{state_code, state_of}
-use Rattle.types.specs.declared.hal.PowerlinkError.TheVariants.{BufferTooShort, InvalidPlFrame, InvalidNmtState, InvalidRequestedServiceId}
+use Rattle.types.specs.declared.hal.PowerlinkError.TheVariants.{BufferTooShort, InvalidPlFrame}
 use Rattle.types.specs.declared.requested_service.RequestedServiceId.{RequestedServiceId}
 use Rattle.types.specs.declared.states.NmtState.{NmtState}
 use Rattle.types.proofs.CodeCauses.{state_code_lem, requested_code_lem}
@@ -32,7 +32,7 @@ use Rattle.types.specs.declared.hal.PowerlinkError.{PowerlinkError}
 
 module _ (s : List ℕ) (f : StatusFields) (read : Ok f ≡ read_fields s) where
   by_state : (a : Result NmtState PowerlinkError) → state_of (get_or s 2 0) ≡ a → Ok f ≡ status_by_state s a → state_code f.nmt_state ≡ get_or s 2 0
-  by_state (Err (InvalidNmtState b)) e q = let z : ◌≡◌ {A = ℕ} 0 1 = cc in absurd (omega arith)
+  by_state (Err x) e q = let z : ◌≡◌ {A = ℕ} 0 1 = cc in absurd (omega arith)
   by_state (Ok x) e q =
       let same : f ≡ fields_of s x = cc in
       ap (λ (g : StatusFields). state_code g.nmt_state) same ∙ state_code_lem (get_or s 2 0) x e
@@ -52,7 +52,7 @@ module _ (s : List ℕ) (f : StatusFields) (read : Ok f ≡ read_fields s) where
 
 module _ (s : List ℕ) (st : NmtState) (n : ℕ) (read : Ok (PRes (pres_of s st n)) ≡ read_pres s) where
   pres_by : (a : Result NmtState PowerlinkError) → state_of (get_or s 3 0) ≡ a → Ok (PRes (pres_of s st n)) ≡ pres_by_state s a → state_code st ≡ get_or s 3 0
-  pres_by (Err (InvalidNmtState b)) e q = let z : ◌≡◌ {A = ℕ} 0 1 = cc in absurd (omega arith)
+  pres_by (Err x) e q = let z : ◌≡◌ {A = ℕ} 0 1 = cc in absurd (omega arith)
   pres_by (Ok x) e q = split (leb (le_at 2 8 s) (length s - poll_fields_length)) q
     where
       split : (t : Bool) → Ok (PRes (pres_of s st n)) ≡ need t (Err BufferTooShort) (Ok (PRes (pres_of s x (le_at 2 8 s)))) → state_code st ≡ get_or s 3 0
@@ -76,7 +76,7 @@ module _ (s : List ℕ) (st : NmtState) (n : ℕ) (read : Ok (PRes (pres_of s st
 module _ (s : List ℕ) (st : NmtState) (service : RequestedServiceId) (read : Ok (SoA (soa_of s st service)) ≡ read_soa s) where
   soa_by_service_lem : (x : NmtState) (a : Result RequestedServiceId PowerlinkError) → requested_of (get_or s 6 0) ≡ a → state_of (get_or s 3 0) ≡ Ok x
       → Ok (SoA (soa_of s st service)) ≡ soa_by_service s x a → (state_code st ≡ get_or s 3 0) × (requested_code service ≡ get_or s 6 0)
-  soa_by_service_lem x (Err (InvalidRequestedServiceId b)) e k q = let z : ◌≡◌ {A = ℕ} 0 1 = cc in absurd (omega arith)
+  soa_by_service_lem x (Err y) e k q = let z : ◌≡◌ {A = ℕ} 0 1 = cc in absurd (omega arith)
   soa_by_service_lem x (Ok y) e k q =
       let same : soa_of s st service ≡ soa_of s x y = cc in (
         ap (λ (f : SoAFrame). state_code f.nmt_state) same ∙ state_code_lem (get_or s 3 0) x k,
@@ -85,7 +85,7 @@ module _ (s : List ℕ) (st : NmtState) (service : RequestedServiceId) (read : O
 
   soa_by_state_lem : (a : Result NmtState PowerlinkError) → state_of (get_or s 3 0) ≡ a → Ok (SoA (soa_of s st service)) ≡ soa_by_state s a
       → (state_code st ≡ get_or s 3 0) × (requested_code service ≡ get_or s 6 0)
-  soa_by_state_lem (Err (InvalidNmtState b)) e q = let z : ◌≡◌ {A = ℕ} 0 1 = cc in absurd (omega arith)
+  soa_by_state_lem (Err x) e q = let z : ◌≡◌ {A = ℕ} 0 1 = cc in absurd (omega arith)
   soa_by_state_lem (Ok x) e q = soa_by_service_lem x (requested_of (get_or s 6 0)) refl e q
 
   soa_codes : (state_code st ≡ get_or s 3 0) × (requested_code service ≡ get_or s 6 0)

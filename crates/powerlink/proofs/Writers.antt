@@ -131,11 +131,11 @@ module _ (w : Coded) (t : List ℕ) (n o : ℕ) (s : List ℕ) where
 
 -- an entry, by its mode
 module _ (e : ErrorEntryMode → ErrorEntry) (m : Result ErrorEntryMode UnknownMode) (t : List ℕ) (n : ℕ) where
-  pub entry_short : (b : ℕ) → m ≡ Err (record { 0 = b }) → length t < 20 → WritesEntry e m 1 t t n n
-  entry_short b q h = record { cause = rw (q, lt-leb 20 (length t) h); target = rw q; written = rw q }
+  pub entry_short : (x : UnknownMode) → m ≡ Err x → length t < 20 → WritesEntry e m 1 t t n n
+  entry_short x q h = record { cause = rw (q, lt-leb 20 (length t) h); target = rw q; written = rw q }
 
-  pub entry_none : (b : ℕ) → m ≡ Err (record { 0 = b }) → 20 ≤ length t → WritesEntry e m 8 t t n n
-  entry_none b q h = record { cause = rw (q, le-leb 20 (length t) h); target = rw q; written = rw q }
+  pub entry_none : (x : UnknownMode) → m ≡ Err x → 20 ≤ length t → WritesEntry e m 8 t t n n
+  entry_none x q h = record { cause = rw (q, le-leb 20 (length t) h); target = rw q; written = rw q }
 
   pub entry_told_lem : (k : ErrorEntryMode) (x : ErrorEntry) (r : ℕ) (t' : List ℕ) (n' : ℕ) → m ≡ Ok k → x ≡ e k
       → WritesTo (entry_bytes x) r t t' n n' → WritesEntry e m r t t' n n'

@@ -4,7 +4,6 @@
 use Rattle.std.specs.Prelude.{ℕ, Bool, ◌≡◌, List, length, Result, Ok, Err}
 use Rattle.std.proofs.Math.Option.{Option, none, some}
 use Rattle.types.specs.States.{state_of}
-use Rattle.types.specs.declared.hal.PowerlinkError.TheVariants.{InvalidNmtState}
 use Rattle.types.specs.declared.states.NmtState.{NmtState}
 use Rattle.section.specs.Write.{min_frame, unnamed_answer}
 use Rattle.collector.specs.Calls.{Fresh, Registers, Reads, Flags, Requests, Takes}
@@ -41,17 +40,17 @@ request_fields from version state =
     record { source_mac = mac from; nmt_state = state; epl_version = record { 0 = version } }
 
 -- a code that names no state: 11, then 1, then 5
-abbrev pub unasked : ℕ → List ℕ → Option Account → Result ℕ RequestError
-unasked b t none = Err requesting.NotRegistered
-unasked b t (some p) = as_request (unnamed_answer min_frame (InvalidNmtState b) (length t))
+abbrev pub unasked : PowerlinkError → List ℕ → Option Account → Result ℕ RequestError
+unasked e t none = Err requesting.NotRegistered
+unasked e t (some p) = as_request (unnamed_answer min_frame e (length t))
 
 abbrev pub request_by : ℕ → (NmtState → RequestFields) → Result NmtState PowerlinkError → List ℕ → Option Account → Result ℕ RequestError
-request_by i f (Err (InvalidNmtState b)) t p = unasked b t p
+request_by i f (Err e) t p = unasked e t p
 request_by i f (Ok k) t p = request_answer i (f k) t p
 
 -- what becomes of the target: what `request` promises, or it stays
 abbrev pub RequestsBy : ℕ → (NmtState → RequestFields) → Result NmtState PowerlinkError → List ℕ → List ℕ → List ℕ → Type 0
-RequestsBy i f (Err (InvalidNmtState b)) s t t' = t' ≡ t
+RequestsBy i f (Err e) s t t' = t' ≡ t
 RequestsBy i f (Ok k) s t t' = Requests (node i) (f k) (request_answer i (f k) t (account_of s i)) s t t'
 
 pub record CollectorRequests (i : ℕ) (f : NmtState → RequestFields) (code r : ℕ) (s t t' : List ℕ) (n n' o o' : ℕ) : Type 0 where

@@ -1,19 +1,15 @@
 -- What a reader leaves to a caller in C: the numbers of what was read, or what stood there before.
 -- Assumes nothing.
 use Rattle.std.specs.Prelude.{ℕ, ◌≡◌, List, [], ◌∷◌, get_or, drop, Result, Ok, Err, Option, Some, None}
-use Rattle.types.specs.Header.{eth_header_of}
+use Rattle.types.specs.Header.{eth_length}
 use Rattle.types.specs.Messages.{message_code}
-use Rattle.codec.specs.Frame.{read_frame, deserialize_frame, place_of, frame_cause}
+use Rattle.types.specs.declared.basic.EthernetHeader.{EthernetHeader}
+use Rattle.codec.specs.Frame.{read_frame, place_in_frame, frame_cause}
 use Rattle.codec.specs.Headers.{deserialize_eth_header, eth_header_cause, deserialize_pl_header, pl_header_cause}
-use Rattle.codec.specs.declared.PayloadPlace.{PayloadPlace}
-use Rattle.codec.specs.declared.headers.EthHeaderAnswer.{EthHeaderAnswer}
-use Rattle.codec.specs.declared.headers.EthHeaderAnswer.TheVariants as eth
 use Rattle.error_entry.specs.Entry.{read_entry, entry_cause}
 use Rattle.status_response.specs.BitField.{field_of, field_bytes, read_field, field_cause}
 use Rattle.status_response.specs.Fields.{read_fields, status_cause}
 use Rattle.status_response.specs.Steps.{step_at}
-use Rattle.status_response.specs.declared.bit_field.ErrorFieldAnswer.{ErrorFieldAnswer}
-use Rattle.status_response.specs.declared.bit_field.ErrorFieldAnswer.TheVariants as bits
 use Rattle.status_response.specs.declared.bit_field.StaticErrorBitField.{StaticErrorBitField}
 use Rattle.c_values.specs.Answers.{octet_told}
 use Rattle.c_values.specs.Values.{frame_numbers, status_numbers, entry_numbers}
@@ -23,15 +19,17 @@ use Rattle.codec.specs.declared.headers.PlHeader.{PlHeader}
 use Rattle.error_entry.specs.declared.ErrorEntry.{ErrorEntry}
 use Rattle.status_response.specs.declared.fields.StatusFields.{StatusFields}
 
-abbrev pub frame_after : Result PowerlinkFrame PowerlinkError → PayloadPlace → List ℕ → List ℕ
-frame_after (Err e) p before = before
-frame_after (Ok f) p before = frame_numbers f p
+-- of a frame with the section s
+abbrev pub frame_after : Result PowerlinkFrame PowerlinkError → List ℕ → List ℕ → List ℕ
+frame_after (Err e) s before = before
+frame_after (Ok f) s before = frame_numbers f (place_in_frame f s)
 
 -- ---- headers
 
-abbrev pub eth_after : {A : Type 0} → EthHeaderAnswer → A → A → A
-eth_after eth.Read read before = read
-eth_after (eth.Refused e) read before = before
+-- a part of the header
+abbrev pub eth_after : {A : Type 0} → Result EthernetHeader PowerlinkError → (EthernetHeader → A) → A → A
+eth_after (Ok h) part before = part h
+eth_after (Err e) part before = before
 
 abbrev pub pl_after : Result PlHeader PowerlinkError → List ℕ → List ℕ
 pl_after (Ok h) before = message_code h.message_type ∷ h.destination.0 ∷ h.source.0 ∷ []
@@ -48,9 +46,9 @@ abbrev pub status_field_after : Result StatusFields PowerlinkError → StaticErr
 status_field_after (Ok f) field before = field_bytes field
 status_field_after (Err e) field before = before
 
-abbrev pub field_after : ErrorFieldAnswer → StaticErrorBitField → List ℕ → List ℕ
-field_after bits.Read f before = field_bytes f
-field_after (bits.Refused e) f before = before
+abbrev pub field_after : Result StaticErrorBitField PowerlinkError → List ℕ → List ℕ
+field_after (Ok f) before = field_bytes f
+field_after (Err e) before = before
 
 abbrev pub entry_after : Result ErrorEntry PowerlinkError → List ℕ → List ℕ
 entry_after (Ok e) before = entry_numbers e
@@ -58,31 +56,31 @@ entry_after (Err e) before = before
 
 -- a step: the entry, and the offset after it; at the end the values as they were, and the offset 0
 abbrev pub step_after : Option (ErrorEntry × ℕ) → List ℕ → List ℕ
-step_after (Some (e, next)) before = entry_numbers e
+step_after (Some found) before = entry_numbers found.0
 step_after None before = before
 
 abbrev pub next_after : Option (ErrorEntry × ℕ) → ℕ
-next_after (Some (e, next)) = next
+next_after (Some found) = found.1
 next_after None = 0
 
 -- ---- the calls: v, d, o and the like stand before, and v', d', o' after
 
 pub record FrameRead (services f : List ℕ) (r : ℕ) (v v' : List ℕ) (o o' : ℕ) : Type 0 where
   pub cause : r ≡ (frame_cause (read_frame services f)).number
-  pub values : v' ≡ frame_after (read_frame services f) (deserialize_frame services f).payload_place v
+  pub values : v' ≡ frame_after (read_frame services f) (drop eth_length f) v
   pub octet : o' ≡ get_or (frame_cause (read_frame services f)).returned 0 o
 
 -- the same of the section s, to which the rules answer a
 pub record SectionRead (a : Result PowerlinkFrame PowerlinkError) (s : List ℕ) (r : ℕ) (v v' : List ℕ) (o o' : ℕ) : Type 0 where
   pub cause : r ≡ (frame_cause a).number
-  pub values : v' ≡ frame_after a (place_of a s) v
+  pub values : v' ≡ frame_after a s v
   pub octet : o' ≡ get_or (frame_cause a).returned 0 o
 
 pub record EthRead (f : List ℕ) (r : ℕ) (d d' s s' : List ℕ) (t t' : ℕ) : Type 0 where
-  pub cause : r ≡ (eth_header_cause (deserialize_eth_header f).answer).number
-  pub destination : d' ≡ eth_after (deserialize_eth_header f).answer (eth_header_of f).destination_mac.0 d
-  pub source : s' ≡ eth_after (deserialize_eth_header f).answer (eth_header_of f).source_mac.0 s
-  pub ether_type : t' ≡ eth_after (deserialize_eth_header f).answer (eth_header_of f).ether_type t
+  pub cause : r ≡ (eth_header_cause (deserialize_eth_header f)).number
+  pub destination : d' ≡ eth_after (deserialize_eth_header f) (λ h. h.destination_mac.0) d
+  pub source : s' ≡ eth_after (deserialize_eth_header f) (λ h. h.source_mac.0) s
+  pub ether_type : t' ≡ eth_after (deserialize_eth_header f) (λ h. h.ether_type) t
 
 pub record PlRead (s : List ℕ) (r : ℕ) (v v' : List ℕ) (o o' : ℕ) : Type 0 where
   pub cause : r ≡ (pl_header_cause (deserialize_pl_header s)).number
@@ -96,8 +94,8 @@ pub record StatusRead (s : List ℕ) (r : ℕ) (v v' f f' : List ℕ) (o o' : �
   pub octet : o' ≡ get_or (status_cause (read_fields s)).returned 0 o
 
 pub record FieldRead (s : List ℕ) (r : ℕ) (f f' : List ℕ) : Type 0 where
-  pub cause : r ≡ (field_cause (read_field s).answer).number
-  pub field : f' ≡ field_after (read_field s).answer (field_of s) f
+  pub cause : r ≡ (field_cause (read_field s)).number
+  pub field : f' ≡ field_after (read_field s) f
 
 pub record EntryRead (s : List ℕ) (r : ℕ) (v v' : List ℕ) : Type 0 where
   pub cause : r ≡ (entry_cause (read_entry s)).number

@@ -20,7 +20,6 @@ use Rattle.c_values.specs.Answers.{RowTold}
 use Rattle.powerlink.specs.Given.{node, mac, entry_with}
 use Rattle.powerlink.specs.Writing.{stated, WritesCoded}
 use Rattle.types.specs.declared.hal.PowerlinkError.{PowerlinkError}
-use Rattle.types.specs.declared.hal.PowerlinkError.TheVariants.{InvalidNmtState}
 use Rattle.types.specs.declared.error_mode.UnknownMode.{UnknownMode}
 use Rattle.reporter.specs.declared.ReadOutcome.{ReadOutcome}
 
@@ -39,7 +38,7 @@ pub record RaisesNone (r : ℕ) (state after : List ℕ) : Type 0 where
   pub stays : after ≡ state
 
 abbrev pub RaisesBy : (ErrorEntryMode → ErrorEntry) → Result ErrorEntryMode UnknownMode → ℕ → List ℕ → List ℕ → Type 0
-RaisesBy e (Err (record { 0 = b })) r state after = RaisesNone r state after
+RaisesBy e (Err x) r state after = RaisesNone r state after
 RaisesBy e (Ok m) r state after = RaisesEntry (e m) r state after
 
 abbrev pub ReporterRaises : Bool → Bool → ℕ → ℕ → ℕ → NetTime → ℕ → ℕ → List ℕ → List ℕ → Type 0
@@ -66,7 +65,7 @@ answer_given services f state h =
 
 -- what becomes of the state: what `answer` promises, or it stays
 abbrev pub AnswersBy : List ℕ → (NmtState → AnswerFields) → Result NmtState PowerlinkError → List ℕ → List ℕ → List ℕ → List ℕ → Type 0
-AnswersBy services f (Err (InvalidNmtState b)) s s' t t' = s' ≡ s
+AnswersBy services f (Err e) s s' t t' = s' ≡ s
 AnswersBy services f (Ok k) s s' t t' =
     Answers services (f k) (coded_answer (answer_writing services (f k) (opened (head_of s))) t) s s' t t'
 

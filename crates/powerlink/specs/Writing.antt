@@ -4,7 +4,6 @@ use Rattle.std.specs.Prelude.{ℕ, ◌≡◌, List, leb, length, Result, Ok, Err
 use Rattle.types.specs.CauseNumbers.{too_short, entry_invalid}
 use Rattle.types.specs.Codes.{need}
 use Rattle.types.specs.declared.error_mode.ErrorEntryMode.{ErrorEntryMode}
-use Rattle.types.specs.declared.hal.PowerlinkError.TheVariants.{InvalidMessageType, InvalidNmtState, InvalidRequestedServiceId}
 use Rattle.types.specs.declared.message_type.MessageType.{MessageType}
 use Rattle.types.specs.declared.requested_service.RequestedServiceId.{RequestedServiceId}
 use Rattle.types.specs.declared.states.NmtState.{NmtState}
@@ -25,15 +24,15 @@ pub record WritesTo (bs : List ℕ) (r : ℕ) (t t' : List ℕ) (n n' : ℕ) : T
 
 abbrev pub entry_cause_by : (ErrorEntryMode → ErrorEntry) → Result ErrorEntryMode UnknownMode → List ℕ → ℕ
 entry_cause_by e (Ok m) t = (write_cause (write_answer (entry_bytes (e m)) t)).number
-entry_cause_by e (Err (record { 0 = b })) t = need (leb entry_length (length t)) too_short entry_invalid
+entry_cause_by e (Err x) t = need (leb entry_length (length t)) too_short entry_invalid
 
 abbrev pub entry_target_by : (ErrorEntryMode → ErrorEntry) → Result ErrorEntryMode UnknownMode → List ℕ → List ℕ
 entry_target_by e (Ok m) t = overwritten (entry_bytes (e m)) t
-entry_target_by e (Err (record { 0 = b })) t = t
+entry_target_by e (Err x) t = t
 
 abbrev pub entry_length_by : (ErrorEntryMode → ErrorEntry) → Result ErrorEntryMode UnknownMode → List ℕ → ℕ → ℕ
 entry_length_by e (Ok m) t n = length_after (write_answer (entry_bytes (e m)) t) n
-entry_length_by e (Err (record { 0 = b })) t n = n
+entry_length_by e (Err x) t n = n
 
 pub record WritesEntry (e : ErrorEntryMode → ErrorEntry) (m : Result ErrorEntryMode UnknownMode) (r : ℕ) (t t' : List ℕ) (n n' : ℕ) : Type 0 where
   pub cause : r ≡ entry_cause_by e m t
@@ -44,15 +43,15 @@ pub record WritesEntry (e : ErrorEntryMode → ErrorEntry) (m : Result ErrorEntr
 
 -- where n octets are needed: what follows a code that names something, or the error of one that does not
 abbrev pub typed : ℕ → Result MessageType PowerlinkError → (MessageType → Coded) → Coded
-typed n (Err (InvalidMessageType b)) next = unnamed n (InvalidMessageType b)
+typed n (Err e) next = unnamed n e
 typed n (Ok m) next = next m
 
 abbrev pub stated : ℕ → Result NmtState PowerlinkError → (NmtState → Coded) → Coded
-stated n (Err (InvalidNmtState b)) next = unnamed n (InvalidNmtState b)
+stated n (Err e) next = unnamed n e
 stated n (Ok s) next = next s
 
 abbrev pub requested : ℕ → Result RequestedServiceId PowerlinkError → (RequestedServiceId → Coded) → Coded
-requested n (Err (InvalidRequestedServiceId b)) next = unnamed n (InvalidRequestedServiceId b)
+requested n (Err e) next = unnamed n e
 requested n (Ok s) next = next s
 
 -- as `WritesTo`, with the octet o' that is told where o stood

@@ -93,16 +93,11 @@ pub fn powerlink_collector_request(
     ensures { CollectorRequests id (request_fields source_mac.now epl_version) nmt_state result state.now target.old target.new written.old written.new octet.old octet.new }
 {
     match NmtState::try_from(nmt_state) {
-        Err(PowerlinkError::InvalidNmtState(b)) => {
+        Err(e) => {
             if !is_registered(state, NodeId(id)) {
                 return NOT_REGISTERED;
             }
-            unnamed(
-                PowerlinkError::InvalidNmtState(b),
-                MIN_FRAME,
-                target.len(),
-                octet,
-            )
+            unnamed(e, MIN_FRAME, target.len(), octet)
         }
         Ok(nmt_state) => {
             let fields = RequestFields {

@@ -109,14 +109,9 @@ pub fn powerlink_new_pres(
     ensures { WritesCoded (new_pres_writing source_mac.now source state (pres_flags_given ms en rd pr rs) pdo_version payload.now) result target.old target.new written.old written.new octet.old octet.new }
 {
     match NmtState::try_from(state) {
-        Err(PowerlinkError::InvalidNmtState(b)) => {
+        Err(e) => {
             let needed = padded_len(MIN_FRAME, poll::PAYLOAD_AT + payload.len());
-            unnamed(
-                PowerlinkError::InvalidNmtState(b),
-                needed,
-                target.len(),
-                octet,
-            )
+            unnamed(e, needed, target.len(), octet)
         }
         Ok(nmt_state) => {
             let new = PResFrame::new(
@@ -158,21 +153,9 @@ pub fn powerlink_new_soa(
     ensures { WritesCoded (new_soa_writing source_mac.now state (soa_flags_given ea er) requested_service target_node epl_version) result target.old target.new written.old written.new octet.old octet.new }
 {
     match NmtState::try_from(state) {
-        Err(PowerlinkError::InvalidNmtState(b)) => {
-            unnamed(
-                PowerlinkError::InvalidNmtState(b),
-                MIN_FRAME,
-                target.len(),
-                octet,
-            )
-        }
+        Err(e) => unnamed(e, MIN_FRAME, target.len(), octet),
         Ok(nmt_state) => match RequestedServiceId::try_from(requested_service) {
-            Err(PowerlinkError::InvalidRequestedServiceId(b)) => unnamed(
-                PowerlinkError::InvalidRequestedServiceId(b),
-                MIN_FRAME,
-                target.len(),
-                octet,
-            ),
+            Err(e) => unnamed(e, MIN_FRAME, target.len(), octet),
             Ok(service) => {
                 let new = SoAFrame::new(
                     MacAddress(*source_mac),

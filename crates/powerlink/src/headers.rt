@@ -5,9 +5,7 @@ ghost use Rattle.powerlink.specs.Reading.{EthRead, PlRead};
 ghost use Rattle.powerlink.specs.Writing.{WritesTo, WritesCoded};
 
 use c_values::answers::{refusal, unnamed, written_or};
-use codec::headers::{
-    EthHeaderAnswer, deserialize_eth_header, deserialize_pl_header,
-};
+use codec::headers::{deserialize_eth_header, deserialize_pl_header};
 use frame::write::{serialize_eth_header, serialize_pl_header};
 use types::NodeId;
 use types::basic::{EthernetHeader, MacAddress};
@@ -23,16 +21,11 @@ pub fn powerlink_deserialize_eth_header(
 ) -> u8
     ensures { EthRead buffer.now result destination.old destination.new source.old source.new ether_type.old ether_type.new }
 {
-    let read = deserialize_eth_header(buffer);
-    let header = read.eth_header;
-    let answer = read.answer;
-    match answer {
-        EthHeaderAnswer::Refused(e) => e.number(),
-        EthHeaderAnswer::Read => {
-            let d = header.destination_mac.0;
-            let s = header.source_mac.0;
-            *destination = d;
-            *source = s;
+    match deserialize_eth_header(buffer) {
+        Err(e) => e.number(),
+        Ok(header) => {
+            *destination = header.destination_mac.0;
+            *source = header.source_mac.0;
             *ether_type = header.ether_type;
             0
         }
@@ -46,11 +39,10 @@ pub fn powerlink_deserialize_pl_header(buffer: &[u8], values: &mut [u64; 3], oct
     match deserialize_pl_header(buffer) {
         Err(e) => refusal(e, octet),
         Ok(h) => {
-            let message = h.message_type;
             *values = [
-                u8::from(message) as u64,
-                h.destination.0 as u64,
-                h.source.0 as u64,
+                u64::from(u8::from(h.message_type)),
+                u64::from(h.destination.0),
+                u64::from(h.source.0),
             ];
             0
         }
@@ -88,14 +80,7 @@ pub fn powerlink_serialize_pl_header(
     ensures { WritesCoded (pl_header_writing message_type destination source) result target.old target.new written.old written.new octet.old octet.new }
 {
     match MessageType::try_from(message_type) {
-        Err(PowerlinkError::InvalidMessageType(b)) => {
-            unnamed(
-                PowerlinkError::InvalidMessageType(b),
-                3,
-                target.len(),
-                octet,
-            )
-        }
+        Err(e) => unnamed(e, 3, target.len(), octet),
         Ok(message) => {
             let answer = serialize_pl_header(message, NodeId(destination), NodeId(source), target);
             written_or(answer, written)

@@ -25,7 +25,7 @@ pub fn powerlink_journal_record(
     ensures { JournalRecords id status_entry send_to_queue mode profile code (time seconds nanoseconds) information result target.old target.new written.old written.new }
 {
     match ErrorEntryMode::try_from(mode) {
-        Err(UnknownMode(_)) => {
+        Err(_) => {
             if target.len() < JOURNAL_RECORD_LEN {
                 return TOO_SHORT;
             }

@@ -9,11 +9,6 @@ ghost use Rattle.powerlink.specs.Reading.{FrameRead, SectionRead};
 
 use crate::frame_values::{asnd_values, preq_values, pres_values, soa_values, soc_values};
 use c_values::answers::refusal;
-use codec::asnd::ASndVerdict;
-use codec::preq::PReqVerdict;
-use codec::pres::PResVerdict;
-use codec::soa::SoAVerdict;
-use codec::soc::SocVerdict;
 use codec::{kind_of, payload_place};
 use control::soa;
 use frame::PowerlinkFrame;
@@ -62,12 +57,12 @@ fn read_soc(s: &[u8], values: &mut [u64; 16], octet: &mut u8) -> u8
     ensures { SectionRead (read_soc s.now) s.now result values.old values.new octet.old octet.new }
 {
     match codec::soc::judge(s) {
-        SocVerdict::Read(net_time, relative_time) => {
+        Err(e) => refusal(e, octet),
+        Ok((net_time, relative_time)) => {
             let f = codec::soc::fields(s, net_time, relative_time);
             *values = soc_values(f, payload_place(PowerlinkFrame::Soc(f), s));
             0
         }
-        SocVerdict::TooShort => refusal(PowerlinkError::BufferTooShort, octet),
     }
 }
 
@@ -75,12 +70,12 @@ fn read_preq(s: &[u8], values: &mut [u64; 16], octet: &mut u8) -> u8
     ensures { SectionRead (read_preq s.now) s.now result values.old values.new octet.old octet.new }
 {
     match codec::preq::judge(s) {
-        PReqVerdict::Read(size) => {
+        Err(e) => refusal(e, octet),
+        Ok(size) => {
             let f = codec::preq::fields(s, size);
             *values = preq_values(f, payload_place(PowerlinkFrame::PReq(f), s));
             0
         }
-        PReqVerdict::TooShort => refusal(PowerlinkError::BufferTooShort, octet),
     }
 }
 
@@ -88,17 +83,15 @@ fn read_pres(s: &[u8], values: &mut [u64; 16], octet: &mut u8) -> u8
     ensures { SectionRead (read_pres s.now) s.now result values.old values.new octet.old octet.new }
 {
     match codec::pres::judge(s) {
-        PResVerdict::Read(state, size) => {
+        Err(e) => refusal(e, octet),
+        Ok((state, size)) => {
             let f = codec::pres::fields(s, state, size);
             let mut numbers = pres_values(f, payload_place(PowerlinkFrame::PRes(f), s));
             // The state's number is its octet: the compiler then makes no table of states.
-            numbers[10] = byte_at(s, pres::STATE_AT) as u64;
+            numbers[10] = u64::from(byte_at(s, pres::STATE_AT));
             *values = numbers;
             0
         }
-        PResVerdict::TooShort => refusal(PowerlinkError::BufferTooShort, octet),
-        PResVerdict::NotToAll => refusal(PowerlinkError::InvalidPlFrame, octet),
-        PResVerdict::NoState(b) => refusal(PowerlinkError::InvalidNmtState(b), octet),
     }
 }
 
@@ -106,18 +99,16 @@ fn read_soa(s: &[u8], values: &mut [u64; 16], octet: &mut u8) -> u8
     ensures { SectionRead (read_soa s.now) s.now result values.old values.new octet.old octet.new }
 {
     match codec::soa::judge(s) {
-        SoAVerdict::Read(state, service) => {
+        Err(e) => refusal(e, octet),
+        Ok((state, service)) => {
             let f = codec::soa::fields(s, state, service);
             let mut numbers = soa_values(f, payload_place(PowerlinkFrame::SoA(f), s));
             // And so is the service's.
-            numbers[7] = byte_at(s, soa::SERVICE_AT) as u64;
-            numbers[10] = byte_at(s, soa::STATE_AT) as u64;
+            numbers[7] = u64::from(byte_at(s, soa::SERVICE_AT));
+            numbers[10] = u64::from(byte_at(s, soa::STATE_AT));
             *values = numbers;
             0
         }
-        SoAVerdict::TooShort => refusal(PowerlinkError::BufferTooShort, octet),
-        SoAVerdict::NoState(b) => refusal(PowerlinkError::InvalidNmtState(b), octet),
-        SoAVerdict::NoService(b) => refusal(PowerlinkError::InvalidRequestedServiceId(b), octet),
     }
 }
 
@@ -125,12 +116,11 @@ fn read_asnd(services: &Services, s: &[u8], values: &mut [u64; 16], octet: &mut 
     ensures { SectionRead (read_asnd services.now s.now) s.now result values.old values.new octet.old octet.new }
 {
     match codec::asnd::judge(services, s) {
-        ASndVerdict::Read => {
+        Err(e) => refusal(e, octet),
+        Ok(()) => {
             let f = codec::asnd::fields(s);
             *values = asnd_values(f, payload_place(PowerlinkFrame::ASnd(f), s));
             0
         }
-        ASndVerdict::TooShort => refusal(PowerlinkError::BufferTooShort, octet),
-        ASndVerdict::NoService(b) => refusal(PowerlinkError::InvalidServiceId(b), octet),
     }
 }

@@ -23,7 +23,7 @@ pub fn powerlink_reporter_new_v2(state: &mut Reporter, id: u8) -> u8
     ensures { ReporterMakes id result state.old state.new }
 {
     match new(state, NodeId(id)) {
-        Ok(()) => 0,
+        Ok(_) => 0,
         Err(NewError::IdOutOfRange) => ID_OUT_OF_RANGE,
     }
 }
@@ -43,7 +43,7 @@ pub fn powerlink_reporter_raise(
     ensures { ReporterRaises status_entry send_to_queue mode profile code (time seconds nanoseconds) information result state.old state.new }
 {
     match ErrorEntryMode::try_from(mode) {
-        Err(UnknownMode(_)) => ENTRY_INVALID,
+        Err(_) => ENTRY_INVALID,
         Ok(mode) => {
             let entry = entry_given(
                 status_entry,
@@ -83,14 +83,9 @@ pub fn powerlink_reporter_answer_v2(
     ensures { ReporterAnswers services.now (answer_fields source_mac.now dest_mac.now ec pr rs field.now) nmt_state result state.old state.new target.old target.new written.old written.new octet.old octet.new }
 {
     match NmtState::try_from(nmt_state) {
-        Err(PowerlinkError::InvalidNmtState(b)) => {
+        Err(e) => {
             let needed = answer_len(state);
-            unnamed(
-                PowerlinkError::InvalidNmtState(b),
-                needed,
-                target.len(),
-                octet,
-            )
+            unnamed(e, needed, target.len(), octet)
         }
         Ok(nmt_state) => {
             let fields = AnswerFields {

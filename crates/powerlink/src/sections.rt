@@ -95,14 +95,9 @@ pub fn powerlink_serialize_pres(
     ensures { WritesCoded (pres_writing destination source state (pres_flags_given ms en rd pr rs) pdo_version payload_size payload.now) result target.old target.new written.old written.new octet.old octet.new }
 {
     match NmtState::try_from(state) {
-        Err(PowerlinkError::InvalidNmtState(b)) => {
+        Err(e) => {
             let needed = padded_len(MIN_SECTION, poll::FIELDS_LEN + payload.len());
-            unnamed(
-                PowerlinkError::InvalidNmtState(b),
-                needed,
-                target.len(),
-                octet,
-            )
+            unnamed(e, needed, target.len(), octet)
         }
         Ok(nmt_state) => {
             let frame = PResFrame {
@@ -142,21 +137,9 @@ pub fn powerlink_serialize_soa(
     ensures { WritesCoded (soa_writing destination source state (soa_flags_given ea er) requested_service target_node epl_version) result target.old target.new written.old written.new octet.old octet.new }
 {
     match NmtState::try_from(state) {
-        Err(PowerlinkError::InvalidNmtState(b)) => {
-            unnamed(
-                PowerlinkError::InvalidNmtState(b),
-                MIN_SECTION,
-                target.len(),
-                octet,
-            )
-        }
+        Err(e) => unnamed(e, MIN_SECTION, target.len(), octet),
         Ok(nmt_state) => match RequestedServiceId::try_from(requested_service) {
-            Err(PowerlinkError::InvalidRequestedServiceId(b)) => unnamed(
-                PowerlinkError::InvalidRequestedServiceId(b),
-                MIN_SECTION,
-                target.len(),
-                octet,
-            ),
+            Err(e) => unnamed(e, MIN_SECTION, target.len(), octet),
             Ok(req_service_id) => {
                 let frame = SoAFrame {
                     destination: NodeId(destination),

@@ -8,8 +8,8 @@ use crate::frame_values::status_values;
 use c_values::answers::{refusal, written_or};
 use c_values::values::{entry_given, entry_values};
 use error_entry::{ENTRY_LEN, ErrorEntry};
-use status_response::bit_field::{ErrorFieldAnswer, StaticErrorBitField};
-use status_response::fields::{STATE_AT, StatusFields, deserialize, read_fields};
+use status_response::bit_field::StaticErrorBitField;
+use status_response::fields::{STATE_AT, StatusFields, deserialize};
 use status_response::given;
 use status_response::walk::step_from;
 use types::causes::{ENTRY_INVALID, TOO_SHORT};
@@ -27,17 +27,14 @@ pub fn powerlink_deserialize_status(
 ) -> u8
     ensures { StatusRead payload.now result values.old values.new field.old field.new octet.old octet.new }
 {
-    // The answer first: behind its tests the compiler drops those of the error field.
-    match read_fields(payload) {
+    match deserialize(payload) {
         Err(e) => refusal(e, octet),
-        Ok(f) => {
-            let status = deserialize(payload);
-            let bits = status.static_error_bit_field;
-            let mut numbers = status_values(f);
+        Ok(status) => {
+            let mut numbers = status_values(status.fields);
             // The state's number is its octet: the compiler then makes no table of states.
-            numbers[4] = payload[STATE_AT] as u64;
+            numbers[4] = u64::from(payload[STATE_AT]);
             *values = numbers;
-            *field = bits.to_bytes();
+            *field = status.static_error_bit_field.to_bytes();
             0
         }
     }
@@ -47,12 +44,9 @@ pub fn powerlink_deserialize_status(
 pub fn powerlink_deserialize_error_field(buffer: &[u8], field: &mut [u8; 8]) -> u8
     ensures { FieldRead buffer.now result field.old field.new }
 {
-    let read = StaticErrorBitField::deserialize(buffer);
-    let bits = read.field;
-    let answer = read.answer;
-    match answer {
-        ErrorFieldAnswer::Refused(e) => e.number(),
-        ErrorFieldAnswer::Read => {
+    match StaticErrorBitField::deserialize(buffer) {
+        Err(error) => error.number(),
+        Ok(bits) => {
             *field = bits.to_bytes();
             0
         }
@@ -107,7 +101,7 @@ pub fn powerlink_serialize_entry(
     ensures { EntryWrites status_entry send_to_queue mode profile code (time seconds nanoseconds) information result target.old target.new written.old written.new }
 {
     match ErrorEntryMode::try_from(mode) {
-        Err(UnknownMode(_)) => {
+        Err(_) => {
             if target.len() < ENTRY_LEN {
                 return TOO_SHORT;
             }
@@ -161,11 +155,11 @@ pub fn powerlink_serialize_status(
 {
     match NmtState::try_from(state) {
         // Cause 1 comes first; where the code is a state's, the writer tests for it.
-        Err(PowerlinkError::InvalidNmtState(b)) => {
+        Err(e) => {
             if !given::fits(entries, target.len()) {
                 return TOO_SHORT;
             }
-            refusal(PowerlinkError::InvalidNmtState(b), octet)
+            refusal(e, octet)
         }
         Ok(nmt_state) => {
             let fields = StatusFields {

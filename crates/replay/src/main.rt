@@ -16,7 +16,7 @@ mod writers;
 ghost use Rattle.std.specs.Prelude.{◌-◌, ◌≤◌, length};
 
 use judge::Verdict;
-use octets::little_endian::get_u32_le;
+use octets::little_endian::get_le;
 use octets::slices::{byte_at, front, tail};
 use print::{difference, number, say};
 use record::{CALL, END, mark, target_len};
@@ -120,11 +120,11 @@ fn load(rt: &impl Input, file: &mut [u8; FILE]) -> usize {
 
 fn run(rt: &impl Print, file: &[u8; FILE], n: usize) {
     let text = front(file, n);
-    if get_u32_le(text, 0) != PLC2 || n == FILE {
+    if get_le::<_, u32>(text, 0) != PLC2 || n == FILE {
         say(rt, b"refused: no PLC2, or too long\n");
         return;
     }
-    all(rt, tail(text, HEAD), get_u32_le(text, 4) as u64);
+    all(rt, tail(text, HEAD), get_le::<_, u32>(text, 4) as u64);
 }
 
 fn main(rt: HostRuntime) {

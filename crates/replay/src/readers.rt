@@ -1,7 +1,6 @@
 // The calls that read: what goes in is A. Each out-parameter is the fill before the call.
 use crate::judge::{Verdict, judge};
 use crate::record::{A, fill, long, many, part};
-use octets::little_endian::u64_le;
 use octets::slices::front;
 use powerlink::headers::{powerlink_deserialize_eth_header, powerlink_deserialize_pl_header};
 use powerlink::reading::powerlink_deserialize_frame_v2;
@@ -97,7 +96,7 @@ fn entry_step(s: &[u8]) -> Verdict {
     let mut values = [many(s); 8];
     let mut next = many(s) as usize;
     let cause = powerlink_entry_step(part(s, A), long(s, 0) as usize, &mut values, &mut next);
-    judge_entry(s, cause, &values, &u64_le(next as u64))
+    judge_entry(s, cause, &values, &(next as u64).to_le_bytes())
 }
 
 // Calls 1 to 7.

@@ -4,7 +4,7 @@ ghost use Rattle.std.specs.Prelude.{◌≡◌};
 ghost use Rattle.octets.specs.Numbers.{le_at};
 ghost use Rattle.replay.specs.Record.{fill_of, many_of, number_at, number_octet, mark_of, part_of, value_of};
 
-use octets::little_endian::{get_u16_le, get_u32_le, get_u64_le};
+use octets::little_endian::get_le;
 use octets::slices::{byte_at, front, tail};
 
 // Where a record has its call, the fill, what is answered, and how many numbers and values it has.
@@ -59,32 +59,32 @@ pub fn flag(s: &[u8], i: u8) -> bool {
 pub fn half(s: &[u8], i: u8) -> u16
     ensures { result ≡ le_at 2 (number_at i) s.now }
 {
-    get_u16_le(s, 30 + 8 * (i as usize))
+    get_le(s, 30 + 8 * (i as usize))
 }
 
 pub fn word(s: &[u8], i: u8) -> u32
     ensures { result ≡ le_at 4 (number_at i) s.now }
 {
-    get_u32_le(s, 30 + 8 * (i as usize))
+    get_le(s, 30 + 8 * (i as usize))
 }
 
 pub fn long(s: &[u8], i: u8) -> u64
     ensures { result ≡ le_at 8 (number_at i) s.now }
 {
-    get_u64_le(s, 30 + 8 * (i as usize))
+    get_le(s, 30 + 8 * (i as usize))
 }
 
 // Where a part begins, and where the last one ends.
 pub fn mark(s: &[u8], k: u8) -> usize
     ensures { result ≡ mark_of s.now k }
 {
-    get_u32_le(s, 4 * (k as usize)) as usize
+    get_le::<_, u32>(s, 4 * (k as usize)) as usize
 }
 
 pub fn part(s: &[u8], k: u8) -> &[u8]
     ensures { result.now ≡ part_of s.now k }
 {
-    let end = get_u32_le(s, 4 * (k as usize) + 4) as usize;
+    let end = get_le::<_, u32>(s, 4 * (k as usize) + 4) as usize;
     tail(front(s, end), mark(s, k))
 }
 
@@ -93,14 +93,14 @@ pub fn value(s: &[u8], i: usize) -> u64
     ensures { result ≡ value_of s.now i }
 {
     if i < byte_at(s, VALUES) as usize {
-        get_u64_le(s, 30 + 8 * (byte_at(s, NUMBERS) as usize) + 8 * i)
+        get_le(s, 30 + 8 * (byte_at(s, NUMBERS) as usize) + 8 * i)
     } else {
         many(s)
     }
 }
 
 pub fn target_len(s: &[u8]) -> usize {
-    get_u32_le(s, 20) as usize
+    get_le::<_, u32>(s, 20) as usize
 }
 
 // A part that is an array.

@@ -1,14 +1,12 @@
 -- How an answer's frame is put together, and what an answer promises from it.
 -- Assumes nothing.
 use Prim.Native.Nat.{ℕ, ◌+◌, ◌-◌, ◌≤◌, ◌<◌}
-use mathlib.Core.Path.{◌≡◌, sym, ap, ◌∙◌}
+use mathlib.Core.Path.{◌≡◌, refl, sym, ap, ◌∙◌}
 use mathlib.Core.List.{List, ◌++◌, append_assoc}
 use native.Mathlib.Nat.{zero-add}
 use native.Mathlib.Omega.{arith}
-use lib.Dec.{leb}
 use lib.ListN.{length, take, replicate, length-append, length-replicate}
-use lib.Seq.{sets}
-use borrow.Author.Tests.{le-leb}
+use lib.Seq.{sets, length-take-le}
 use Rattle.std.specs.Prelude.{Result, Ok, Err}
 use Rattle.octets.proofs.Sets.{sets_append, sets_front}
 use Rattle.types.specs.Header.{eth_bytes}
@@ -24,15 +22,15 @@ use Rattle.control.specs.declared.asnd.ASndFrame.{ASndFrame}
 use Rattle.frame.specs.Write.{frame_bytes}
 use Rattle.error_entry.specs.declared.ErrorEntry.{ErrorEntry}
 use Rattle.status_response.specs.Fields.{head_bytes}
-use Rattle.status_response.specs.Given.{WritesWhole}
 use Rattle.status_response.specs.Steps.{status_bytes}
 use Rattle.status_response.specs.declared.fields.StatusFields.{StatusFields}
 use Rattle.reporter.specs.Calls.{AnswerSizes, Answers}
-use Rattle.reporter.specs.Layout.{head_of, carried_in, first_four, answer_bytes}
+use Rattle.records.proofs.RingLaws.{length_ring}
+use Rattle.reporter.specs.Layout.{places, start_of, entry_in, head_of, carried_in, first_four, answer_bytes}
 use Rattle.reporter.specs.Rules.{Head, batch_length, opened, status_fields, answer_payload, filled_payload, answer_asnd, answer_front, answer_frame, after_answer}
 use Rattle.reporter.specs.declared.AnswerFields.{AnswerFields}
 use Rattle.reporter.proofs.AnyTable.{any_answer}
-use Rattle.reporter.proofs.Meaning.{carried_batch, answer_size}
+use Rattle.reporter.proofs.Meaning.{carried_small, carried_batch, answer_size}
 
 -- ---- zeros behind octets that were written
 
@@ -47,15 +45,15 @@ module _ (bs t : List ℕ) (m : ℕ) where
   pub filled_short : length t < m → Writes filled (Err BufferTooShort) t t
   filled_short h = refuses filled t (omega (arith, filled_length))
 
-  pub filled_refused : (r : Result ℕ PowerlinkError) (e : PowerlinkError) (after : List ℕ) → Writes bs r t after → r ≡ Err e → Writes filled (Err e) t after
-  filled_refused r e after w q =
-      let p = refused bs t r e after w q in
+  pub filled_refused : (e : PowerlinkError) (after : List ℕ) → Writes bs (Err e) t after → Writes filled (Err e) t after
+  filled_refused e after w =
+      let p = refused bs t (Err e) e after w refl in
       rw (p.1.0, p.1.1) (refuses filled t (omega (arith, p.0, filled_length)))
 
-  pub filled_written : (r : Result ℕ PowerlinkError) (n : ℕ) (after t₂ : List ℕ) → Writes bs r t after → r ≡ Ok n → m ≤ length t
-      → t₂ ≡ sets after n (replicate (m - n) 0) → Writes filled (Ok (n + (m - n))) t t₂
-  filled_written r n after t₂ w q least e =
-      let p = written bs t r n after w q in
+  pub filled_written : (n : ℕ) (after t₂ : List ℕ) → Writes bs (Ok n) t after → m ≤ length t → t₂ ≡ sets after n (replicate (m - n) 0)
+      → Writes filled (Ok (n + (m - n))) t t₂
+  filled_written n after t₂ w least e =
+      let p = written bs t (Ok n) n after w refl in
       let b : n ≡ length bs = p.1.0 in
       let zs : List ℕ = replicate (m - length bs) 0 in
       let all : t₂ ≡ sets t 0 filled =
@@ -97,19 +95,23 @@ module _ (f : AnswerFields) (s : List ℕ) where
   unfolding answer_payload
   payload_is front four n e₁ e₂ e₃ = rw (e₁, e₂, e₃, carried_batch s)
 
-  pub payload_writes : (front : StatusFields) (four : List ErrorEntry) (n : ℕ) (t after : List ℕ) (r : Result ℕ PowerlinkError)
-      → front ≡ status_fields f (opened (head_of s)).en → four ≡ first_four s → (n ≡ carried_in s) × (n ≤ batch_length)
-      → WritesWhole (leb n batch_length) (status_bytes (head_bytes front f.static_error_bit_field) (take n four)) r t after → Writes payload r t after
-  payload_writes front four n t after r e₁ e₂ e₃ w =
-      let p : Writes (status_bytes (head_bytes front f.static_error_bit_field) (take n four)) r t after = rw (le-leb n batch_length e₃.1) at w in
-      rw (payload_is front four n e₁ e₂ e₃.0) at p
+  module _ (four : List ErrorEntry) (n : ℕ) (ef : four ≡ first_four s) (en : n ≡ carried_in s) where
+    pub carried_fits : n ≤ length four
+    carried_fits = rw (ef, en, length_ring (entry_in s) places (start_of s) batch_length) (carried_small s)
 
-  pub answers : (services : List ℕ) → AnswerSizes f → (r r' : Result ℕ PowerlinkError) (after t written : List ℕ) → r ≡ r'
-      → Writes (answer_frame f (opened (head_of s))) r t written → head_of after ≡ after_answer r' (head_of s) → after ≡ answer_bytes r' s
-      → Answers services f r' s after t written
-  answers services sizes r r' after t written er w h b =
+    pub carried_taken : n ≡ length (take n four)
+    carried_taken = sym (length-take-le n four carried_fits)
+
+    pub payload_writes : (front : StatusFields) (t after : List ℕ) (r : Result ℕ PowerlinkError) → front ≡ status_fields f (opened (head_of s)).en
+        → Writes (status_bytes (head_bytes front f.static_error_bit_field) (take n four)) r t after → Writes payload r t after
+    payload_writes front t after r eh w = rw (payload_is front four n eh ef en) at w
+
+  pub answers : (services : List ℕ) → AnswerSizes f → (r : Result ℕ PowerlinkError) (after t written : List ℕ)
+      → Writes (answer_frame f (opened (head_of s))) r t written → head_of after ≡ after_answer r (head_of s) → after ≡ answer_bytes r s
+      → Answers services f r s after t written
+  answers services sizes r after t written w h b =
       record {
-        writes = rw (any_answer services f (opened (head_of s))) (serializes _ t r' written (rw er at w));
+        writes = rw (any_answer services f (opened (head_of s))) (serializes _ t r written w);
         size = answer_size f (opened (head_of s));
         sizes = sizes;
         head = h;

@@ -5,9 +5,9 @@ use mathlib.Core.Bool.{Bool}
 use mathlib.Core.Path.{◌≡◌, refl, sym, ap, ◌∙◌}
 use mathlib.Core.Logic.{inl, inr}
 use mathlib.Core.List.{List}
-use mathlib.Core.Option.{Option, none, some, none-ne-some, some-injective}
+use native.Mathlib.Omega.{arith}
 use lib.Seq.{get_or-drop}
-use Rattle.std.specs.Prelude.{Result, Ok, Err, Some, None}
+use Rattle.std.specs.Prelude.{Result, Ok, Err, Option, Some, None}
 use Rattle.types.specs.Header.{eth_length}
 use Rattle.services.specs.Table.{holds}
 use Rattle.section.specs.Write.{octets, Writes}
@@ -33,14 +33,12 @@ answer_writes services f r s after t written a =
 
 -- EA, where octets tell it
 abbrev ea_or : Result (Option Bool) PowerlinkError → Option Bool
-ea_or (Ok (Some ea)) = some ea
-ea_or (Ok None) = none
-ea_or (Err e) = none
+ea_or (Ok x) = x
+ea_or (Err e) = None
 
-ea_back : (x : Result (Option Bool) PowerlinkError) (ea : Bool) → ea_or x ≡ some ea → x ≡ Ok (Some ea)
-ea_back (Ok (Some ea₁)) ea e = ap Ok (Some (some-injective ea₁ ea e))
-ea_back (Ok None) ea e = absurd (none-ne-some ea e)
-ea_back (Err x) ea e = absurd (none-ne-some ea e)
+ea_back : (x : Result (Option Bool) PowerlinkError) (ea : Bool) → ea_or x ≡ Some ea → x ≡ Ok (Some ea)
+ea_back (Ok x) ea e = ap Ok e
+ea_back (Err x) ea e = let z : ◌≡◌ {A = ℕ} 0 1 = cc in absurd (omega arith)
 
 pub any_table : AnyTable
 any_table =

@@ -16,26 +16,20 @@ use Rattle.codec.specs.Frame.{read_frame}
 use Rattle.reporter.specs.Calls.{Makes, Numbers, Raises, Acknowledges, Reads}
 use Rattle.reporter.specs.Layout.{reporter_length, en_of, open_of, waiting_of, head_of, new_bytes, raise_bytes, acknowledge_bytes}
 use Rattle.reporter.specs.Rules.{queue_length, new_answer, new_cause, is_raisable, raise_answer, raise_cause, ea_answer, acknowledge_answer, read_cause, after_acknowledge, ea_told}
-use Rattle.reporter.specs.declared.NewError.TheVariants.{IdOutOfRange}
 use Rattle.reporter.specs.declared.RaiseError.TheVariants.{EntryInvalid, StatusEntry, QueueFull}
 use Rattle.reporter.specs.declared.ReadOutcome.TheVariants.{Closed, Kept}
 use Rattle.reporter.proofs.Meaning.{made, raises_means, reads_means}
 use Rattle.reporter.proofs.Ranges.{en_is, waiting_length, batch_empty}
 use Rattle.reporter.proofs.Rows.{read_row}
+use Rattle.reporter.specs.declared.RaiseError.{RaiseError}
 use Rattle.reporter.specs.declared.ReadOutcome.{ReadOutcome}
 use Rattle.types.specs.declared.hal.PowerlinkError.{PowerlinkError}
 
 -- ---- a new head
 
 module _ (i : NodeId) (s : List ℕ) where
-  pub makes_not : (Err IdOutOfRange) ≡ new_answer i.0 → Makes i (Err IdOutOfRange) s s
-  makes_not e = record { answer = e; cause = ap new_cause e; head = λ r. let z : ◌≡◌ {A = ℕ} 0 1 = cc in absurd (omega arith); bytes = refl }
-
   pub makes : (Ok tt) ≡ new_answer i.0 → Makes i (Ok tt) s (new_bytes (Ok tt) i.0 s)
   makes e = record { answer = e; cause = ap new_cause e; head = λ r. made i.0 s; bytes = refl }
-
-  pub id_bad : is_cn_node_id i.0 ≡ false → (Err IdOutOfRange) ≡ new_answer i.0
-  id_bad h = rw h
 
   pub id_good : is_cn_node_id i.0 ≡ true → (Ok tt) ≡ new_answer i.0
   id_good h = rw h
@@ -62,14 +56,8 @@ module _ (e : ErrorEntry) (s : List ℕ) where
       raise_good l = rw (sym eb ∙ h, st, waiting_length s, l)
 
   module _ (w : Numbers e) where
-    pub invalid : (Err EntryInvalid) ≡ raise_answer e (head_of s) → Raises e (Err EntryInvalid) s s
-    invalid r = record { answer = r; cause = ap raise_cause r; numbers = w; head = refl; bytes = refl }
-
-    pub status : (Err StatusEntry) ≡ raise_answer e (head_of s) → Raises e (Err StatusEntry) s s
-    status r = record { answer = r; cause = ap raise_cause r; numbers = w; head = refl; bytes = refl }
-
-    pub full : (Err QueueFull) ≡ raise_answer e (head_of s) → Raises e (Err QueueFull) s s
-    full r = record { answer = r; cause = ap raise_cause r; numbers = w; head = refl; bytes = refl }
+    pub not_raised : (x : RaiseError) → Err x ≡ raise_answer e (head_of s) → Raises e (Err x) s s
+    not_raised x r = record { answer = r; cause = ap raise_cause r; numbers = w; head = refl; bytes = refl }
 
     pub raised : (after : List ℕ) → length s ≡ reporter_length → (Ok tt) ≡ raise_answer e (head_of s) → after ≡ raise_bytes (Ok tt) e s → Raises e (Ok tt) s after
     raised after size r b =
@@ -78,20 +66,20 @@ module _ (e : ErrorEntry) (s : List ℕ) where
 -- ---- reading
 
 module _ (ea : Bool) (s : List ℕ) where
-  pub acknowledges : length s ≡ reporter_length → (r : Result ReadOutcome PowerlinkError) → r ≡ ea_answer ea (head_of s) → (after : List ℕ) → after ≡ acknowledge_bytes r s → Acknowledges ea r s after
-  acknowledges size r e after b = record { answer = e; head = ap head_of b ∙ reads_means s size r; bytes = b }
+  pub acknowledges : length s ≡ reporter_length → (r : ReadOutcome) → r ≡ ea_answer ea (head_of s) → (after : List ℕ) → after ≡ acknowledge_bytes (Ok r) s → Acknowledges ea r s after
+  acknowledges size r e after b = record { answer = e; head = ap head_of b ∙ reads_means s size (Ok r); bytes = b }
 
   module _ (n : ℕ) (eo : n ≡ open_of s) where
-    pub none_open : n ≡ 0 → (Ok Kept) ≡ ea_answer ea (head_of s)
+    pub none_open : n ≡ 0 → Kept ≡ ea_answer ea (head_of s)
     unfolding ea_answer
     none_open h = rw (batch_empty s, eq-eqb (open_of s) 0 (omega arith))
 
     module _ (h : n ≡ 0 → ⊥) (en : Bool) (ee : en ≡ en_of s) where
-      pub other_ea : not (beq en ea) ≡ true → (Ok Kept) ≡ ea_answer ea (head_of s)
+      pub other_ea : not (beq en ea) ≡ true → Kept ≡ ea_answer ea (head_of s)
       unfolding ea_answer
       other_ea t = rw (batch_empty s, ne_eqb (open_of s) 0 (λ z. h (eo ∙ z)), en_is s, ← ee, not-true (beq en ea) t)
 
-      pub same_ea : not (beq en ea) ≡ false → (Ok Closed) ≡ ea_answer ea (head_of s)
+      pub same_ea : not (beq en ea) ≡ false → Closed ≡ ea_answer ea (head_of s)
       unfolding ea_answer
       same_ea t = rw (batch_empty s, ne_eqb (open_of s) 0 (λ z. h (eo ∙ z)), en_is s, ← ee, not-false (beq en ea) t)
 

@@ -21,7 +21,6 @@ use Rattle.reporter.specs.Calls.{Numbers}
 use Rattle.reporter.specs.Layout.{reporter_length, places, en_of, start_of, open_of, waiting_of, entry_in, head_of, new_bytes, raise_bytes, opens_in, carried_in, first_four, opened_bytes, acknowledge_bytes}
 use Rattle.reporter.specs.Rules.{queue_length, batch_length, Head, fresh_head, is_raisable, raise_by, raise_answer, after_raise, opened, answer_frame, answer_length, after_acknowledge}
 use Rattle.reporter.specs.declared.AnswerFields.{AnswerFields}
-use Rattle.reporter.specs.declared.RaiseError.TheVariants.{EntryInvalid, StatusEntry, QueueFull}
 use Rattle.reporter.specs.declared.ReadOutcome.TheVariants.{Closed, Kept, Ignored}
 use Rattle.reporter.proofs.Answering.{payload_length, answer_octets}
 use Rattle.reporter.proofs.Closing.{closed_length, closed_means}
@@ -71,9 +70,7 @@ raisable_range e w h =
 module _ (e : ErrorEntry) (s : List ℕ) where
   pub raises_length : (r : Result Unit RaiseError) → length (raise_bytes r e s) ≡ length s
   raises_length (Ok _) = raised_length s e
-  raises_length (Err EntryInvalid) = refl
-  raises_length (Err StatusEntry) = refl
-  raises_length (Err QueueFull) = refl
+  raises_length (Err x) = refl
 
   means_by : length s ≡ reporter_length → Numbers e → (raisable status room : Bool) → is_raisable e ≡ raisable
       → ltb (length (head_of s).waiting) queue_length ≡ room

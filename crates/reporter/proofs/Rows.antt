@@ -15,17 +15,17 @@ use Rattle.types.specs.declared.hal.PowerlinkError.{PowerlinkError}
 
 -- what can be read is refused by no head
 
-ea_by : (t : Bool) → (read_cause (pick t (Ok Closed) (Ok Kept))).number ≡ 0
+ea_by : (t : Bool) → (read_cause (Ok (pick t Closed Kept))).number ≡ 0
 ea_by true = refl
 ea_by false = refl
 
-for_by : (t u ea : Bool) (h : Head) → (read_cause (acknowledge_answer (need t (Ok None) (need u (Ok None) (Ok (Some ea)))) h)).number ≡ 0
+for_by : (t u ea : Bool) (h : Head) → (read_cause (acknowledge_answer (Ok (need t None (need u None (Some ea)))) h)).number ≡ 0
 unfolding ea_answer
 for_by true true ea h = ea_by (not (is_empty h.batch) && beq h.en ea)
 for_by true false ea h = refl
 for_by false u ea h = refl
 
-frame_row : (i : ℕ) (f : PowerlinkFrame) (h : Head) → (read_cause (acknowledge_answer (ea_in_frame i f) h)).number ≡ 0
+frame_row : (i : ℕ) (f : PowerlinkFrame) (h : Head) → (read_cause (acknowledge_answer (Ok (ea_in_frame i f)) h)).number ≡ 0
 unfolding ea_for
 frame_row i (Soc f) h = refl
 frame_row i (PReq f) h = for_by (eqb f.source.0 240) (eqb f.destination.0 i) f.flags.ea h

@@ -50,10 +50,10 @@ pub record Answers (services : List ℕ) (f : AnswerFields) (r : Result ℕ Powe
   pub bytes : after ≡ answer_bytes r state
 
 -- the part of reading that EA decides
-pub record Acknowledges (ea : Bool) (r : Result ReadOutcome PowerlinkError) (state after : List ℕ) : Type 0 where
+pub record Acknowledges (ea : Bool) (r : ReadOutcome) (state after : List ℕ) : Type 0 where
   pub answer : r ≡ ea_answer ea (head_of state)
-  pub head : head_of after ≡ after_acknowledge r (head_of state)
-  pub bytes : after ≡ acknowledge_bytes r state
+  pub head : head_of after ≡ after_acknowledge (Ok r) (head_of state)
+  pub bytes : after ≡ acknowledge_bytes (Ok r) state
 
 pub record Reads (services frame : List ℕ) (r : Result ReadOutcome PowerlinkError) (state after : List ℕ) : Type 0 where
   pub answer : r ≡ acknowledge_answer (ea_told services (head_of state).id frame) (head_of state)

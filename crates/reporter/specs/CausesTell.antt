@@ -25,12 +25,12 @@ abbrev pub write_told : Cause → Result ℕ PowerlinkError
 write_told c =
     pick (eqb c.number 0) (Ok (get_or c.returned 0 0)) (Err (error_told c.number (get_or c.returned 0 0)))
 
-abbrev pub outcome_told : ℕ → Result ReadOutcome PowerlinkError
-outcome_told k = pick (eqb k 0) (Ok Ignored) (pick (eqb k 1) (Ok Kept) (Ok Closed))
+abbrev pub outcome_told : ℕ → ReadOutcome
+outcome_told k = pick (eqb k 0) Ignored (pick (eqb k 1) Kept Closed)
 
 abbrev pub read_told : Cause → Result ReadOutcome PowerlinkError
 read_told c =
-    pick (eqb c.number 0) (outcome_told (get_or c.returned 0 0)) (Err (error_told c.number (get_or c.returned 0 0)))
+    pick (eqb c.number 0) (Ok (outcome_told (get_or c.returned 0 0))) (Err (error_told c.number (get_or c.returned 0 0)))
 
 -- "a definition tells this paper's number and values for each of its cases"
 pub record CausesTell : Type 0 where

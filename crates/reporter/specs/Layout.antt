@@ -7,7 +7,6 @@ use Rattle.error_entry.specs.declared.ErrorEntry.{ErrorEntry}
 use Rattle.records.specs.Records.{entry_length, record_at, with_record}
 use Rattle.records.specs.Ring.{ring}
 use Rattle.reporter.specs.Rules.{batch_length, queue_length, Head, when_raised, when_written, when_closed}
-use Rattle.reporter.specs.declared.NewError.TheVariants.{IdOutOfRange}
 use Rattle.types.specs.declared.hal.PowerlinkError.{PowerlinkError}
 use Rattle.reporter.specs.declared.RaiseError.{RaiseError}
 use Rattle.reporter.specs.declared.NewError.{NewError}
@@ -78,7 +77,7 @@ head_of s =
 
 abbrev pub new_bytes : Result Unit NewError → ℕ → List ℕ → List ℕ
 new_bytes (Ok _) i s = set (replicate reporter_length 0) id_at i
-new_bytes (Err IdOutOfRange) i s = s
+new_bytes (Err e) i s = s
 
 -- the entry's record behind the waiting ones
 unfoldable pub raised_bytes : ErrorEntry → List ℕ → List ℕ

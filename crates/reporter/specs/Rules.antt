@@ -89,9 +89,7 @@ raise_cause (Err QueueFull) = row cause.queue_full []
 
 abbrev pub when_raised : {A : Type 0} → Result Unit RaiseError → A → A → A
 when_raised (Ok _) a b = a
-when_raised (Err EntryInvalid) a b = b
-when_raised (Err StatusEntry) a b = b
-when_raised (Err QueueFull) a b = b
+when_raised (Err e) a b = b
 
 -- "the entry joins the waiting ones, last"
 abbrev pub after_raise : Result Unit RaiseError → ErrorEntry → Head → Head
@@ -162,20 +160,20 @@ after_answer r h = when_written r (opened h) h
 -- ---- reading a frame
 
 -- EA, where the source is 240 and the frame is for node i
-unfoldable pub ea_for : ℕ → ℕ → ℕ → Bool → Result (Option Bool) PowerlinkError
-ea_for i source target ea = need (eqb source managing_node) (Ok None) (need (eqb target i) (Ok None) (Ok (Some ea)))
+unfoldable pub ea_for : ℕ → ℕ → ℕ → Bool → Option Bool
+ea_for i source target ea = need (eqb source managing_node) None (need (eqb target i) None (Some ea))
 
 -- "a PReq to its ID or an SoA with it as target gives EA"
-abbrev pub ea_in_frame : ℕ → PowerlinkFrame → Result (Option Bool) PowerlinkError
-ea_in_frame i (Soc f) = Ok None
+abbrev pub ea_in_frame : ℕ → PowerlinkFrame → Option Bool
+ea_in_frame i (Soc f) = None
 ea_in_frame i (PReq f) = ea_for i f.source.0 f.destination.0 f.flags.ea
-ea_in_frame i (PRes f) = Ok None
+ea_in_frame i (PRes f) = None
 ea_in_frame i (SoA f) = ea_for i f.source.0 f.target_node_id.0 f.flags.ea
-ea_in_frame i (ASnd f) = Ok None
+ea_in_frame i (ASnd f) = None
 
 abbrev pub ea_in_answer : ℕ → Result PowerlinkFrame PowerlinkError → Result (Option Bool) PowerlinkError
 ea_in_answer i (Err e) = Err e
-ea_in_answer i (Ok f) = ea_in_frame i f
+ea_in_answer i (Ok f) = Ok (ea_in_frame i f)
 
 -- what node i wants in the octets of a frame: the EA (exception acknowledge) that the managing node tells it, nothing, or why they
 -- cannot be read, under a table
@@ -183,14 +181,14 @@ abbrev pub ea_told : List ℕ → ℕ → List ℕ → Result (Option Bool) Powe
 ea_told services i f = ea_in_answer i (read_frame services f)
 
 -- "If a batch is open and EA equals EN, it closes"
-unfoldable pub ea_answer : Bool → Head → Result ReadOutcome PowerlinkError
-ea_answer ea h = pick (not (is_empty h.batch) && beq h.en ea) (Ok Closed) (Ok Kept)
+unfoldable pub ea_answer : Bool → Head → ReadOutcome
+ea_answer ea h = pick (not (is_empty h.batch) && beq h.en ea) Closed Kept
 
 -- "Other readable frames are ignored"; frames that cannot be read give their cause
 abbrev pub acknowledge_answer : Result (Option Bool) PowerlinkError → Head → Result ReadOutcome PowerlinkError
 acknowledge_answer (Err e) h = Err e
 acknowledge_answer (Ok None) h = Ok Ignored
-acknowledge_answer (Ok (Some ea)) h = ea_answer ea h
+acknowledge_answer (Ok (Some ea)) h = Ok (ea_answer ea h)
 
 -- 01's number for each case; behind 0 what C tells: 0 ignored, 1 kept, 2 closed
 abbrev pub read_cause : Result ReadOutcome PowerlinkError → Cause

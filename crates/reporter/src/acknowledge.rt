@@ -12,51 +12,45 @@ use types::C_ADR_MN_DEF_NODE_ID;
 use types::hal::PowerlinkError;
 
 // EA, where the frame is from the managing node and for node `id`.
-fn ea_for(id: u8, source: u8, target: u8, ea: bool) -> Result<Option<bool>, PowerlinkError>
+fn ea_for(id: u8, source: u8, target: u8, ea: bool) -> Option<bool>
     ensures { result ≡ ea_for id source target ea }
 {
-    if source != C_ADR_MN_DEF_NODE_ID {
-        return Ok(None);
-    }
-    if target != id {
-        return Ok(None);
-    }
-    Ok(Some(ea))
+    (source == C_ADR_MN_DEF_NODE_ID && target == id).then_some(ea)
 }
 
 // What a frame that was read tells node `id`.
-fn hear_frame(id: u8, frame: PowerlinkFrame) -> Result<Option<bool>, PowerlinkError>
+fn hear_frame(id: u8, frame: PowerlinkFrame) -> Option<bool>
     ensures { result ≡ ea_in_frame id frame }
 {
     match frame {
-        PowerlinkFrame::Soc(_) => Ok(None),
         PowerlinkFrame::PReq(f) => ea_for(id, f.source.0, f.destination.0, f.flags.ea),
-        PowerlinkFrame::PRes(_) => Ok(None),
         PowerlinkFrame::SoA(f) => ea_for(id, f.source.0, f.target_node_id.0, f.flags.ea),
-        PowerlinkFrame::ASnd(_) => Ok(None),
+        PowerlinkFrame::Soc(_) | PowerlinkFrame::PRes(_) | PowerlinkFrame::ASnd(_) => None,
     }
 }
 
 // What octets tell node `id`.
-pub(crate) fn hear(services: &Services, id: u8, buffer: &[u8]) -> Result<Option<bool>, PowerlinkError>
+pub(crate) fn hear(
+    services: &Services,
+    id: u8,
+    buffer: &[u8],
+) -> Result<Option<bool>, PowerlinkError>
     ensures { result ≡ ea_told services.now id buffer.now }
 {
-    match read_frame(services, buffer) {
-        Err(e) => Err(e),
-        Ok(frame) => hear_frame(id, frame),
-    }
+    let frame = read_frame(services, buffer)?;
+    Ok(hear_frame(id, frame))
 }
 
 // Closes the open batch, if there is one and EA equals EN.
-pub(crate) fn acknowledge(state: &mut Reporter, ea: bool) -> Result<ReadOutcome, PowerlinkError>
+pub(crate) fn acknowledge(state: &mut Reporter, ea: bool) -> ReadOutcome
     ensures { Acknowledges ea result state.old state.new }
 {
     if open(state) == 0 {
-        return Ok(ReadOutcome::Kept);
+        return ReadOutcome::Kept;
     }
     if en(state) != ea {
-        return Ok(ReadOutcome::Kept);
+        return ReadOutcome::Kept;
     }
     close(state);
-    Ok(ReadOutcome::Closed)
+    ReadOutcome::Closed
 }

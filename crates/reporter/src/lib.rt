@@ -68,6 +68,7 @@ const BARE_ANSWER_LEN: usize = PAYLOAD_AT + FRONT_LEN + ENTRY_LEN;
 //   is known and closed, and what has joined is lost;
 // - begun anew after an odd number of booked batches: EA is 1 and so is the first EN; that batch is known and lost.
 // No other StatusResponse goes out under its ID, since each tells the box EN.
+// C lends these octets: so they are an array with a ring in it, and no struct with entries.
 pub type Reporter = [u8; REPORTER_LEN];
 
 // Why no state is made.
@@ -148,16 +149,13 @@ pub fn answer(
 ) -> Result<usize, PowerlinkError>
     ensures { Answers services.now fields result state.old state.new target.old target.new }
 {
-    match answer_frame(state, fields, target) {
-        Ok(n) => {
-            open_batch(state);
-            Ok(n)
-        }
-        Err(e) => Err(e),
-    }
+    let n = answer_frame(state, fields, target)?;
+    open_batch(state);
+    Ok(n)
 }
 
 // EN, which a PRes of this node carries too.
+#[tactic(auto, unfolding(crate::specs::Layout::head_of))]
 pub fn en(state: &Reporter) -> bool
     ensures { result ≡ (head_of state.now).en }
 {
@@ -177,12 +175,15 @@ pub fn answer_len(state: &Reporter) -> usize
 }
 
 // Reads a frame: a PReq to this node or an SoA with it as target, from the managing node, gives EA.
-pub fn read(state: &mut Reporter, services: &Services, buffer: &[u8]) -> Result<ReadOutcome, PowerlinkError>
+pub fn read(
+    state: &mut Reporter,
+    services: &Services,
+    buffer: &[u8],
+) -> Result<ReadOutcome, PowerlinkError>
     ensures { Reads services.now buffer.now result state.old state.new }
 {
-    match hear(services, state[ID_AT], buffer) {
-        Err(e) => Err(e),
-        Ok(None) => Ok(ReadOutcome::Ignored),
-        Ok(Some(ea)) => acknowledge(state, ea),
+    match hear(services, state[ID_AT], buffer)? {
+        Some(ea) => Ok(acknowledge(state, ea)),
+        None => Ok(ReadOutcome::Ignored),
     }
 }

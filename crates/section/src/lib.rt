@@ -59,21 +59,14 @@ pub fn write_behind(front: &[u8], header: &[u8], payload: &[u8], target: &mut [u
 pub fn fits(at: usize, used: usize, len: usize) -> bool
     ensures { result ≡ leb (at + (used + (min_section - used))) len }
 {
-    if len < at {
-        return false;
-    }
-    padded_len(used) <= len - at
+    at <= len && padded_len(used) <= len - at
 }
 
 // How many octets a section has of which `used` are not padding.
 fn padded_len(used: usize) -> usize
     ensures { result ≡ used + (min_section - used) }
 {
-    if used < MIN_SECTION {
-        MIN_SECTION
-    } else {
-        used
-    }
+    used.max(MIN_SECTION)
 }
 
 // Copies both to a target that they fit: the zeros first, and the rest over them.

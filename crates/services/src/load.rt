@@ -6,7 +6,7 @@ ghost use Rattle.services.specs.Table.{marked};
 
 use crate::STATUS_RESPONSE;
 use crate::table::{SERVICES_LEN, Services};
-use octets::little_endian::get_u16_le;
+use octets::little_endian::get_le;
 use octets::slices::{has_mark, tail};
 
 const MARK: [u8; 3] = *b"PLS";
@@ -53,7 +53,7 @@ fn is_table(file: &[u8]) -> bool
     if !has_mark(file, MARK) {
         return false;
     }
-    get_u16_le(file, VERSION_AT) == VERSION
+    get_le::<_, u16>(file, VERSION_AT) == VERSION
 }
 
 // What loading answers of the IDs.

@@ -21,11 +21,11 @@ use Rattle.error_entry.proofs.Front.{entry_front}
 use Rattle.status_response.specs.Steps.{unless_terminator, entries_in, status_entries}
 use Rattle.collector.specs.Calls.{Reads}
 use Rattle.collector.specs.Rules.{bookable, booked_entries, read_answer, response_in, response_in_answer, status_payload, status_in}
+use Rattle.collector.specs.declared.ReadError.{ReadError}
+use Rattle.collector.specs.declared.ReadOutcome.{ReadOutcome as BoxOutcome}
 use Rattle.signaling.specs.Arrival.{IsASnd, entries_at, IsEntry, IsStatusEntry, Ends, Among, put, keep, end, Arrives, put_in}
 use Rattle.signaling.proofs.Facts.{clash}
 use Rattle.signaling.proofs.Fronts.{Agree, frames_agree, fields_agree}
-use Rattle.collector.specs.declared.ReadOutcome.{ReadOutcome}
-use Rattle.collector.specs.declared.ReadError.{ReadError}
 
 -- ---- the entries
 
@@ -106,7 +106,7 @@ module _ {f given : List ℕ} (y : Arrives f given) where
     response_same = ap response_in_answer (frames_agree agree services k)
 
     -- a reading of what is given is one of what was sent
-    pub reads_sent : {r : (Result ReadOutcome ReadError)} {s after : List ℕ} → Reads services given r s after → Reads services f r s after
+    pub reads_sent : {r : Result BoxOutcome ReadError} {s after : List ℕ} → Reads services given r s after → Reads services f r s after
     unfolding read_answer
     reads_sent {r} {s} {after} c =
         record {

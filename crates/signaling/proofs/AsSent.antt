@@ -12,21 +12,21 @@ use Rattle.reporter.specs.declared.AnswerFields.{AnswerFields}
 use Rattle.reporter.proofs.AnyTable.{answer_writes}
 use Rattle.collector.specs.Calls.{Reads}
 use Rattle.collector.specs.Layout.{response_bytes}
+use Rattle.collector.specs.declared.ReadError.{ReadError}
+use Rattle.collector.specs.declared.ReadOutcome.{ReadOutcome as BoxOutcome}
 use Rattle.signaling.specs.Arrival.{IsASnd}
 use Rattle.signaling.specs.AsSent.{AsSent}
 use Rattle.signaling.proofs.Arriving.{reads_sent, arrives_self, arrives_put}
 use Rattle.signaling.proofs.Calls.{written_frame}
 use Rattle.signaling.proofs.Frames.{answer_asnd_lem}
 use Rattle.signaling.proofs.Steps.{held}
-use Rattle.collector.specs.declared.ReadOutcome.{ReadOutcome}
-use Rattle.collector.specs.declared.ReadError.{ReadError}
 
 -- two readings of one frame by one box are the same
-pub reads_once : {services f s after after' : List ℕ} {r r' : (Result ReadOutcome ReadError)} → Reads services f r s after → Reads services f r' s after'
+pub reads_once : {services f s after after' : List ℕ} {r r' : Result BoxOutcome ReadError} → Reads services f r s after → Reads services f r' s after'
     → (r' ≡ r) × (after' ≡ after)
 reads_once {services} {f} {s} c d =
     let same = d.answer ∙ sym c.answer in
-    (same, d.bytes ∙ ap (λ (x : Result ReadOutcome ReadError). response_bytes services x f s) same ∙ sym c.bytes)
+    (same, d.bytes ∙ ap (λ (x : Result BoxOutcome ReadError). response_bytes services x f s) same ∙ sym c.bytes)
 
 answer_is_asnd : (services : List ℕ) (f : AnswerFields) (n : ℕ) (state after target written : List ℕ)
     → Answers services f (Ok n) state after target written

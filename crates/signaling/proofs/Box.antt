@@ -12,9 +12,9 @@ use borrow.Author.Tests.{le-leb}
 use Rattle.std.specs.Prelude.{Ok}
 use Rattle.error_entry.specs.declared.ErrorEntry.{ErrorEntry}
 use Rattle.reporter.specs.Rules.{Head}
+use Rattle.collector.specs.Rules.{book_length}
 use Rattle.collector.specs.declared.ReadOutcome.TheVariants as box
 use Rattle.signaling.specs.Calls.{sent, box_read, Tally, on_entries, on_answers, on_requests, sends, gives, hands, adds}
-use Rattle.collector.specs.Rules.{book_length}
 use Rattle.signaling.proofs.Facts.{beq_same, beq_not, at_lt, join_book}
 use Rattle.signaling.proofs.Invariant.{Carries, en_said, batch_said, Inv}
 use Rattle.signaling.proofs.Transit.{answers_later, answers_fresh, answers_booked, requests_send, requests_booked}

@@ -11,6 +11,7 @@ use Rattle.octets.proofs.NumberBack.{Octets}
 use Rattle.types.specs.Causes.{row}
 use Rattle.types.specs.Codes.{pick}
 use Rattle.types.specs.declared.hal.PowerlinkError.TheVariants.{BufferTooShort}
+use Rattle.types.specs.declared.hal.PowerlinkError.{PowerlinkError}
 use Rattle.section.specs.Write.{write_answer, overwritten, write_cause, octets, Serializes}
 use Rattle.codec.specs.Frame.{read_frame}
 use Rattle.error_entry.specs.declared.ErrorEntry.{ErrorEntry}
@@ -29,11 +30,12 @@ use Rattle.collector.specs.Rules.{register_answer, read_answer, request_answer, 
 use Rattle.collector.specs.declared.RequestFields.{RequestFields}
 use Rattle.collector.proofs.Meaning.{fresh_means, register_means, register_length, read_means, read_length, request_size, take_means, take_length}
 use Rattle.signaling.specs.Calls.{node}
-use Rattle.types.specs.declared.hal.PowerlinkError.{PowerlinkError}
 
 -- ---- the head's calls
 
-pub makes : (i : ℕ) (s : List ℕ) → new_answer i ≡ Ok tt → reporter.Makes (node i) (Ok tt) s (new_bytes (Ok tt) i s) × (length (new_bytes (Ok tt) i s) ≡ reporter_length)
+pub makes : (i : ℕ) (s : List ℕ) → new_answer i ≡ Ok tt
+    → reporter.Makes (node i) (Ok tt) s (new_bytes (Ok tt) i s)
+    × (length (new_bytes (Ok tt) i s) ≡ reporter_length)
 makes i s ok = (record { answer = sym ok; cause = ap new_cause (sym ok); head = λ e. made i s; bytes = refl }, new_length i s)
 
 pub raises : (s : List ℕ) (e : ErrorEntry) → length s ≡ reporter_length → Numbers e

@@ -3,11 +3,10 @@
 use Prim.Native.Nat.{ℕ, ◌≤◌}
 use mathlib.Core.Path.{◌≡◌, refl, ap, ◌∙◌}
 use mathlib.Core.List.{List, [], ◌∷◌, ◌++◌}
-use mathlib.Core.Option.{Option, none, some}
 use native.Mathlib.Omega.{arith}
 use lib.ListN.{length}
 use borrow.Author.Tests.{eq-eqb}
-use Rattle.std.specs.Prelude.{Ok}
+use Rattle.std.specs.Prelude.{Ok, Option, Some, None}
 use Rattle.error_entry.specs.declared.ErrorEntry.{ErrorEntry}
 use Rattle.collector.specs.Calls as collector
 use Rattle.collector.specs.Layout.{account_of}
@@ -24,8 +23,8 @@ first_refused [] y = refl
 first_refused (e ∷ b) y = absurd y
 
 refused_empty : (o : Option Account) → TakeRefused (take_answer o) → book_of o ≡ []
-refused_empty none y = refl
-refused_empty (some p) y = first_refused p.book y
+refused_empty None y = refl
+refused_empty (Some p) y = first_refused p.book y
 
 -- a Take that is not refused hands out the first of the book, and leaves the others
 handed_first : (i : ℕ) (e : ErrorEntry) (s after : List ℕ) → collector.Takes (node i) (Ok e) s after

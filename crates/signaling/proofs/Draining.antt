@@ -3,10 +3,9 @@
 use Prim.Native.Nat.{ℕ}
 use mathlib.Core.Path.{◌≡◌, refl, ap, ◌∙◌}
 use mathlib.Core.List.{List, [], ◌∷◌}
-use mathlib.Core.Option.{Option, none, some}
 use lib.ListN.{length}
 use borrow.Author.Tests.{eq-eqb}
-use Rattle.std.specs.Prelude.{Ok, Err}
+use Rattle.std.specs.Prelude.{Ok, Err, Option, Some, None}
 use Rattle.error_entry.specs.declared.ErrorEntry.{ErrorEntry}
 use Rattle.collector.specs.Layout.{collector_length, account_of, take_bytes}
 use Rattle.collector.specs.Rules.{with_book, Account}
@@ -35,7 +34,7 @@ box_size (call r s) = step_size s ∙ box_size r
 -- ---- what further Takes hand out is the book
 
 module _ (i : ℕ) where
-  draining_place : (es : List ErrorEntry) (p : Account) (b : List ℕ) → p.book ≡ es → length b ≡ collector_length → account_of b i ≡ some p
+  draining_place : (es : List ErrorEntry) (p : Account) (b : List ℕ) → p.book ≡ es → length b ≡ collector_length → account_of b i ≡ Some p
       → Drained i b es
   draining_place [] p b is size e = let r = rw (e, is) at (hands b i size) in over (Err taking.NothingBooked) b r.0 tt
   draining_place (x ∷ es) p b is size e =
@@ -44,5 +43,5 @@ module _ (i : ℕ) where
       (draining_place es (with_book es p) (take_bytes (Ok x) i b) refl r.1 (r.0.box.accounts i ∙ rw (eq-eqb i i refl, e, is)))
 
   pub draining : (o : Option Account) (b : List ℕ) → length b ≡ collector_length → account_of b i ≡ o → Drained i b (book_of o)
-  draining none b size e = let r = rw e at (hands b i size) in over (Err taking.NotRegistered) b r.0 tt
-  draining (some p) b size e = draining_place p.book p b refl size e
+  draining None b size e = let r = rw e at (hands b i size) in over (Err taking.NotRegistered) b r.0 tt
+  draining (Some p) b size e = draining_place p.book p b refl size e

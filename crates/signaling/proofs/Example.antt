@@ -7,7 +7,7 @@ use mathlib.Core.List.{List, [], ◌∷◌}
 use mathlib.Core.Option.{some}
 use native.Mathlib.Omega.{arith}
 use lib.ListN.{length, take, drop}
-use Rattle.std.specs.Prelude.{Result, Ok, Err}
+use Rattle.std.specs.Prelude.{Result, Ok, Err, Some}
 use Rattle.types.specs.declared.error_mode.ErrorEntryMode.{ErrorEntryMode}
 use Rattle.types.specs.declared.error_mode.ErrorEntryMode.TheVariants.{Terminator, ErrorActive, ErrorCleared, EventOccurred}
 use Rattle.types.specs.declared.hal.PowerlinkError.TheVariants.{InvalidServiceId}
@@ -15,10 +15,11 @@ use Rattle.services.specs.Table.{ds301}
 use Rattle.error_entry.specs.declared.ErrorEntry.{ErrorEntry}
 use Rattle.reporter.specs.Rules.{Head, fresh_head, is_raisable, raise_answer, after_raise, opened, answer_frame, ea_answer}
 use Rattle.reporter.specs.declared.RaiseError.TheVariants.{EntryInvalid, StatusEntry}
+use Rattle.reporter.specs.declared.RaiseError.{RaiseError}
 use Rattle.reporter.specs.declared.ReadOutcome.TheVariants.{Closed, Kept, Ignored}
 use Rattle.collector.specs.Layout.{box_of, fresh_bytes}
 use Rattle.collector.specs.Rules.{Account, fresh_account, register_answer, book_answer, read_answer, request_frame}
-use Rattle.collector.specs.declared.ReadError.TheVariants as boxError
+use Rattle.collector.specs.declared.ReadError.TheVariants as refusal
 use Rattle.collector.specs.declared.ReadOutcome.TheVariants as box
 use Rattle.signaling.specs.Calls.{sent, foreign, Event, raised, answered, head_read, registered, box_read, requested, taken, hosted, Log, World, Run, fresh, call}
 use Rattle.signaling.specs.Example.{entry, shown, five, house, LossAndRepeat, Onward, here, further}
@@ -27,7 +28,6 @@ use Rattle.signaling.proofs.Draining.{draining}
 use Rattle.signaling.proofs.ExampleFrames.{numbers, with_two, with_other, two_arrive, other_arrives, two_octets, fields, sizes, asked, fifth, first, second, answer_octets, first_says, second_says, hears_ea, pres_frame, pres_far, pres_other, pres_ignored, house_frame, house_far, house_other, house_refused, preq_frame, hears_host, hears_not, first_length, second_length, request_length}
 use Rattle.signaling.proofs.Frames.{says_arrived}
 use Rattle.signaling.proofs.Making.{world, Knows, Next, Started, held, sent_whole, starting, raising, answering, hearing, as_it_is, knowing, booking, passing, registering, asking, handing, hosting}
-use Rattle.reporter.specs.declared.RaiseError.{RaiseError}
 
 -- ---- what the head becomes, and the list of calls
 
@@ -67,20 +67,22 @@ answered_twice = answer_of first ∷ answer_of first ∷ all_raised
 abbrev pub twice_read : Log
 twice_read =
     box_read ds301 (sent 1) with_other (Ok box.Known) ∷ box_read house (sent 1) with_two (Ok box.Booked)
-    ∷ box_read ds301 foreign house_frame (Err (boxError.Frame (InvalidServiceId 0x20)))
-    ∷ box_read house foreign house_frame (Err boxError.NotStatusResponse)
-    ∷ box_read ds301 foreign pres_frame (Err boxError.NotStatusResponse)
+    ∷ box_read ds301 foreign house_frame (Err (refusal.Frame (InvalidServiceId 0x20)))
+    ∷ box_read house foreign house_frame (Err refusal.NotStatusResponse)
+    ∷ box_read ds301 foreign pres_frame (Err refusal.NotStatusResponse)
     ∷ answered_twice
 
 -- the first request is lost
 abbrev asked_twice : Log
 asked_twice =
-    request_of 7 true ∷ request_of 7 true ∷ head_read ds301 foreign pres_frame (Ok Ignored) ∷ head_read house (sent 0) (request_frame 9 asked false) (Ok Ignored)
+    request_of 7 true ∷ request_of 7 true ∷ head_read ds301 foreign pres_frame (Ok Ignored)
+    ∷ head_read house (sent 0) (request_frame 9 asked false) (Ok Ignored)
     ∷ twice_read
 
 abbrev pub first_closed : Log
 first_closed =
-    head_read house (sent 2) (request_frame 7 asked true) (Ok Kept) ∷ head_read ds301 (sent 2) (request_frame 7 asked true) (Ok Closed) ∷ asked_twice
+    head_read house (sent 2) (request_frame 7 asked true) (Ok Kept) ∷ head_read ds301 (sent 2) (request_frame 7 asked true) (Ok Closed)
+    ∷ asked_twice
 
 abbrev all_booked : Log
 all_booked = box_read ds301 (sent 2) (answer_frame fields second) (Ok box.Booked) ∷ answer_of second ∷ first_closed
@@ -119,8 +121,8 @@ module _ {v : World} where
       let n = make r.state r.box r.knows in
       record { state = n.state; box = n.box; onward = further r.onward n.step; knows = n.knows }
 
-  adding : {l : Log} {h : Head} {p : Account} (m : ErrorEntryMode) (c : ℕ) (r : Result Unit RaiseError) → c < 2 ^ 16 → raise_answer (entry m c) h ≡ r
-      → Reached v l h p
+  adding : {l : Log} {h : Head} {p : Account} (m : ErrorEntryMode) (c : ℕ) (r : Result Unit RaiseError)
+      → c < 2 ^ 16 → raise_answer (entry m c) h ≡ r → Reached v l h p
       → Reached v (raised (entry m c) r ∷ l) (after_raise r (entry m c) h) p
   adding m c r small ok y = next y (λ s b k. raising k (entry m c) r (numbers m c small) ok)
 
@@ -148,9 +150,9 @@ module _ {v : World} where
       (next
       (next
       (next
-      (next r (λ s b k. passing k ds301 foreign pres_frame (Err boxError.NotStatusResponse) (pres_far ds301).0 (rw (pres_other ds301)) (λ A x y. refl)))
-      (λ s b k. passing k house foreign house_frame (Err boxError.NotStatusResponse) (house_far house) (rw house_other) (λ A x y. refl)))
-      (λ s b k. passing k ds301 foreign house_frame (Err (boxError.Frame (InvalidServiceId 0x20))) (house_far ds301) (rw house_refused) (λ A x y. refl)))
+      (next r (λ s b k. passing k ds301 foreign pres_frame (Err refusal.NotStatusResponse) (pres_far ds301).0 (rw (pres_other ds301)) (λ A x y. refl)))
+      (λ s b k. passing k house foreign house_frame (Err refusal.NotStatusResponse) (house_far house) (rw house_other) (λ A x y. refl)))
+      (λ s b k. passing k ds301 foreign house_frame (Err (refusal.Frame (InvalidServiceId 0x20))) (house_far ds301) (rw house_refused) (λ A x y. refl)))
       (λ s b k.
       booking k with_two first (says_arrived two_arrive first_says) refl house 1
       (answer_frame fields first, (omega arith, ap some (sent_whole (answer_frame fields first))), two_arrive) two_octets refl))
@@ -261,5 +263,5 @@ loss_and_repeat =
       rest = r.knows.rules;
       state = r.knows.means ∙ sym r.knows.rules;
       booked = rw reached_first.knows.rules;
-      drained = draining 7 (some (place false (drop 1 five))) r.box r.knows.box_size r.knows.place;
+      drained = draining 7 (Some (place false (drop 1 five))) r.box r.knows.box_size r.knows.place;
     }

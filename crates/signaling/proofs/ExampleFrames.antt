@@ -15,6 +15,7 @@ use Rattle.types.specs.Codes.{need}
 use Rattle.types.specs.Header.{eth_bytes}
 use Rattle.types.specs.Messages.{message_of}
 use Rattle.types.specs.PollFlags.{poll_octet}
+use Rattle.types.specs.declared.basic.NewFrame.{NewFrame}
 use Rattle.types.specs.declared.error_mode.ErrorEntryMode.{ErrorEntryMode}
 use Rattle.types.specs.declared.error_mode.ErrorEntryMode.TheVariants.{Terminator, ErrorActive, ErrorCleared, EventOccurred}
 use Rattle.types.specs.declared.hal.PowerlinkError.TheVariants.{InvalidServiceId}
@@ -25,25 +26,24 @@ use Rattle.services.specs.Table.{holds, ds301}
 use Rattle.services.proofs.Tables.{table_holds, tables_hold}
 use Rattle.section.specs.Write.{padded}
 use Rattle.control.specs.ASnd.{new_asnd, asnd_section}
-use Rattle.types.specs.declared.basic.NewFrame.{NewFrame}
+use Rattle.control.specs.declared.asnd.ASndFrame.{ASndFrame}
 use Rattle.poll.specs.declared.pres.PResFrame.{PResFrame}
 use Rattle.poll.specs.declared.preq.PReqFrame.{PReqFrame}
-use Rattle.control.specs.declared.asnd.ASndFrame.{ASndFrame}
 use Rattle.poll.specs.PReq.{new_preq}
 use Rattle.poll.specs.PRes.{new_pres}
 use Rattle.frame.specs.Write.{frame_bytes}
 use Rattle.frame.specs.declared.PowerlinkFrame.TheVariants.{PReq, PRes, ASnd}
 use Rattle.codec.specs.ASnd.{read_asnd}
-use Rattle.codec.specs.Frame.{kind_in, read_section, read_frame, deserialize_frame}
+use Rattle.codec.specs.Frame.{kind_in, read_section, read_frame}
 use Rattle.error_entry.specs.Entry.{type_number, entry_of, entry_bytes}
 use Rattle.error_entry.specs.declared.ErrorEntry.{ErrorEntry}
+use Rattle.error_entry.proofs.ReadBack.{entries_read_back}
 use Rattle.status_response.specs.BitField.{field_bytes}
 use Rattle.status_response.specs.Fields.{head_bytes}
 use Rattle.status_response.specs.Steps.{status_bytes, status_entries}
-use Rattle.error_entry.proofs.ReadBack.{entries_read_back}
-use Rattle.records.proofs.RecordLaws.{bytes_length}
 use Rattle.frame_laws.proofs.HeaderBack.{section_back}
-use Rattle.frame_laws.proofs.ReadBack.{frames_read_back}
+use Rattle.frame_laws.proofs.ReadBack.{frame_read, frames_read_back}
+use Rattle.records.proofs.RecordLaws.{bytes_length}
 use Rattle.reporter.specs.Calls.{Numbers, AnswerSizes}
 use Rattle.reporter.specs.Rules.{Head, fresh_head, is_raisable, answer_payload, answer_frame, ea_for, ea_told}
 use Rattle.reporter.specs.declared.AnswerFields.{AnswerFields}
@@ -54,8 +54,8 @@ use Rattle.collector.proofs.BookableLaws.{bookable_few}
 use Rattle.collector.proofs.Meaning.{request_size}
 use Rattle.signaling.specs.Arrival.{IsStatusEntry, Arrives, put_in}
 use Rattle.signaling.specs.Calls.{NotFrom, node}
-use Rattle.signaling.proofs.Arriving.{said_same, arrives_self, arrives_put}
 use Rattle.signaling.specs.Example.{example_entry, entry, shown, two_put_in, five, house, made_status}
+use Rattle.signaling.proofs.Arriving.{said_same, arrives_self, arrives_put}
 use Rattle.signaling.proofs.Calls.{request_here, request_else}
 use Rattle.signaling.proofs.Facts.{clash, either, both}
 use Rattle.signaling.proofs.Frames.{Says, is_status, answer_reads, answer_long, says_arrived}
@@ -201,10 +201,11 @@ pres_frame = frame_bytes other.eth_header (PRes other.frame) []
 
 module _ (services : List ℕ) where
   pres_reads : read_frame services pres_frame ≡ Ok (PRes other.frame)
-  unfolding other pres_frame deserialize_frame
+  unfolding other pres_frame
   pres_reads =
+      frame_read
       (frames_read_back.reads services other.eth_header (PRes other.frame) [] (record { destination = refl; source = refl; ethertype = refl })
-      (refl, (omega arith, (refl, omega arith)))).frame
+      (refl, (omega arith, (refl, omega arith))))
 
   pub pres_far : NotFrom 7 (read_frame services pres_frame) × NotFrom 240 (read_frame services pres_frame)
   unfolding other
@@ -257,11 +258,12 @@ pub preq_frame : Bool → List ℕ
 preq_frame ea = frame_bytes (poll ea).eth_header (PReq (poll ea).frame) []
 
 pub hears_host : (services : List ℕ) (ea : Bool) → ea_told services 7 (preq_frame ea) ≡ Ok (Some ea)
-unfolding poll preq_frame deserialize_frame ea_for
+unfolding poll preq_frame ea_for
 hears_host services ea =
     rw
+    (frame_read
     (frames_read_back.reads services (poll ea).eth_header (PReq (poll ea).frame) []
-    (record { destination = refl; source = refl; ethertype = refl }) (refl, omega arith)).frame
+    (record { destination = refl; source = refl; ethertype = refl }) (refl, omega arith)))
 
 pub hears_not : (services : List ℕ) (ea : Bool) → ea_told services 7 (request_frame 9 asked ea) ≡ Ok None
 unfolding asked

@@ -5,17 +5,22 @@ use mathlib.Core.Bool.{Bool, beq}
 use mathlib.Core.Path.{◌≡◌, refl, sym, ap, ◌∙◌}
 use mathlib.Core.Logic.{◌⊎◌, inl, inr}
 use mathlib.Core.List.{List, ◌∷◌}
-use mathlib.Core.Option.{Option, none, some}
+use mathlib.Core.Option.{some}
 use native.Mathlib.Omega.{arith}
 use lib.ListN.{length, get_elem?}
 use lib.Dec.{leb}
-use Rattle.std.specs.Prelude.{Result, Ok, Err, Some}
+use Rattle.std.specs.Prelude.{Result, Ok, Err, Some, Option, None}
+use Rattle.types.specs.declared.hal.PowerlinkError.{PowerlinkError}
 use Rattle.status_response.specs.declared.fields.StatusFields.{StatusFields}
 use Rattle.reporter.specs.Rules.{Head, opened, ea_told}
+use Rattle.reporter.specs.declared.ReadOutcome.{ReadOutcome}
 use Rattle.collector.specs.Layout.{box_of}
 use Rattle.collector.specs.Rules.{Said, book_length, Account, Box, book_answer, account_answer, read_answer, booked_account, after_response, response_in, status_in}
-use Rattle.collector.specs.declared.ReadError.TheVariants as boxError
+use Rattle.collector.specs.declared.ReadError.TheVariants as refusal
+use Rattle.collector.specs.declared.ReadError.{ReadError}
 use Rattle.collector.specs.declared.ReadOutcome.TheVariants as box
+use Rattle.collector.specs.declared.ReadOutcome.{ReadOutcome as BoxOutcome}
+use Rattle.collector.specs.declared.RequestError.{RequestError}
 use Rattle.signaling.specs.Calls.{answer, sent, Event, answered, head_read, box_read, requested, answers_sent, requests_sent, node, World, Step, head_reads, box_reads, ea_of}
 use Rattle.signaling.specs.Exchanges.{Quiet, AnswerAgain, NoRepeat, Quietly, Exchange}
 use Rattle.signaling.proofs.Calls.{read_here}
@@ -25,10 +30,6 @@ use Rattle.signaling.proofs.Invariant.{Carries, head_in, place_for}
 use Rattle.signaling.proofs.Pending.{opened_twice, opened_fewer, head_hears, closed, AtMost, at_most_stays}
 use Rattle.signaling.proofs.Steps.{read_as_sent}
 use Rattle.signaling.proofs.Quiet.{IsPlace, NoRaise, Ready, goes_on_lem, shut, Calm, calm, quiet_raises_not, quietly, no_repeat, requested_stays}
-use Rattle.collector.specs.declared.RequestError.{RequestError}
-use Rattle.reporter.specs.declared.ReadOutcome.{ReadOutcome}
-use Rattle.types.specs.declared.hal.PowerlinkError.{PowerlinkError}
-use Rattle.collector.specs.declared.ReadError.{ReadError}
 
 -- ---- both ends, while nothing changes
 
@@ -80,11 +81,11 @@ first_steady {i} {w} {n} {bs} (answer services f r after target written c) y =
 
 module _ (said : Said) (f : StatusFields) (e : said.fields ≡ Ok f) where
   -- an answer that is not refused with 12 is known or booked
-  outcome : (o : Option Account) → IsPlace o → (account_answer said o ≡ Err boxError.BookFull → ⊥)
-      → ((account_answer said o ≡ (Ok box.Known)) × (ea_of o ≡ f.en_flag)) ⊎ (account_answer said o ≡ (Ok box.Booked))
+  outcome : (o : Option Account) → IsPlace o → (account_answer said o ≡ Err refusal.BookFull → ⊥)
+      → ((account_answer said o ≡ Ok box.Known) × (ea_of o ≡ f.en_flag)) ⊎ (account_answer said o ≡ Ok box.Booked)
   unfolding book_answer
-  outcome none is found = absurd is
-  outcome (some p) is found =
+  outcome None is found = absurd is
+  outcome (Some p) is found =
       either (beq f.en_flag p.ea)
       (λ same. inl (rw (e, same), sym (beq_true f.en_flag p.ea same)))
       (λ new.
@@ -95,12 +96,12 @@ module _ (said : Said) (f : StatusFields) (e : said.fields ≡ Ok f) where
   -- one that carries EA is known
   known : (o : Option Account) → IsPlace o → ea_of o ≡ f.en_flag → account_answer said o ≡ Ok box.Known
   unfolding book_answer
-  known none is same = absurd is
-  known (some p) is same = rw (e, same, beq_same f.en_flag)
+  known None is same = absurd is
+  known (Some p) is same = rw (e, same, beq_same f.en_flag)
 
   booked_bit : (o : Option Account) → IsPlace o → (booked_account said o).ea ≡ f.en_flag
-  booked_bit none is = absurd is
-  booked_bit (some p) is = rw e
+  booked_bit None is = absurd is
+  booked_bit (Some p) is = rw e
 
 module _ (services : List ℕ) (i : ℕ) (h : Head) (bs : List ℕ) (b : Box) (says : Says bs h) (id : h.id ≡ i) where
   hears_me : response_in services bs ≡ Ok (Some (node i))
@@ -111,7 +112,7 @@ module _ (services : List ℕ) (i : ℕ) (h : Head) (bs : List ℕ) (b : Box) (s
   box_says_lem = rw hears_me
 
   -- then its bit is EA
-  box_agrees : IsPlace (b.accounts i) → (read_answer services bs b ≡ Err boxError.BookFull → ⊥)
+  box_agrees : IsPlace (b.accounts i) → (read_answer services bs b ≡ Err refusal.BookFull → ⊥)
       → ea_of ((after_response services (read_answer services bs b) bs b).accounts i) ≡ h.en
   box_agrees is found =
       let said = status_in bs in
@@ -126,7 +127,9 @@ module _ {i : ℕ} {h : Head} {ea : Bool} {n m : ℕ} {w : World} (y : Steady i 
   its_id = rw (← y.head, y.ready.held.head) y.ready.held.inv.id
 
   -- the first reading, and a repeat: EA is EN behind it
-  box_steady : {p : ℕ} {services bs : List ℕ} {r : (Result ReadOutcome ReadError)} {v : World} → n ≤ p → Step i w (box_read services (sent p) bs r) v → (r ≡ Err boxError.BookFull → ⊥)
+  box_steady : {p : ℕ} {services bs : List ℕ} {r : Result BoxOutcome ReadError} {v : World}
+      → n ≤ p → Step i w (box_read services (sent p) bs r) v
+      → (r ≡ Err refusal.BookFull → ⊥)
       → Steady i h h.en n (length (requests_sent i w.log)) v
   box_steady {p} {services} {bs} {r} le (box_reads table from octets told after d c) found =
       let s : Step i w (box_read services (sent p) bs r) (record { head = w.head; box = after; log = box_read services (sent p) bs r ∷ w.log }) =
@@ -143,22 +146,23 @@ module _ {i : ℕ} {h : Head} {ea : Bool} {n m : ℕ} {w : World} (y : Steady i 
       }
 
   -- what carries EA is not refused
-  known_found : {p : ℕ} {services bs : List ℕ} {r : (Result ReadOutcome ReadError)} {v : World} → n ≤ p → ea ≡ h.en → Step i w (box_read services (sent p) bs r) v
-      → r ≡ Err boxError.BookFull
+  known_found : {p : ℕ} {services bs : List ℕ} {r : Result BoxOutcome ReadError} {v : World}
+      → n ≤ p → ea ≡ h.en → Step i w (box_read services (sent p) bs r) v
+      → r ≡ Err refusal.BookFull
       → ⊥
   known_found {p} {services} {bs} {r} le same (box_reads table from octets told after d c) full =
       let a = d.0 in
       let says = y.mine p a le d.1.1 in
       let k = known (status_in a) says.fields says.read (place_for i w) y.ready.place (y.bit ∙ same ∙ sym says.en) in
       let x = box_says_lem services i h a (box_of w.box) says its_id in
-      let z : (Err boxError.BookFull) ≡ (Ok box.Known) = sym full ∙ (read_as_sent y.ready.held services p bs r after d c).answer ∙ x ∙ k in
+      let z : Err refusal.BookFull ≡ Ok box.Known = sym full ∙ (read_as_sent y.ready.held services p bs r after d c).answer ∙ x ∙ k in
       clash cc
 
 -- ---- the head reads
 
-module _ {i : ℕ} {h : Head} {n m q : ℕ} {services bs : List ℕ} {x : Bool} {r : (Result ReadOutcome PowerlinkError)} (le : m ≤ q) (me : ea_told services i bs ≡ Ok (Some x)) where
+module _ {i : ℕ} {h : Head} {n m q : ℕ} {services bs : List ℕ} {x : Bool} {r : Result ReadOutcome PowerlinkError} (le : m ≤ q) (me : ea_told services i bs ≡ Ok (Some x)) where
   carries_en : {w v : World} → Step i w (head_read services (sent q) bs r) v → Steady i h h.en n m w → ea_told services i bs ≡ Ok (Some h.en)
-  carries_en (head_reads table from octets told after d c) y = me ∙ ap Ok (Some (y.its q bs le d.1 services x me))
+  carries_en (head_reads table from octets told after d c) y = me ∙ ap (λ b. Ok (Some b)) (y.its q bs le d.1 services x me)
 
   head_ends : {w v : World} → Step i w (head_read services (sent q) bs r) v → Steady i h h.en n m w → head_in v ≡ shut h
   head_ends s y = head_hears (carries_en s y) y.ready.held s ∙ rw y.head (closed h)
@@ -216,12 +220,12 @@ module _ {i : ℕ} {h : Head} {k : ℕ} (settled : opened h ≡ h) (fewer : leng
       unless read (λ t. refl) (λ z. inl (_, box_steady z.1 le read (known_found z.1 le refl read))) y)
 
   -- all that is sent from the exchange's request on carries EN
-  asks : {n m : ℕ} {w v : World} {j : ℕ} {r : (Result ℕ RequestError)} {bs : List ℕ} → Step i w (requested j r bs) v → Steady i h h.en n m w
+  asks : {n m : ℕ} {w v : World} {j : ℕ} {r : Result ℕ RequestError} {bs : List ℕ} → Step i w (requested j r bs) v → Steady i h h.en n m w
       → Unless i k (Steady i h h.en (length (answers_sent i w.log)) (length (requests_sent i w.log))) v
   asks s y = quiet_steady s tt (steady_from y.ready y.head y.bit)
 
   -- behind the exchange's answer
-  exchanged_by : {ea : Bool} {m : ℕ} {w v : World} (x : Exchange i w v) → (x.box_says ≡ Err boxError.BookFull → ⊥)
+  exchanged_by : {ea : Bool} {m : ℕ} {w v : World} (x : Exchange i w v) → (x.box_says ≡ Err refusal.BookFull → ⊥)
       → Steady i h ea (length (answers_sent i w.log)) m x.w₁
       → AtMost i k v
   exchanged_by {w} x found y =
@@ -238,7 +242,7 @@ module _ {i : ℕ} {h : Head} {k : ℕ} (settled : opened h ≡ h) (fewer : leng
       ])
 
 -- each exchange closes one entry at least, while there is one
-pub exchanged : {i k : ℕ} {w v : World} → AtMost i k w → (x : Exchange i w v) → (x.box_says ≡ Err boxError.BookFull → ⊥) → AtMost i (k - 1) v
+pub exchanged : {i k : ℕ} {w v : World} → AtMost i k w → (x : Exchange i w v) → (x.box_says ≡ Err refusal.BookFull → ⊥) → AtMost i (k - 1) v
 exchanged {k} {w} y x found =
     let h = head_in w in
     let fewer : length (opened h).waiting ≤ k - 1 = omega (arith, opened_fewer h, y.few) in

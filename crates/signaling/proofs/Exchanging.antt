@@ -55,14 +55,14 @@ module _ (head_services box_services : List ℕ) (i : ℕ) (f : AnswerFields) (g
         → length (answers_sent i l) ≤ n
         → Delivered head_services 240 (sent m) frame₂ (tally i (requested₁ n)).requests
         → length (requests_sent i l) ≤ m
-        → ea_told head_services i frame₂ ≡ Ok (Some (opened h)).en
-        → ea_answer (opened h).en (opened h) ≡ Ok Closed
+        → ea_told head_services i frame₂ ≡ Ok (Some (opened h).en)
+        → ea_answer (opened h).en (opened h) ≡ Closed
         → Exchanged i arrived s b l (head_read head_services (sent m) frame₂ (Ok Closed) ∷ requested₁ n) (after_acknowledge (Ok Closed) (opened h)) booked
     exchanging n m k small says arrives from octets books₁ given₁ new₁ given₂ new₂ hears₁ closes =
         let a = answering k head_services f sizes small in
         let b = booking a.knows arrived (opened h) (says_arrived arrives says) from box_services n (frame₁, given₁, arrives) octets books₁ in
         let c = asking b.knows i _ b.knows.place g six in
-        let d = hearing c.knows head_services (sent m) frame₂ (Ok Closed) given₂ from (rw hears₁ closes) in
+        let d = hearing c.knows head_services (sent m) frame₂ (Ok Closed) given₂ from (rw (hears₁, closes)) in
         record {
           state = d.state;
           box = d.box;

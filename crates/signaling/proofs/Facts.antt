@@ -23,10 +23,6 @@ same_or_not true false = inr refl
 same_or_not false true = inr refl
 same_or_not false false = inl refl
 
-pub not_not : (a : Bool) → not (not a) ≡ a
-not_not true = refl
-not_not false = refl
-
 -- a bit is not its own opposite
 pub opposite : {X : Type 0} (a : Bool) → a ≡ not a → X
 opposite true e = clash cc

@@ -22,7 +22,7 @@ use Rattle.section.specs.Write.{padded}
 use Rattle.control.specs.ASnd.{asnd_bytes, asnd_section}
 use Rattle.frame.specs.Write.{frame_bytes}
 use Rattle.frame.specs.declared.PowerlinkFrame.TheVariants.{SoA, ASnd}
-use Rattle.codec.specs.Frame.{read_frame, deserialize_frame}
+use Rattle.codec.specs.Frame.{read_frame}
 use Rattle.error_entry.specs.declared.ErrorEntry.{ErrorEntry}
 use Rattle.status_response.specs.Fields.{read_fields, head_bytes}
 use Rattle.status_response.specs.ReadBack.{until_terminator, EachInRange}
@@ -32,7 +32,7 @@ use Rattle.status_response.specs.declared.fields.StatusFields.{StatusFields}
 use Rattle.status_response.proofs.ReadBack.{status_reads_back}
 use Rattle.frame_laws.proofs.ASndBack.{asnd_back}
 use Rattle.frame_laws.proofs.HeaderBack.{section_back}
-use Rattle.frame_laws.proofs.ReadBack.{frames_read_back}
+use Rattle.frame_laws.proofs.ReadBack.{frame_read, frames_read_back}
 use Rattle.reporter.specs.Calls.{Numbers, AnswerSizes}
 use Rattle.reporter.specs.Rules.{Head, is_raisable, status_fields, answer_payload, answer_asnd, answer_frame, answer_length}
 use Rattle.reporter.specs.declared.AnswerFields.{AnswerFields}
@@ -183,10 +183,11 @@ module _ (f : AnswerFields) (h : Head) (sizes : AnswerSizes f) (good : Good h.ba
 
 pub request_reads : (services : List ℕ) (j : ℕ) (f : RequestFields) (ea : Bool) → length f.source_mac.0 ≡ 6
     → read_frame services (request_frame j f ea) ≡ Ok (SoA (request_soa j f ea).frame)
-unfolding request_frame deserialize_frame
+unfolding request_frame
 request_reads services j f ea six =
+    frame_read
     (frames_read_back.reads services (request_soa j f ea).eth_header (SoA (request_soa j f ea).frame) []
-    (record { destination = refl; source = six; ethertype = refl }) refl).frame
+    (record { destination = refl; source = six; ethertype = refl }) refl)
 
 -- ---- what arrives says what was sent
 

@@ -14,17 +14,17 @@ use Rattle.types.specs.Codes.{need}
 use Rattle.types.specs.Header.{ethertype_epl}
 use Rattle.types.specs.Messages.{message_of}
 use Rattle.types.specs.States.{state_of}
-use Rattle.types.specs.declared.hal.PowerlinkError.TheVariants.{InvalidEthernetFrame, InvalidServiceId, InvalidNmtState}
+use Rattle.types.specs.declared.hal.PowerlinkError.TheVariants.{InvalidEthernetFrame, InvalidServiceId}
+use Rattle.types.specs.declared.hal.PowerlinkError.{PowerlinkError}
+use Rattle.types.specs.declared.message_type.MessageType.{MessageType}
+use Rattle.types.specs.declared.states.NmtState.{NmtState}
 use Rattle.services.specs.Table.{holds}
 use Rattle.frame.specs.declared.PowerlinkFrame.TheVariants.{ASnd}
+use Rattle.frame.specs.declared.PowerlinkFrame.{PowerlinkFrame}
 use Rattle.codec.specs.ASnd.{read_asnd}
-use Rattle.codec.specs.Frame.{kind_by, kind_in, kind_of, read_frame}
+use Rattle.codec.specs.Frame.{kind_in, kind_of, read_frame}
 use Rattle.status_response.specs.Fields.{status_by_state, read_fields}
 use Rattle.signaling.specs.Arrival.{IsASnd, entries_at}
-use Rattle.types.specs.declared.states.NmtState.{NmtState}
-use Rattle.types.specs.declared.hal.PowerlinkError.{PowerlinkError}
-use Rattle.frame.specs.declared.PowerlinkFrame.{PowerlinkFrame}
-use Rattle.types.specs.declared.message_type.MessageType.{MessageType}
 
 -- two frames that agree in front of their entries
 pub record Agree (f g : List ℕ) : Type 0 where
@@ -37,7 +37,7 @@ pub record Agree (f g : List ℕ) : Type 0 where
 -- by the octets that are looked at
 abbrev kind_told : ℕ → ℕ → ℕ → Result MessageType PowerlinkError
 kind_told a b m =
-    need (eqb (256 ^ 1 * a + (256 ^ 0 * b + 0)) ethertype_epl) (Err InvalidEthernetFrame) (kind_by (message_of (m % 0x80)))
+    need (eqb (256 ^ 1 * a + (256 ^ 0 * b + 0)) ethertype_epl) (Err InvalidEthernetFrame) (message_of (m % 0x80))
 
 abbrev asnd_told : List ℕ → ℕ → ℕ → ℕ → Result PowerlinkFrame PowerlinkError
 asnd_told services d s v =
@@ -76,8 +76,9 @@ module _ {f g : List ℕ} (y : Agree f g) where
 
 -- ---- the fields of the StatusResponse
 
-by_state : (s t : List ℕ) (a : Result NmtState PowerlinkError) → get_or s 0 0 ≡ get_or t 0 0 → get_or s 1 0 ≡ get_or t 1 0 → status_by_state s a ≡ status_by_state t a
-by_state s t (Err (InvalidNmtState b)) e k = refl
+by_state : (s t : List ℕ) (a : Result NmtState PowerlinkError) → get_or s 0 0 ≡ get_or t 0 0 → get_or s 1 0 ≡ get_or t 1 0
+    → status_by_state s a ≡ status_by_state t a
+by_state s t (Err x) e k = refl
 by_state s t (Ok v) e k = rw (e, k)
 
 module _ {f g : List ℕ} (y : Agree f g) where

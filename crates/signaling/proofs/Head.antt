@@ -10,10 +10,11 @@ use lib.ListN.{length, take, drop, get_elem?, take-append-drop}
 use lib.Dec.{ltb}
 use Rattle.std.specs.Prelude.{Result, Ok, Err, Option, Some, None}
 use Rattle.types.specs.Codes.{pick}
+use Rattle.types.specs.declared.hal.PowerlinkError.{PowerlinkError}
 use Rattle.error_entry.specs.declared.ErrorEntry.{ErrorEntry}
 use Rattle.reporter.specs.Calls.{Numbers}
 use Rattle.reporter.specs.Rules.{with_new_batch, queue_length, batch_length, Head, is_raisable, raise_by, raise_answer, after_raise, is_empty, opens, opened, ea_answer, acknowledge_answer, after_acknowledge, ea_told}
-use Rattle.reporter.specs.declared.RaiseError.TheVariants.{EntryInvalid, StatusEntry, QueueFull}
+use Rattle.reporter.specs.declared.RaiseError.{RaiseError}
 use Rattle.reporter.specs.declared.ReadOutcome.TheVariants.{Closed, Kept}
 use Rattle.collector.specs.Rules.{en_in}
 use Rattle.signaling.specs.Calls.{sent, raised, answered, Tally, on_entries, on_answers, on_requests, on_ruled, accepts, sends, gives, becomes, answers, adds}
@@ -21,8 +22,6 @@ use Rattle.signaling.proofs.Facts.{clash, beq_same, beq_other, beq_true, both, a
 use Rattle.signaling.proofs.Frames.{Good, Says}
 use Rattle.signaling.proofs.Invariant.{en_said, batch_said, Inv}
 use Rattle.signaling.proofs.Transit.{answers_open, answers_send, answers_closed, requests_open, requests_later, requests_fresh, requests_closed}
-use Rattle.reporter.specs.declared.RaiseError.{RaiseError}
-use Rattle.types.specs.declared.hal.PowerlinkError.{PowerlinkError}
 
 -- ---- entries
 
@@ -40,7 +39,7 @@ good_drop zero a g = g
 good_drop (suc n) [] g = tt
 good_drop (suc n) (e ∷ a) g = good_drop n a g.1
 
-raised_by : (good status room : Bool) → (Ok tt) ≡ raise_by good status room → (good ≡ true) × (status ≡ false)
+raised_by : (good status room : Bool) → Ok tt ≡ raise_by good status room → (good ≡ true) × (status ≡ false)
 raised_by true true room e = clash cc
 raised_by true false room e = (refl, refl)
 raised_by false status room e = clash cc
@@ -49,7 +48,7 @@ raised_by false status room e = clash cc
 abbrev MayBeRaised : ErrorEntry → Type 0
 MayBeRaised e = (is_raisable e ≡ true) × (e.entry_type.is_status_entry ≡ false)
 
-raisable : (e : ErrorEntry) (h : Head) → (Ok tt) ≡ raise_answer e h → MayBeRaised e
+raisable : (e : ErrorEntry) (h : Head) → Ok tt ≡ raise_answer e h → MayBeRaised e
 unfolding raise_answer
 raisable e h a = raised_by (is_raisable e) e.entry_type.is_status_entry (ltb (length h.waiting) queue_length) a
 
@@ -63,7 +62,8 @@ module _ {i : ℕ} {ea : Bool} {book : List ErrorEntry} {c : Tally} (t : Inv i e
 
   -- ---- Raise
 
-  raise_joins : (e : ErrorEntry) → MayBeRaised e → Numbers e → Inv i ea book (on_entries (accepts (Ok tt) e) (on_ruled (becomes (after_raise (Ok tt) e)) c))
+  raise_joins : (e : ErrorEntry) → MayBeRaised e → Numbers e
+      → Inv i ea book (on_entries (accepts (Ok tt) e) (on_ruled (becomes (after_raise (Ok tt) e)) c))
   raise_joins e may n =
       record {
         id = t.id;
@@ -81,9 +81,7 @@ module _ {i : ℕ} {ea : Bool} {book : List ErrorEntry} {c : Tally} (t : Inv i e
 
   pub raise_keeps : (e : ErrorEntry) (r : Result Unit RaiseError) → r ≡ raise_answer e h → Numbers e → Inv i ea book (adds i (raised e r) c)
   raise_keeps e (Ok _) a n = rw (← a) (raise_joins e (raisable e h a) n)
-  raise_keeps e (Err EntryInvalid) a n = rw (← a) t
-  raise_keeps e (Err StatusEntry) a n = rw (← a) t
-  raise_keeps e (Err QueueFull) a n = rw (← a) t
+  raise_keeps e (Err x) a n = rw (← a) t
 
   -- ---- Answer
 
@@ -156,7 +154,8 @@ module _ {i : ℕ} {ea : Bool} {book : List ErrorEntry} {c : Tally} (t : Inv i e
           room = t.room;
         }
 
-    head_closes : ea_told services i bs ≡ Ok (Some h.en) → Inv i ea book (on_requests (gives (sent q)) (on_ruled (becomes (λ g. after_acknowledge (Ok Closed) g)) c))
+    head_closes : ea_told services i bs ≡ Ok (Some h.en)
+        → Inv i ea book (on_requests (gives (sent q)) (on_ruled (becomes (λ g. after_acknowledge (Ok Closed) g)) c))
     head_closes me =
         let (same, past) = requests_fresh t.requests q bs le at services me in
         let was : c.ruled.is_booked ≡ true = t.since ∙ ap (λ (b : Bool). beq b h.en) same ∙ beq_same h.en in
@@ -175,12 +174,13 @@ module _ {i : ℕ} {ea : Bool} {book : List ErrorEntry} {c : Tally} (t : Inv i e
         }
 
     head_by : (x b : Bool) → ea_told services i bs ≡ Ok (Some x) → not (is_empty h.batch) && beq h.en x ≡ b
-        → Inv i ea book (on_requests (gives (sent q)) (on_ruled (becomes (λ g. after_acknowledge (pick b (Ok Closed) (Ok Kept)) g)) c))
+        → Inv i ea book (on_requests (gives (sent q)) (on_ruled (becomes (λ g. after_acknowledge (Ok (pick b Closed Kept)) g)) c))
     head_by x false me e = head_passes
     head_by x true me e =
-        head_closes (me ∙ ap heard.Ea (sym (beq_true h.en x (both (not (is_empty h.batch)) (beq h.en x) e).1)))
+        head_closes (me ∙ ap (λ y. Ok (Some y)) (sym (beq_true h.en x (both (not (is_empty h.batch)) (beq h.en x) e).1)))
 
-    pub head_reads_lem : (s : Result (Option Bool) PowerlinkError) → ea_told services i bs ≡ s → Inv i ea book (on_requests (gives (sent q)) (on_ruled (becomes (λ g. after_acknowledge (acknowledge_answer s g) g)) c))
+    pub head_reads_lem : (s : Result (Option Bool) PowerlinkError) → ea_told services i bs ≡ s
+        → Inv i ea book (on_requests (gives (sent q)) (on_ruled (becomes (λ g. after_acknowledge (acknowledge_answer s g) g)) c))
     unfolding ea_answer
     head_reads_lem (Err e) me = head_passes
     head_reads_lem (Ok None) me = head_passes

@@ -4,8 +4,7 @@ use Prim.Native.Nat.{ℕ}
 use mathlib.Core.Bool.{Bool, false}
 use mathlib.Core.Path.{◌≡◌, refl, ap, ◌∙◌}
 use mathlib.Core.List.{List}
-use mathlib.Core.Option.{Option, none, some}
-use Rattle.std.specs.Prelude.{Ok, Some, None}
+use Rattle.std.specs.Prelude.{Ok, Some, None, Option}
 use Rattle.control.specs.declared.soa.SoAFlags.{SoAFlags}
 use Rattle.reporter.specs.Rules.{ea_told}
 use Rattle.reporter.proofs.AnyTable.{any_table}
@@ -20,15 +19,16 @@ told other (Some f) = f.ea
 told other None = other
 
 flags_ea : (f : SoAFlags) (o : Option Account) → Some f ≡ flags_answer o → f.ea ≡ ea_of o
-flags_ea f none e = clash cc
-flags_ea f (some p) e = ap (told p.ea) e
+flags_ea f None e = clash cc
+flags_ea f (Some p) e = ap (told p.ea) e
 
 no_ea : (o : Option Account) → None ≡ flags_answer o → false ≡ ea_of o
-no_ea none e = refl
-no_ea (some p) e = clash cc
+no_ea None e = refl
+no_ea (Some p) e = clash cc
 
 -- EA is the same under every table
-pub same_ea : (services others : List ℕ) (i : ℕ) (bs : List ℕ) {x y : Bool} → ea_told services i bs ≡ Ok (Some x) → ea_told others i bs ≡ Ok (Some y) → y ≡ x
+pub same_ea : (services others : List ℕ) (i : ℕ) (bs : List ℕ) {x y : Bool}
+    → ea_told services i bs ≡ Ok (Some x) → ea_told others i bs ≡ Ok (Some y) → y ≡ x
 same_ea services others i bs {x} me hears = let z = any_table.ea services others i bs x me in cc
 
 pub flags_tell : FlagsTell

@@ -4,9 +4,9 @@ use Prim.Native.Nat.{ℕ, ◌≤◌, ◌<◌}
 use mathlib.Core.Bool.{Bool, not, beq}
 use mathlib.Core.Path.{◌≡◌}
 use mathlib.Core.List.{List, [], ◌++◌}
-use mathlib.Core.Option.{Option, none, some}
+use mathlib.Core.Option.{some}
 use lib.ListN.{length, get_elem?}
-use Rattle.std.specs.Prelude.{Ok, Some}
+use Rattle.std.specs.Prelude.{Ok, Some, Option, None}
 use Rattle.types.specs.Codes.{pick}
 use Rattle.error_entry.specs.declared.ErrorEntry.{ErrorEntry}
 use Rattle.reporter.specs.Layout.{head_of}
@@ -52,8 +52,8 @@ pub record Requests (i : ℕ) (en ea : Bool) (batch : List ErrorEntry) (sent : L
 
 -- an ID without a place has nothing booked, as it is when registered
 abbrev pub book_of : Option Account → List ErrorEntry
-book_of none = []
-book_of (some p) = p.book
+book_of None = []
+book_of (Some p) = p.book
 
 pub record Inv (i : ℕ) (ea : Bool) (book : List ErrorEntry) (c : Tally) : Type 0 where
   pub id : c.ruled.head.id ≡ i

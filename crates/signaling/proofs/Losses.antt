@@ -26,12 +26,12 @@ use Rattle.signaling.proofs.Making.{sent_whole, hearing, as_it_is, knowing, book
 
 -- the head reads a frame that closes its batch, wherever the frame comes from
 closed_by : {v : World} {l : Log} {h : Head} {p : Account} (r : Reached v l h p) (bs : List ℕ)
-    → ((services : List ℕ) → acknowledge_answer (ea_told services h.id bs) h ≡ (Ok Closed))
+    → ((services : List ℕ) → acknowledge_answer (ea_told services h.id bs) h ≡ Ok Closed)
     → ((services : List ℕ) → reporter.Reads services bs (Ok Closed) r.state (acknowledge_bytes (Ok Closed) r.state))
     × (head_of (acknowledge_bytes (Ok Closed) r.state) ≡ after_acknowledge (Ok Closed) h)
 closed_by {h} r bs ok = (
   λ services.
-      let e : acknowledge_answer (ea_told services (head_of r.state).id bs) (head_of r.state) ≡ (Ok Closed) = rw r.knows.means (ok services) in
+      let e : acknowledge_answer (ea_told services (head_of r.state).id bs) (head_of r.state) ≡ Ok Closed = rw r.knows.means (ok services) in
       (rw e at (hears services r.state bs r.knows.head_size)).0,
   reads_means r.state r.knows.head_size (Ok Closed) ∙ ap (after_acknowledge (Ok Closed)) r.knows.means,
 )
@@ -97,7 +97,8 @@ not_reaching services foreign ne = made_source services ne
 -- its answer is known, and the next request closes the batch
 abbrev second_lost : Log
 second_lost =
-    head_read ds301 (sent 3) (request_frame 7 asked false) (Ok Closed) ∷ request_of 7 false ∷ box_read house (sent 2) (answer_frame fields second) (Ok box.Known)
+    head_read ds301 (sent 3) (request_frame 7 asked false) (Ok Closed) ∷ request_of 7 false
+    ∷ box_read house (sent 2) (answer_frame fields second) (Ok box.Known)
     ∷ answer_of second
     ∷ first_closed
 

@@ -4,7 +4,6 @@ use Prim.Native.Nat.{ℕ, ◌≤◌}
 use mathlib.Core.Bool.{false}
 use mathlib.Core.Path.{◌≡◌, refl, sym, ap, ◌∙◌}
 use mathlib.Core.List.{List, [], ◌∷◌, ◌++◌}
-use mathlib.Core.Option.{some}
 use native.Mathlib.Omega.{arith}
 use lib.ListN.{length, take, drop, replicate}
 use lib.Seq.{take_at}
@@ -12,6 +11,7 @@ use lib.Dec.{eqb}
 use borrow.Author.Tests.{le-leb, eq-eqb}
 use Rattle.std.specs.Prelude.{Result, Ok, Some}
 use Rattle.octets.proofs.NumberBack.{Octets}
+use Rattle.types.specs.declared.hal.PowerlinkError.{PowerlinkError}
 use Rattle.section.specs.Write.{write_answer, overwritten}
 use Rattle.error_entry.specs.declared.ErrorEntry.{ErrorEntry}
 use Rattle.reporter.specs.Calls as reporter
@@ -19,20 +19,20 @@ use Rattle.reporter.specs.Calls.{Numbers, AnswerSizes}
 use Rattle.reporter.specs.Layout.{reporter_length, head_of, new_bytes, raise_bytes, acknowledge_bytes}
 use Rattle.reporter.specs.Rules.{Head, fresh_head, new_answer, raise_answer, after_raise, opened, answer_frame, answer_length, acknowledge_answer, after_acknowledge, ea_told}
 use Rattle.reporter.specs.declared.AnswerFields.{AnswerFields}
+use Rattle.reporter.specs.declared.RaiseError.{RaiseError}
+use Rattle.reporter.specs.declared.ReadOutcome.{ReadOutcome}
 use Rattle.collector.specs.Calls as collector
 use Rattle.collector.specs.Layout as layout
 use Rattle.collector.specs.Layout.{collector_length, box_of, account_of, fresh_bytes, register_bytes, take_bytes}
 use Rattle.collector.specs.Rules.{with_book, with_ea, Account, Same, fresh_account, register_answer, after_register, book_answer, read_answer, read_cause, when_booked, after_booking, request_frame, response_in, status_in}
+use Rattle.collector.specs.declared.ReadError.{ReadError}
 use Rattle.collector.specs.declared.ReadOutcome.TheVariants as box
+use Rattle.collector.specs.declared.ReadOutcome.{ReadOutcome as BoxOutcome}
 use Rattle.collector.specs.declared.RequestFields.{RequestFields}
 use Rattle.signaling.specs.Calls.{Origin, sent, Event, raised, answered, head_read, registered, box_read, requested, taken, hosted, Log, tally, ruled, World, Delivered, Reaches, node, Step, raise, answer, head_reads, register, box_reads, request, takes, hosts}
 use Rattle.signaling.proofs.Arriving.{arrives_self}
 use Rattle.signaling.proofs.Callable.{makes, raises, answers, hears, freshes, registers, books, asks, hands}
 use Rattle.signaling.proofs.Frames.{Says}
-use Rattle.reporter.specs.declared.RaiseError.{RaiseError}
-use Rattle.reporter.specs.declared.ReadOutcome.{ReadOutcome}
-use Rattle.types.specs.declared.hal.PowerlinkError.{PowerlinkError}
-use Rattle.collector.specs.declared.ReadError.{ReadError}
 
 abbrev pub world : List ℕ → List ℕ → Log → World
 world s b l = record { head = s; box = b; log = l }
@@ -43,7 +43,7 @@ pub record Knows (i : ℕ) (s b : List ℕ) (l : Log) (h : Head) (p : Account) :
   pub box_size : length b ≡ collector_length
   pub means : head_of s ≡ h
   pub rules : ruled i l ≡ h
-  pub place : account_of b i ≡ some p
+  pub place : account_of b i ≡ Some p
 
 -- a call that can be made, and what it leaves
 pub record Next (i : ℕ) (s b : List ℕ) (l : Log) (x : Event) (h : Head) (p : Account) : Type 0 where
@@ -126,7 +126,7 @@ module _ {i : ℕ} {s b : List ℕ} {l : Log} {h : Head} {p : Account} (k : Know
 
   -- a call of the box, or a frame of its host: the head stays
   abbrev by_box : {x : Event} {after : List ℕ} {q : Account} → Step i (world s b l) x (world s after (x ∷ l)) → length after ≡ collector_length
-      → account_of after i ≡ some q → ruled i (x ∷ l) ≡ ruled i l → Next i s b l x h q
+      → account_of after i ≡ Some q → ruled i (x ∷ l) ≡ ruled i l → Next i s b l x h q
   by_box {after} step size place same =
       record {
         state = s;
@@ -151,7 +151,8 @@ module _ {i : ℕ} {s b : List ℕ} {l : Log} {h : Head} {p : Account} (k : Know
       let c = rw (is_written (answer_frame f (opened h)) fits, is_held (answer_frame f (opened h)) fits) at a in
       by_head (answer services f _ _ target (held (answer_frame f (opened h))) c.0) c.1 (c.0.head ∙ rw k.means) (rw k.rules)
 
-  pub hearing : (services : List ℕ) (o : Origin) (bs : List ℕ) (r : Result ReadOutcome PowerlinkError) → Delivered services 240 o bs (tally i l).requests → h.id ≡ i
+  pub hearing : (services : List ℕ) (o : Origin) (bs : List ℕ) (r : Result ReadOutcome PowerlinkError)
+      → Delivered services 240 o bs (tally i l).requests → h.id ≡ i
       → acknowledge_answer (ea_told services i bs) h ≡ r → Next i s b l (head_read services o bs r) (after_acknowledge r h) p
   hearing services o bs r given same ok =
       let q : acknowledge_answer (ea_told services (head_of s).id bs) (head_of s) ≡ r =
@@ -162,7 +163,7 @@ module _ {i : ℕ} {s b : List ℕ} {l : Log} {h : Head} {p : Account} (k : Know
   -- ---- the box's calls
 
   -- a frame that is not booked
-  pub passing : (services : List ℕ) (o : Origin) (bs : List ℕ) (r : Result ReadOutcome ReadError) → Reaches services i o bs (tally i l).answers
+  pub passing : (services : List ℕ) (o : Origin) (bs : List ℕ) (r : Result BoxOutcome ReadError) → Reaches services i o bs (tally i l).answers
       → read_answer services bs (box_of b) ≡ r
       → ((A : Type 0) (x y : A) → when_booked r x y ≡ y)
       → Next i s b l (box_read services o bs r) h p
@@ -219,14 +220,14 @@ module _ {i : ℕ} {s b : List ℕ} {l : Log} {h : Head} {p : Account} (k : Know
 
   -- another head is registered, and has a place of its own
   pub registering : (j : ℕ) → eqb i j ≡ false → register_answer j (box_of b) ≡ Ok tt
-      → (n : Next i s b l (registered j (Ok tt)) h p) × (account_of n.box j ≡ some fresh_account)
+      → (n : Next i s b l (registered j (Ok tt)) h p) × (account_of n.box j ≡ Some fresh_account)
   registering j away ok =
       let c = rw ok at (registers b j k.box_size) in (
         by_box (register j (Ok tt) (register_bytes (Ok tt) j b) c.0) c.1 (c.0.box.accounts i ∙ rw away k.place) refl,
         c.0.box.accounts j ∙ rw (eq-eqb j j refl),
       )
 
-  pub asking : (j : ℕ) (q : Account) → account_of b j ≡ some q → (f : RequestFields) → length f.source_mac.0 ≡ 6
+  pub asking : (j : ℕ) (q : Account) → account_of b j ≡ Some q → (f : RequestFields) → length f.source_mac.0 ≡ 6
       → Next i s b l (requested j (Ok (length (request_frame j f q.ea))) (held (request_frame j f q.ea))) h p
   asking j q there f six =
       let a = rw there at (asks b j f six target) in

@@ -8,15 +8,15 @@ use mathlib.Core.List.{List, [], ◌∷◌, ◌++◌}
 use native.Mathlib.Omega.{arith}
 use lib.ListN.{length, length-append, length-drop, take-append-drop}
 use Rattle.std.specs.Prelude.{Result, Ok, Err, Some}
+use Rattle.types.specs.declared.hal.PowerlinkError.{PowerlinkError}
 use Rattle.error_entry.specs.declared.ErrorEntry.{ErrorEntry}
 use Rattle.reporter.specs.Rules.{opens, with_batch, batch_length, Head, opened, after_answer, ea_answer, after_acknowledge, ea_told}
+use Rattle.reporter.specs.declared.ReadOutcome.{ReadOutcome}
 use Rattle.signaling.specs.Calls.{Origin, Event, head_read, World, Step, raise, answer, head_reads, register, box_reads, request, takes, hosts}
 use Rattle.signaling.proofs.Facts.{beq_same}
 use Rattle.signaling.proofs.Invariant.{head_in, Held}
 use Rattle.signaling.proofs.Quiet.{NoRaise, Ready, goes_on_lem, shut, not_raised, read_head}
 use Rattle.signaling.proofs.Steps.{head_now}
-use Rattle.types.specs.declared.hal.PowerlinkError.{PowerlinkError}
-use Rattle.reporter.specs.declared.ReadOutcome.{ReadOutcome}
 
 -- ---- the head's opening, by cases of the two lists
 
@@ -57,21 +57,22 @@ opened_fewer h = open_fewer h h.batch h.waiting refl refl
 -- ---- the head's reading
 
 -- a request that carries this bit
-pub head_hears : {i : ℕ} {w v : World} {services : List ℕ} {o : Origin} {bs : List ℕ} {r : (Result ReadOutcome PowerlinkError)} {x : Bool} → ea_told services i bs ≡ Ok (Some x)
+pub head_hears : {i : ℕ} {w v : World} {services : List ℕ} {o : Origin} {bs : List ℕ} {r : Result ReadOutcome PowerlinkError} {x : Bool}
+    → ea_told services i bs ≡ Ok (Some x)
     → Held i w
     → Step i w (head_read services o bs r) v
-    → head_in v ≡ after_acknowledge (ea_answer x (head_in w)) (head_in w)
+    → head_in v ≡ after_acknowledge (Ok (ea_answer x (head_in w))) (head_in w)
 head_hears me t (head_reads services o bs r after d c) = head_now t services bs r after c ∙ rw me
 
-closed_by : (h : Head) (b : List ErrorEntry) → h.batch ≡ b → after_acknowledge (ea_answer h.en h) h ≡ shut h
+closed_by : (h : Head) (b : List ErrorEntry) → h.batch ≡ b → after_acknowledge (Ok (ea_answer h.en h)) h ≡ shut h
 unfolding ea_answer
 closed_by h [] eb =
-    let same : after_acknowledge (ea_answer h.en h) h ≡ h = rw eb in
+    let same : after_acknowledge (Ok (ea_answer h.en h)) h ≡ h = rw eb in
     same ∙ ap (λ (b : List ErrorEntry). with_batch b h) eb
 closed_by h (x ∷ b) eb = rw (eb, beq_same h.en)
 
 -- a request that carries EN leaves no batch open
-pub closed : (h : Head) → after_acknowledge (ea_answer h.en h) h ≡ shut h
+pub closed : (h : Head) → after_acknowledge (Ok (ea_answer h.en h)) h ≡ shut h
 closed h = closed_by h h.batch refl
 
 -- ---- so many are pending at most

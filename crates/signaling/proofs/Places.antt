@@ -4,25 +4,24 @@ use Prim.Native.Nat.{ℕ, ◌+◌, ◌≤◌}
 use mathlib.Core.Bool.{Bool, false, beq}
 use mathlib.Core.Path.{◌≡◌, sym, ap, ◌∙◌}
 use mathlib.Core.List.{List}
-use mathlib.Core.Option.{Option, none, some}
 use native.Mathlib.Omega.{arith}
 use lib.ListN.{length, length-append}
 use borrow.Author.Tests.{le-leb}
-use Rattle.std.specs.Prelude.{Result, Ok, Err}
+use Rattle.std.specs.Prelude.{Result, Ok, Err, Option, Some, None}
+use Rattle.types.specs.declared.hal.PowerlinkError.{PowerlinkError}
 use Rattle.error_entry.specs.declared.ErrorEntry.{ErrorEntry}
+use Rattle.status_response.specs.declared.fields.StatusFields.{StatusFields}
 use Rattle.collector.specs.Rules.{Said, book_length, Account, en_in, book_answer, status_answer, account_answer, read_answer, status_in}
-use Rattle.collector.specs.declared.ReadError.TheVariants as boxError
+use Rattle.collector.specs.declared.ReadError.TheVariants as refusal
+use Rattle.collector.specs.declared.ReadError.{ReadError}
 use Rattle.collector.specs.declared.ReadOutcome.TheVariants as box
+use Rattle.collector.specs.declared.ReadOutcome.{ReadOutcome as BoxOutcome}
 use Rattle.signaling.specs.Calls.{sent, box_read, tally, ruled, is_booked, Delivered, World, Step, box_reads, ea_of}
 use Rattle.signaling.proofs.Facts.{clash, either, beq_not, beq_false}
 use Rattle.signaling.proofs.Invariant.{en_said, batch_said, book_of, head_in, place_for}
 use Rattle.signaling.proofs.Quiet.{Ready, Roomy}
 use Rattle.signaling.proofs.Steps.{read_as_sent}
 use Rattle.signaling.proofs.Transit.{answers_fresh}
-use Rattle.status_response.specs.declared.fields.StatusFields.{StatusFields}
-use Rattle.types.specs.declared.hal.PowerlinkError.{PowerlinkError}
-use Rattle.collector.specs.declared.ReadOutcome.{ReadOutcome}
-use Rattle.collector.specs.declared.ReadError.{ReadError}
 
 -- ---- the box reads
 
@@ -36,23 +35,23 @@ fits_batch y room new =
 -- an answer whose batch fits is not refused with 12
 fits_status : (a : Result StatusFields PowerlinkError) (es : List ErrorEntry) (p : Account)
     → (beq (en_in a) p.ea ≡ false → length p.book + length es ≤ book_length)
-    → status_answer a es p ≡ Err boxError.BookFull
+    → status_answer a es p ≡ Err refusal.BookFull
     → ⊥
 unfolding book_answer
 fits_status (Err e) es p room full = clash cc
 fits_status (Ok f) es p room full =
     either (beq f.en_flag p.ea)
-    (λ same. let x : status_answer (Ok f) es p ≡ (Ok box.Known) = rw same in clash cc)
+    (λ same. let x : status_answer (Ok f) es p ≡ Ok box.Known = rw same in clash cc)
     (λ new.
-    let x : status_answer (Ok f) es p ≡ (Ok box.Booked) = rw (new, le-leb (length p.book + length es) book_length (room new)) in
+    let x : status_answer (Ok f) es p ≡ Ok box.Booked = rw (new, le-leb (length p.book + length es) book_length (room new)) in
     clash cc)
 
 fits : (said : Said) (o : Option Account)
     → (beq (en_in said.fields) (ea_of o) ≡ false → length (book_of o) + length said.entries ≤ book_length)
-    → account_answer said o ≡ Err boxError.BookFull
+    → account_answer said o ≡ Err refusal.BookFull
     → ⊥
-fits said none room full = clash cc
-fits said (some p) room full = fits_status said.fields said.entries p room full
+fits said None room full = clash cc
+fits said (Some p) room full = fits_status said.fields said.entries p room full
 
 -- what the box is given with a new bit carries the open batch, which is not booked, so there is room for it
 room_for : {i p : ℕ} {bs : List ℕ} {w : World} (services : List ℕ) → Ready i w → Roomy i w → Delivered services i (sent p) bs (tally i w.log).answers
@@ -64,8 +63,9 @@ room_for {i} {p} {bs} {w} services y room d new =
     let en = (ruled i w.log).en in
     rw (same-batch, ← y.held.head) (fits_batch y room (inv.since ∙ ap (λ (b : Bool). beq b en) differ ∙ beq_not en))
 
-pub room_found : {i p : ℕ} {services bs : List ℕ} {r : (Result ReadOutcome ReadError)} {w v : World} → Ready i w → Roomy i w → Step i w (box_read services (sent p) bs r) v
-    → r ≡ Err boxError.BookFull
+pub room_found : {i p : ℕ} {services bs : List ℕ} {r : Result BoxOutcome ReadError} {w v : World}
+    → Ready i w → Roomy i w → Step i w (box_read services (sent p) bs r) v
+    → r ≡ Err refusal.BookFull
     → ⊥
 unfolding read_answer en_said batch_said
 room_found {i} {p} {services} {bs} {r} {w} y room (box_reads table from octets told after d c) full =

@@ -1,11 +1,11 @@
 -- Each exchange closes what the answer carries: w entries are closed after at most w exchanges.
 -- Assumes nothing.
 use Prim.Native.Nat.{ℕ, ◌-◌, ◌≤◌}
-use mathlib.Core.Path.{◌≡◌, refl, ap}
-use mathlib.Core.List.{List, [], ◌∷◌, ◌++◌}
+use mathlib.Core.Path.{◌≡◌, ap}
+use mathlib.Core.List.{[], ◌++◌}
 use native.Mathlib.Omega.{arith}
 use lib.ListN.{length, length-append}
-use Rattle.error_entry.specs.declared.ErrorEntry.{ErrorEntry}
+use Rattle.std.proofs.lemmas.List.{nil_from_length}
 use Rattle.signaling.specs.Calls.{Event, accepted, handed_out, ruled, unbooked, World, Step, Run}
 use Rattle.signaling.specs.Exchanges.{pending, Exchanges, done, more, Room, Progress, IsRegistered, Found, StepwiseProgress}
 use Rattle.signaling.proofs.Exchange.{exchanged}
@@ -57,10 +57,6 @@ roomy {i} {w} t free =
     let k = simp length-append at free.free in
     omega (arith, n, k)
 
-none_left : (l : List ErrorEntry) → length l ≤ 0 → l ≡ []
-none_left [] e = refl
-none_left (x ∷ l) e = absurd (omega arith)
-
 module _ (i n : ℕ) (w v : World) (run : Run i w) where
   module _ (is : IsRegistered i w) (xs : Exchanges i n w v) (found : Found xs) where
     closes : length (pending i v) ≤ length (pending i w) - n
@@ -70,7 +66,7 @@ module _ (i n : ℕ) (w v : World) (run : Run i w) where
         rw (pending_in y.ready.held) y.few
 
     closed : length (pending i w) ≤ n → pending i v ≡ []
-    closed few = none_left (pending i v) (omega (arith, closes))
+    closed few = nil_from_length (pending i v) (omega (arith, closes))
 
   module _ (free : Room i w) where
     is_registered : IsRegistered i w

@@ -5,24 +5,27 @@ use mathlib.Core.Bool.{Bool, true, false}
 use mathlib.Core.Path.{◌≡◌, refl, ◌∙◌}
 use mathlib.Core.Logic.{◌⊎◌, inl, inr}
 use mathlib.Core.List.{List, [], ◌∷◌}
-use mathlib.Core.Option.{Option, none, some}
+use mathlib.Core.Option.{some}
 use native.Mathlib.Omega.{arith}
 use lib.ListN.{length, take, get_elem?, length-append}
 use lib.Dec.{eqb}
 use borrow.Author.Tests.{eqb-true}
-use Rattle.std.specs.Prelude.{Result, Ok, Err, Some, None}
+use Rattle.std.specs.Prelude.{Result, Ok, Err, Some, None, Option}
 use Rattle.types.specs.Codes.{pick}
+use Rattle.types.specs.declared.NodeId.{NodeId}
+use Rattle.types.specs.declared.hal.PowerlinkError.{PowerlinkError}
 use Rattle.error_entry.specs.declared.ErrorEntry.{ErrorEntry}
 use Rattle.reporter.specs.Rules.{with_batch, opened, Head, after_raise, after_acknowledge}
-use Rattle.reporter.specs.declared.RaiseError.TheVariants.{EntryInvalid, StatusEntry, QueueFull}
+use Rattle.reporter.specs.declared.RaiseError.{RaiseError}
 use Rattle.reporter.specs.declared.ReadOutcome.TheVariants.{Closed, Kept, Ignored}
+use Rattle.reporter.specs.declared.ReadOutcome.{ReadOutcome}
 use Rattle.collector.specs.Layout.{box_of}
 use Rattle.collector.specs.Rules.{Said, book_length, Account, Box, with_account, after_register, after_booking, after_response, without_first, after_take, response_in, status_in}
-use Rattle.collector.specs.declared.ReadError.TheVariants as boxError
+use Rattle.collector.specs.declared.ReadError.{ReadError}
 use Rattle.collector.specs.declared.ReadOutcome.TheVariants as box
-use Rattle.collector.specs.declared.RegisterError.TheVariants.{IdOutOfRange, IdRegistered, Full}
-use Rattle.collector.specs.declared.RequestError.TheVariants as requesting
-use Rattle.collector.specs.declared.TakeError.TheVariants as taking
+use Rattle.collector.specs.declared.ReadOutcome.{ReadOutcome as BoxOutcome}
+use Rattle.collector.specs.declared.RegisterError.{RegisterError}
+use Rattle.collector.specs.declared.TakeError.{TakeError}
 use Rattle.signaling.specs.Calls.{tally, adds, Tally, nothing_yet, sent, foreign, Event, raised, answered, head_read, registered, box_read, requested, taken, hosted, if_taken, accepted, handed_out, answers_sent, requests_sent, ea_of, Tells, World, Step, raise, answer, head_reads, register, box_reads, request, takes, hosts}
 use Rattle.signaling.specs.Exchanges.{Quiet, NoRepeat, RequestAgain, Quietly, still, next, again, Exchange}
 use Rattle.signaling.proofs.Told.{told_now}
@@ -31,19 +34,12 @@ use Rattle.signaling.proofs.Facts.{clash, either, at_snoc}
 use Rattle.signaling.proofs.Frames.{Says}
 use Rattle.signaling.proofs.Invariant.{head_in, place_for, Held}
 use Rattle.signaling.proofs.Steps.{answer_says, request_says, keeps}
-use Rattle.reporter.specs.declared.RaiseError.{RaiseError}
-use Rattle.collector.specs.declared.RegisterError.{RegisterError}
-use Rattle.collector.specs.declared.TakeError.{TakeError}
-use Rattle.reporter.specs.declared.ReadOutcome.{ReadOutcome}
-use Rattle.types.specs.declared.hal.PowerlinkError.{PowerlinkError}
-use Rattle.collector.specs.declared.ReadError.{ReadError}
-use Rattle.types.specs.declared.NodeId.{NodeId}
 
 -- ---- every call: a place stays
 
 abbrev pub IsPlace : Option Account → Type 0
-IsPlace none = ⊥
-IsPlace (some p) = Unit {0}
+IsPlace None = ⊥
+IsPlace (Some p) = Unit {0}
 
 module _ (i : ℕ) (b : Box) (is : IsPlace (b.accounts i)) where
   with_stays : (j : ℕ) (p : Account) → IsPlace ((with_account j p b).accounts i)
@@ -51,27 +47,21 @@ module _ (i : ℕ) (b : Box) (is : IsPlace (b.accounts i)) where
 
   register_stays : (j : ℕ) (r : Result Unit RegisterError) → IsPlace ((after_register r j b).accounts i)
   register_stays j (Ok _) = with_stays j _
-  register_stays j (Err IdOutOfRange) = is
-  register_stays j (Err IdRegistered) = is
-  register_stays j (Err Full) = is
+  register_stays j (Err x) = is
 
   booking_stays : (s : Result (Option NodeId) PowerlinkError) (said : Said) → IsPlace ((after_booking s said b).accounts i)
   booking_stays (Err e) said = is
   booking_stays (Ok None) said = is
   booking_stays (Ok (Some source)) said = with_stays source.0 _
 
-  read_stays : (services bs : List ℕ) (r : Result ReadOutcome ReadError) → IsPlace ((after_response services r bs b).accounts i)
+  read_stays : (services bs : List ℕ) (r : Result BoxOutcome ReadError) → IsPlace ((after_response services r bs b).accounts i)
   read_stays services bs (Ok box.Booked) = booking_stays (response_in services bs) (status_in bs)
   read_stays services bs (Ok box.Known) = is
-  read_stays services bs (Err (boxError.Frame e)) = is
-  read_stays services bs (Err boxError.NotStatusResponse) = is
-  read_stays services bs (Err boxError.NotRegistered) = is
-  read_stays services bs (Err boxError.BookFull) = is
+  read_stays services bs (Err e) = is
 
   take_stays : (j : ℕ) (r : Result ErrorEntry TakeError) → IsPlace ((after_take r j b).accounts i)
   take_stays j (Ok e) = with_stays j _
-  take_stays j (Err taking.NotRegistered) = is
-  take_stays j (Err taking.NothingBooked) = is
+  take_stays j (Err x) = is
 
 place_stays : {i : ℕ} {w v : World} {x : Event} → Step i w x v → IsPlace (place_for i w) → IsPlace (place_for i v)
 place_stays (raise e r after c) y = y
@@ -105,8 +95,7 @@ Roomy i w = length (accepted i w.log) ≤ length (handed_out i w.log) + book_len
 hands_on : (mine : Bool) (r : Result ErrorEntry TakeError) (es : List ErrorEntry) → length es ≤ length (pick mine (if_taken r es) es)
 hands_on false r es = omega arith
 hands_on true (Ok e) es = simp length-append (omega arith)
-hands_on true (Err taking.NotRegistered) es = omega arith
-hands_on true (Err taking.NothingBooked) es = omega arith
+hands_on true (Err x) es = omega arith
 
 pub room_stays : {i : ℕ} {w v : World} {x : Event} → Step i w x v → NoRaise i x → Roomy i w → Roomy i v
 room_stays {i} {w} (raise e r after c) k y = rw (k (tally i w.log)) y
@@ -120,9 +109,7 @@ room_stays (hosts bs told) k y = y
 
 pub quiet_raises_not : (i : ℕ) (x : Event) → Quiet i x → NoRaise i x
 quiet_raises_not i (raised e (Ok _)) k = absurd (omega arith)
-quiet_raises_not i (raised e (Err EntryInvalid)) k = λ t. refl
-quiet_raises_not i (raised e (Err StatusEntry)) k = λ t. refl
-quiet_raises_not i (raised e (Err QueueFull)) k = λ t. refl
+quiet_raises_not i (raised e (Err x)) k = λ t. refl
 quiet_raises_not i (answered r bs) k = λ t. refl
 quiet_raises_not i (head_read services o bs r) k = λ t. refl
 quiet_raises_not i (registered j r) k = λ t. refl
@@ -152,20 +139,17 @@ with_bit i j p b e =
     either (eqb i j) (λ here. let same : i ≡ j = eqb-true i j here in rw (here, same) e) (λ away. rw away)
 
 taken_bit : (o : Option Account) → (without_first o).ea ≡ ea_of o
-taken_bit none = refl
-taken_bit (some p) = refl
+taken_bit None = refl
+taken_bit (Some p) = refl
 
 take_bit : (i j : ℕ) (b : Box) (r : Result ErrorEntry TakeError) → ea_of ((after_take r j b).accounts i) ≡ ea_of (b.accounts i)
 take_bit i j b (Ok e) = with_bit i j _ b (taken_bit (b.accounts j))
-take_bit i j b (Err taking.NotRegistered) = refl
-take_bit i j b (Err taking.NothingBooked) = refl
+take_bit i j b (Err x) = refl
 
 -- a Raise that accepts nothing leaves the head
 pub not_raised : (i : ℕ) (e : ErrorEntry) (r : Result Unit RaiseError) → NoRaise i (raised e r) → (h : Head) → after_raise r e h ≡ h
 not_raised i e (Ok _) k h = let some-raised : e ∷ [] ≡ [] = k (nothing_yet i) in clash cc
-not_raised i e (Err EntryInvalid) k h = refl
-not_raised i e (Err StatusEntry) k h = refl
-not_raised i e (Err QueueFull) k h = refl
+not_raised i e (Err x) k h = refl
 
 -- a reading leaves the head or closes its batch
 pub read_head : (r : Result ReadOutcome PowerlinkError) (h : Head) → (after_acknowledge r h ≡ h) ⊎ (after_acknowledge r h ≡ shut h)
@@ -217,9 +201,7 @@ calm {i} {w} t (box_reads services foreign bs r after d c) k =
       requests = λ q f y. inl y;
     }
 calm {i} {w} t (box_reads services (sent p) bs r after d c) k = absurd k
-calm {i} {w} t (request j f (Err requesting.NotRegistered) target written c) k =
-    record { head = inl (inl refl); bit = refl; answers = λ p a y. inl y; requests = λ q f y. inl y }
-calm {i} {w} t (request j f (Err (requesting.Frame e)) target written c) k =
+calm {i} {w} t (request j f (Err e) target written c) k =
     record { head = inl (inl refl); bit = refl; answers = λ p a y. inl y; requests = λ q f y. inl y }
 calm {i} {w} t (request j f (Ok n) target written c) k =
     record {

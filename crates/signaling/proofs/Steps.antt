@@ -3,26 +3,29 @@
 use Prim.Native.Nat.{ℕ}
 use mathlib.Core.Path.{◌≡◌, refl, ap, ◌∙◌}
 use mathlib.Core.List.{List, [], ◌∷◌}
-use mathlib.Core.Option.{Option, none, some}
 use native.Mathlib.Omega.{arith}
 use lib.ListN.{take, drop}
 use lib.Dec.{eqb}
 use borrow.Author.Tests.{eqb-true, eqb-false, eq-eqb}
-use Rattle.std.specs.Prelude.{Result, Ok, Err, Some}
+use Rattle.std.specs.Prelude.{Result, Ok, Err, Some, Option, None}
+use Rattle.types.specs.declared.hal.PowerlinkError.{PowerlinkError}
 use Rattle.codec.specs.Frame.{read_frame}
+use Rattle.error_entry.specs.declared.ErrorEntry.{ErrorEntry}
 use Rattle.reporter.specs.Calls as reporter
 use Rattle.reporter.specs.Layout.{head_of}
 use Rattle.reporter.specs.Rules.{Head, fresh_head, raise_answer, opened, answer_frame, after_answer, acknowledge_answer, after_acknowledge, ea_told}
 use Rattle.reporter.specs.declared.AnswerFields.{AnswerFields}
+use Rattle.reporter.specs.declared.ReadOutcome.{ReadOutcome}
 use Rattle.reporter.proofs.AnyTable.{answer_writes}
 use Rattle.collector.specs.Calls as collector
 use Rattle.collector.specs.Layout.{box_of, account_of}
 use Rattle.collector.specs.Rules.{Account, read_answer, request_frame, status_in}
-use Rattle.collector.specs.declared.ReadError.TheVariants as boxError
+use Rattle.collector.specs.declared.ReadError.{ReadError}
 use Rattle.collector.specs.declared.ReadOutcome.TheVariants as box
-use Rattle.collector.specs.declared.RequestError.TheVariants as requesting
+use Rattle.collector.specs.declared.ReadOutcome.{ReadOutcome as BoxOutcome}
+use Rattle.collector.specs.declared.RequestError.{RequestError}
 use Rattle.collector.specs.declared.RequestFields.{RequestFields}
-use Rattle.collector.specs.declared.TakeError.TheVariants as taking
+use Rattle.collector.specs.declared.TakeError.{TakeError}
 use Rattle.signaling.specs.Calls.{Origin, sent, foreign, Event, answered, head_read, box_read, requested, taken, tally, ruled, hears, Delivered, Reaches, Tells, node, World, Step, raise, answer, head_reads, register, box_reads, request, takes, hosts, Run, fresh, call, ea_of}
 use Rattle.signaling.proofs.Arriving.{reads_sent}
 use Rattle.signaling.proofs.Facts.{either, beq_false, at_lt}
@@ -32,12 +35,6 @@ use Rattle.signaling.proofs.Head.{raise_keeps, opened_keeps, answer_written, hea
 use Rattle.signaling.proofs.Box.{box_passes, box_books, request_sends, take_moves}
 use Rattle.signaling.proofs.Told.{told_now}
 use Rattle.signaling.proofs.Calls.{written_frame, unheard, requested_frame, request_here, request_else, why_booked, read_elsewhere, read_here, register_same, take_elsewhere, why_taken}
-use Rattle.types.specs.declared.hal.PowerlinkError.{PowerlinkError}
-use Rattle.collector.specs.declared.RequestError.{RequestError}
-use Rattle.error_entry.specs.declared.ErrorEntry.{ErrorEntry}
-use Rattle.collector.specs.declared.TakeError.{TakeError}
-use Rattle.reporter.specs.declared.ReadOutcome.{ReadOutcome}
-use Rattle.collector.specs.declared.ReadError.{ReadError}
 
 module _ {i : ℕ} {w : World} (t : Held i w) where
   abbrev h : Head
@@ -67,7 +64,8 @@ module _ {i : ℕ} {w : World} (t : Held i w) where
   pub head_now : (services bs : List ℕ) (r : Result ReadOutcome PowerlinkError) (after : List ℕ) → reporter.Reads services bs r w.head after
       → head_of after ≡ after_acknowledge (acknowledge_answer (ea_told services i bs) (head_in w)) (head_in w)
   head_now services bs r after c =
-      c.head ∙ ap (λ (x : Result ReadOutcome PowerlinkError). after_acknowledge x h) (c.answer ∙ ap (λ (k : ℕ). acknowledge_answer (ea_told services k bs) h) (rw t.head t.inv.id))
+      let same = c.answer ∙ ap (λ k. acknowledge_answer (ea_told services k bs) h) (rw t.head t.inv.id) in
+      c.head ∙ ap (λ x. after_acknowledge x h) same
 
   head_read_keeps : (services : List ℕ) (from : Origin) (bs : List ℕ) (r : Result ReadOutcome PowerlinkError)
       → Delivered services 240 from bs (tally i w.log).requests
@@ -78,7 +76,7 @@ module _ {i : ℕ} {w : World} (t : Held i w) where
   -- ---- the box's calls
 
   -- what reaches the box is read as what was sent
-  pub read_as_sent : (services : List ℕ) (p : ℕ) (bs : List ℕ) (r : Result ReadOutcome ReadError) (after : List ℕ)
+  pub read_as_sent : (services : List ℕ) (p : ℕ) (bs : List ℕ) (r : Result BoxOutcome ReadError) (after : List ℕ)
       → (d : Reaches services i (sent p) bs (tally i w.log).answers)
       → collector.Reads services bs r w.box after
       → collector.Reads services d.0 r w.box after
@@ -96,18 +94,15 @@ module _ {i : ℕ} {w : World} (t : Held i w) where
       (box_books inv p bs d.0 d.1 services (beq_false _ _ y.fresh) y.room)
 
   -- an answer as it was sent
-  sent_keeps : (services : List ℕ) (p : ℕ) (bs : List ℕ) (r : Result ReadOutcome ReadError) (after : List ℕ)
+  sent_keeps : (services : List ℕ) (p : ℕ) (bs : List ℕ) (r : Result BoxOutcome ReadError) (after : List ℕ)
       → Delivered services i (sent p) bs (tally i w.log).answers
       → collector.Reads services bs r w.box after
       → Inv i (ea_of (account_of after i)) (book_of (account_of after i)) (tally i (box_read services (sent p) bs r ∷ w.log))
   sent_keeps services p bs (Ok box.Booked) after d c = books services p bs after d c
   sent_keeps services p bs (Ok box.Known) after d c = rw (c.box.accounts i) (box_passes t.inv p bs d.0 d.1)
-  sent_keeps services p bs (Err (boxError.Frame e)) after d c = rw (c.box.accounts i) (box_passes t.inv p bs d.0 d.1)
-  sent_keeps services p bs (Err boxError.NotStatusResponse) after d c = rw (c.box.accounts i) (box_passes t.inv p bs d.0 d.1)
-  sent_keeps services p bs (Err boxError.NotRegistered) after d c = rw (c.box.accounts i) (box_passes t.inv p bs d.0 d.1)
-  sent_keeps services p bs (Err boxError.BookFull) after d c = rw (c.box.accounts i) (box_passes t.inv p bs d.0 d.1)
+  sent_keeps services p bs (Err e) after d c = rw (c.box.accounts i) (box_passes t.inv p bs d.0 d.1)
 
-  box_read_keeps : (services : List ℕ) (from : Origin) (bs : List ℕ) (r : Result ReadOutcome ReadError) (after : List ℕ)
+  box_read_keeps : (services : List ℕ) (from : Origin) (bs : List ℕ) (r : Result BoxOutcome ReadError) (after : List ℕ)
       → Reaches services i from bs (tally i w.log).answers
       → collector.Reads services bs r w.box after
       → Inv i (ea_of (account_of after i)) (book_of (account_of after i)) (tally i (box_read services from bs r ∷ w.log))
@@ -126,22 +121,20 @@ module _ {i : ℕ} {w : World} (t : Held i w) where
       either (eqb j i)
       (λ here.
       let same : j ≡ i = eqb-true j i here in
-      let place : o ≡ some y.place = rw (← same) y.known in
+      let place : o ≡ Some y.place = rw (← same) y.known in
       rw place (cc (request_here services i j f ea c.source same, mine)))
       (λ away. cc (request_else services i j f ea c.source (eqb-false j i away), mine))
 
   request_keeps : (j : ℕ) (f : RequestFields) (r : Result ℕ RequestError) (target written : List ℕ)
       → collector.Requests (node j) f r w.box target written
       → Inv i (ea_of o) (book_of o) (tally i (requested j r written ∷ w.log))
-  request_keeps j f (Err requesting.NotRegistered) target written c = t.inv
-  request_keeps j f (Err (requesting.Frame e)) target written c = t.inv
+  request_keeps j f (Err e) target written c = t.inv
   request_keeps j f (Ok n) target written c =
       request_sends t.inv (take n written) (request_says j f n target written c)
 
   take_here : (r : Result ErrorEntry TakeError) (after : List ℕ) → collector.Takes (node i) r w.box after
       → Inv i (ea_of (account_of after i)) (book_of (account_of after i)) (tally i (taken i r ∷ w.log))
-  take_here (Err taking.NotRegistered) after c = rw (c.box.accounts i, eq-eqb i i refl) t.inv
-  take_here (Err taking.NothingBooked) after c = rw (c.box.accounts i, eq-eqb i i refl) t.inv
+  take_here (Err x) after c = rw (c.box.accounts i, eq-eqb i i refl) t.inv
   take_here (Ok e) after c =
       let y = why_taken e o c.answer in
       let inv : Inv i y.place.ea y.place.book (tally i w.log) = rw y.known at t.inv in
@@ -179,7 +172,7 @@ keeps {i} {w} t (hosts bs told) = record { head = t.head; inv = request_sends t.
 
 -- ---- the start
 
-starts : {i : ℕ} {h : List ℕ} {b : List ℕ} → head_of h ≡ fresh_head i → account_of b i ≡ none
+starts : {i : ℕ} {h : List ℕ} {b : List ℕ} → head_of h ≡ fresh_head i → account_of b i ≡ None
     → Held i (record { head = h; box = b; log = [] })
 starts {i} eh eb =
     record {

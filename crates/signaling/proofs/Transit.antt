@@ -1,7 +1,7 @@
 -- What happens to the frames that can still be given to an end: when a frame is sent, when one is given, when the bits change.
 -- Assumes nothing.
 use Prim.Native.Nat.{ℕ, ◌≤◌, ◌<◌}
-use mathlib.Core.Bool.{Bool, not}
+use mathlib.Core.Bool.{Bool, not, not-not}
 use mathlib.Core.Path.{◌≡◌, refl, sym, ap, ◌∙◌}
 use mathlib.Core.Logic.{inl, inr}
 use mathlib.Core.List.{List, [], ◌∷◌, ◌++◌}
@@ -12,7 +12,7 @@ use Rattle.std.specs.Prelude.{Ok, Some}
 use Rattle.octets.proofs.Order.{le_or_lt}
 use Rattle.error_entry.specs.declared.ErrorEntry.{ErrorEntry}
 use Rattle.reporter.specs.Rules.{ea_told}
-use Rattle.signaling.proofs.Facts.{same_or_not, not_not, opposite, at_snoc, at_lt}
+use Rattle.signaling.proofs.Facts.{same_or_not, opposite, at_snoc, at_lt}
 use Rattle.signaling.proofs.Invariant.{Carries, en_said, batch_said, Answers, Requests}
 
 -- ---- answers
@@ -23,7 +23,7 @@ module _ {en ea : Bool} {batch : List ErrorEntry} {sent : List (List ℕ)} {at o
   answers_open same b =
       let past : opened ≤ at = t.past same in
       record {
-        old = λ p a hp e lt. t.new p a hp e (omega arith) ∙ sym (not_not en);
+        old = λ p a hp e lt. t.new p a hp e (omega arith) ∙ sym (not-not en);
         new = λ p a hp e le. absurd (omega (arith, at_lt sent a p e));
         carry = λ p a hp e le ne. absurd (omega (arith, at_lt sent a p e));
         past = λ e. opposite en (sym same ∙ e);
@@ -64,7 +64,7 @@ module _ {en ea : Bool} {batch : List ErrorEntry} {sent : List (List ℕ)} {at o
       elim (same_or_not ea en) [
         | inl same ↦ opposite ea (same ∙ sym (t.new p a hp e (omega (arith, t.past same))) ∙ fresh)
         | inr differ ↦
-            let bit : en_said a ≡ en = fresh ∙ ap not differ ∙ not_not en in
+            let bit : en_said a ≡ en = fresh ∙ ap not differ ∙ not-not en in
             let open? : batch ≡ [] → ⊥ = λ n. opposite en (sym (idle n) ∙ differ) in
             elim (le_or_lt opened p) [
               | inl le ↦ (differ, le, bit, t.carry p a hp e le open?, open?)

@@ -26,7 +26,9 @@ use Rattle.signaling.proofs.Making.{world, Knows, sent_whole}
 -- an exchange in which the frames at these places are read, the request and the answer under these tables, the answer as it arrives
 abbrev exchanged : List ℕ → List ℕ → ℕ → ℕ → Head → List ℕ → Log → Log
 exchanged head_services box_services n m h arrived l =
-    head_read head_services (sent m) (request_frame 7 asked h.en) (Ok Closed) ∷ request_of 7 h.en ∷ box_read box_services (sent n) arrived (Ok box.Booked) ∷ answer_of h
+    head_read head_services (sent m) (request_frame 7 asked h.en) (Ok Closed) ∷ request_of 7 h.en
+    ∷ box_read box_services (sent n) arrived (Ok box.Booked)
+    ∷ answer_of h
     ∷ l
 
 -- the first answer arrives with two status entries

@@ -7,14 +7,15 @@ use Rattle.reporter.specs.Calls.{Answers}
 use Rattle.reporter.specs.declared.AnswerFields.{AnswerFields}
 use Rattle.collector.specs.Calls.{Reads}
 use Rattle.collector.specs.Rules.{status_payload}
+use Rattle.collector.specs.declared.ReadError.{ReadError}
+use Rattle.collector.specs.declared.ReadOutcome.{ReadOutcome as BoxOutcome}
 use Rattle.signaling.specs.Arrival.{IsASnd, IsStatusEntry, Arrives, put_in}
 use Rattle.signaling.specs.Calls.{sent, tally, World, Delivered, Reaches, Run}
-use Rattle.collector.specs.declared.ReadOutcome.{ReadOutcome}
-use Rattle.collector.specs.declared.ReadError.{ReadError}
 
 pub record AsSent : Type 0 where
   -- Whatever arrives, in whichever state the box is: it answers what it answers to the frame as sent, and every octet of it is then the same.
-  pub reads : (services f given state after after' : List ℕ) (r r' : Result ReadOutcome ReadError) → IsASnd f → Arrives f given → Reads services f r state after
+  pub reads : (services f given state after after' : List ℕ) (r r' : Result BoxOutcome ReadError)
+      → IsASnd f → Arrives f given → Reads services f r state after
       → Reads services given r' state after'
       → (r' ≡ r) × (after' ≡ after)
   -- a status entry may be put in before any entry, and behind the last; and so may a further one

@@ -6,12 +6,13 @@
 -- each reading has a table of services of its own (02, CR 1: "An error exchange under any loaded table books as before"): any octets, more
 -- than the 256 that a call can be lent, and others from call to call.
 -- Assumes nothing.
-use Rattle.std.specs.Prelude.{ℕ, suc, ◌≤◌, Bool, true, false, ◌||◌, ◌≡◌, List, [], ◌∷◌, ◌++◌, length, take, leb, eqb, Result, Ok, Err, Some, None}
-use Rattle.std.proofs.Math.Option.{Option, none, some}
+use Rattle.std.specs.Prelude.{ℕ, suc, ◌≤◌, Bool, true, false, ◌||◌, ◌≡◌, List, [], ◌∷◌, ◌++◌, length, take, leb, eqb, Result, Ok, Err, Some, None, Option}
+use Rattle.std.proofs.Math.Option.{some}
 use Rattle.std.proofs.Math.ListN.{get_elem?}
 use Rattle.types.specs.Codes.{pick}
 use Rattle.types.specs.Nodes.{managing_node}
 pub use Rattle.types.specs.Nodes.{node}
+use Rattle.types.specs.declared.hal.PowerlinkError.{PowerlinkError}
 use Rattle.control.specs.declared.soa.SoAFlags.{SoAFlags}
 use Rattle.frame.specs.declared.PowerlinkFrame.{PowerlinkFrame}
 use Rattle.frame.specs.declared.PowerlinkFrame.TheVariants.{Soc, PReq, PRes, SoA, ASnd}
@@ -21,20 +22,18 @@ use Rattle.reporter.specs.Calls as reporter
 use Rattle.reporter.specs.Layout.{head_of}
 use Rattle.reporter.specs.Rules.{when_written, when_raised, Head, fresh_head, raise_answer, after_raise, opens, after_answer, acknowledge_answer, after_acknowledge, ea_told}
 use Rattle.reporter.specs.declared.AnswerFields.{AnswerFields}
+use Rattle.reporter.specs.declared.RaiseError.{RaiseError}
+use Rattle.reporter.specs.declared.ReadOutcome.{ReadOutcome}
 use Rattle.collector.specs.Calls as collector
 use Rattle.collector.specs.Layout.{account_of}
 use Rattle.collector.specs.Rules.{when_booked, Account}
-use Rattle.collector.specs.declared.RequestError.TheVariants as requesting
-use Rattle.collector.specs.declared.RequestFields.{RequestFields}
-use Rattle.collector.specs.declared.TakeError.TheVariants as taking
-use Rattle.signaling.specs.Arrival.{Arrives}
-use Rattle.types.specs.declared.hal.PowerlinkError.{PowerlinkError}
-use Rattle.reporter.specs.declared.RaiseError.{RaiseError}
+use Rattle.collector.specs.declared.ReadError.{ReadError}
+use Rattle.collector.specs.declared.ReadOutcome.{ReadOutcome as BoxOutcome}
 use Rattle.collector.specs.declared.RegisterError.{RegisterError}
 use Rattle.collector.specs.declared.RequestError.{RequestError}
+use Rattle.collector.specs.declared.RequestFields.{RequestFields}
 use Rattle.collector.specs.declared.TakeError.{TakeError}
-use Rattle.reporter.specs.declared.ReadOutcome.{ReadOutcome}
-use Rattle.collector.specs.declared.ReadError.{ReadError}
+use Rattle.signaling.specs.Arrival.{Arrives}
 
 -- ---- the log of calls, their answers, and the octets that were given or written
 
@@ -48,7 +47,7 @@ pub data Event : Type 0 where
   answered : Result ℕ PowerlinkError → List ℕ → Event
   head_read : (services : List ℕ) → Origin → List ℕ → Result ReadOutcome PowerlinkError → Event
   registered : ℕ → Result Unit RegisterError → Event
-  box_read : (services : List ℕ) → Origin → List ℕ → Result ReadOutcome ReadError → Event
+  box_read : (services : List ℕ) → Origin → List ℕ → Result BoxOutcome ReadError → Event
   requested : ℕ → Result ℕ RequestError → List ℕ → Event
   taken : ℕ → Result ErrorEntry TakeError → Event
   hosted : List ℕ → Event
@@ -121,8 +120,7 @@ accepts r e es = record { accepted = when_raised r (es.accepted ++ (e ∷ [])) e
 
 abbrev pub if_taken : Result ErrorEntry TakeError → List ErrorEntry → List ErrorEntry
 if_taken (Ok e) es = es ++ (e ∷ [])
-if_taken (Err taking.NotRegistered) es = es
-if_taken (Err taking.NothingBooked) es = es
+if_taken (Err x) es = es
 
 abbrev pub hands : Bool → Result ErrorEntry TakeError → Entries → Entries
 hands mine r es = record { accepted = es.accepted; handed_out = pick mine (if_taken r es.handed_out) es.handed_out }
@@ -135,8 +133,7 @@ if_answered (Err e) bs fs = fs
 
 abbrev pub if_requested : Result ℕ RequestError → List ℕ → List (List ℕ) → List (List ℕ)
 if_requested (Ok n) bs fs = fs ++ (take n bs ∷ [])
-if_requested (Err requesting.NotRegistered) bs fs = fs
-if_requested (Err (requesting.Frame e)) bs fs = fs
+if_requested (Err e) bs fs = fs
 
 abbrev pub sends : (List (List ℕ) → List (List ℕ)) → Line → Line
 sends f l = record { frames = f l.frames; at = l.at }
@@ -165,11 +162,11 @@ answers r next s =
     record { head = after_answer r s.head; opened_at = pick new next s.opened_at; is_booked = pick new false s.is_booked }
 
 -- "the box's reading of an answer sent since it first opened ends neither refused nor known"
-abbrev pub books_since : Origin → Result ReadOutcome ReadError → ℕ → Bool
+abbrev pub books_since : Origin → Result BoxOutcome ReadError → ℕ → Bool
 books_since foreign r at = false
 books_since (sent p) r at = when_booked r (leb at p) false
 
-abbrev pub books : Origin → Result ReadOutcome ReadError → Ruled → Ruled
+abbrev pub books : Origin → Result BoxOutcome ReadError → Ruled → Ruled
 books o r s = record { head = s.head; opened_at = s.opened_at; is_booked = books_since o r s.opened_at || s.is_booked }
 
 -- THE TABLE: what each call adds, for the head with ID i. A call that is not named in a part changes nothing there; a new call is one row.
@@ -244,8 +241,8 @@ Reaches services i foreign bs l = Delivered services i foreign bs l
 
 -- EA as the box has it for a head; 0 before the head is registered
 abbrev pub ea_of : Option Account → Bool
-ea_of none = false
-ea_of (some p) = p.ea
+ea_of None = false
+ea_of (Some p) = p.ea
 
 -- What the box's host may send under 240 on the line of the requests: any octets, as long as those that give head i an EA, under whichever
 -- table, give the box's
@@ -266,7 +263,7 @@ pub data Step (i : ℕ) (w : World) : Event → World → Type 0 where
       → Step i w (head_read services o bs r) (record { head = after; box = w.box; log = head_read services o bs r ∷ w.log })
   register : (j : ℕ) (r : Result Unit RegisterError) (after : List ℕ) → collector.Registers (node j) r w.box after
       → Step i w (registered j r) (record { head = w.head; box = after; log = registered j r ∷ w.log })
-  box_reads : (services : List ℕ) (o : Origin) (bs : List ℕ) (r : Result ReadOutcome ReadError) (after : List ℕ)
+  box_reads : (services : List ℕ) (o : Origin) (bs : List ℕ) (r : Result BoxOutcome ReadError) (after : List ℕ)
       → Reaches services i o bs (tally i w.log).answers
       → collector.Reads services bs r w.box after
       → Step i w (box_read services o bs r) (record { head = w.head; box = after; log = box_read services o bs r ∷ w.log })
@@ -289,8 +286,7 @@ pub data Run (i : ℕ) : World → Type 0 where
 -- "what further Takes for it hand out until one is refused"
 abbrev pub TakeRefused : Result ErrorEntry TakeError → Type 0
 TakeRefused (Ok e) = ⊥
-TakeRefused (Err taking.NotRegistered) = Unit {0}
-TakeRefused (Err taking.NothingBooked) = Unit {0}
+TakeRefused (Err x) = Unit {0}
 
 pub data Drained (i : ℕ) : List ℕ → List ErrorEntry → Type 0 where
   over : {s : List ℕ} (r : Result ErrorEntry TakeError) (after : List ℕ) → collector.Takes (node i) r s after → TakeRefused r → Drained i s []

@@ -8,6 +8,7 @@ use Rattle.std.proofs.Math.ListN.{get_elem?}
 use Rattle.types.specs.declared.error_mode.ErrorEntryMode.{ErrorEntryMode}
 use Rattle.types.specs.declared.error_mode.ErrorEntryMode.TheVariants.{Terminator, ErrorActive, ErrorCleared, EventOccurred}
 use Rattle.types.specs.declared.hal.PowerlinkError.TheVariants.{InvalidServiceId}
+use Rattle.types.specs.declared.hal.PowerlinkError.{PowerlinkError}
 use Rattle.services.specs.Table.{table_of, ds301}
 use Rattle.frame.specs.Write.{frame_bytes}
 use Rattle.frame.specs.declared.PowerlinkFrame.TheVariants.{ASnd}
@@ -20,21 +21,21 @@ use Rattle.reporter.specs.Layout.{head_of}
 use Rattle.reporter.specs.Rules.{status_fields, answer_asnd, ea_told}
 use Rattle.reporter.specs.declared.AnswerFields.{AnswerFields}
 use Rattle.reporter.specs.declared.RaiseError.TheVariants.{EntryInvalid, StatusEntry}
+use Rattle.reporter.specs.declared.RaiseError.{RaiseError}
 use Rattle.reporter.specs.declared.ReadOutcome.TheVariants as head
+use Rattle.reporter.specs.declared.ReadOutcome.{ReadOutcome}
 use Rattle.collector.specs.Calls as collector
 use Rattle.collector.specs.Layout.{account_of}
-use Rattle.collector.specs.declared.ReadError.TheVariants as boxError
+use Rattle.collector.specs.declared.ReadError.TheVariants as refusal
+use Rattle.collector.specs.declared.ReadError.{ReadError}
 use Rattle.collector.specs.declared.ReadOutcome.TheVariants as box
-use Rattle.signaling.specs.Arrival.{put_in}
-use Rattle.signaling.specs.Calls.{Origin, sent, foreign, Event, raised, answered, head_read, registered, box_read, requested, taken, hosted, Log, tally, accepted, handed_out, answers_sent, is_booked, ruled, World, Reaches, Tells, Step, Run, Drained}
-use Rattle.signaling.specs.Exchanges.{pending, Exchanges, done, more, Room}
-use Rattle.types.specs.declared.hal.PowerlinkError.{PowerlinkError}
-use Rattle.reporter.specs.declared.RaiseError.{RaiseError}
+use Rattle.collector.specs.declared.ReadOutcome.{ReadOutcome as BoxOutcome}
 use Rattle.collector.specs.declared.RegisterError.{RegisterError}
 use Rattle.collector.specs.declared.RequestError.{RequestError}
 use Rattle.collector.specs.declared.TakeError.{TakeError}
-use Rattle.reporter.specs.declared.ReadOutcome.{ReadOutcome}
-use Rattle.collector.specs.declared.ReadError.{ReadError}
+use Rattle.signaling.specs.Arrival.{put_in}
+use Rattle.signaling.specs.Calls.{Origin, sent, foreign, Event, raised, answered, head_read, registered, box_read, requested, taken, hosted, Log, tally, accepted, handed_out, answers_sent, is_booked, ruled, World, Reaches, Tells, Step, Run, Drained}
+use Rattle.signaling.specs.Exchanges.{pending, Exchanges, done, more, Room}
 
 abbrev pub example_entry : Bool → ErrorEntryMode → ℕ → ErrorEntry
 example_entry status mode code =
@@ -72,7 +73,7 @@ pub data Call : Type 0 where
   answers : Result ℕ PowerlinkError → Call
   by_head : List ℕ → Origin → Result ReadOutcome PowerlinkError → Call
   registers : ℕ → Result Unit RegisterError → Call
-  by_box : List ℕ → Origin → Result ReadOutcome ReadError → Call
+  by_box : List ℕ → Origin → Result BoxOutcome ReadError → Call
   requests : ℕ → Result ℕ RequestError → Call
   takes : ℕ → Result ErrorEntry TakeError → Call
   hosts : Call
@@ -117,8 +118,8 @@ answered_twice = answers (Ok 132) ∷ answers (Ok 132) ∷ []
 -- each with status entries of its own put in
 abbrev pub read_twice : List Call
 read_twice =
-    by_box ds301 foreign (Err boxError.NotStatusResponse) ∷ by_box house foreign (Err boxError.NotStatusResponse)
-    ∷ by_box ds301 foreign (Err (boxError.Frame (InvalidServiceId 0x20)))
+    by_box ds301 foreign (Err refusal.NotStatusResponse) ∷ by_box house foreign (Err refusal.NotStatusResponse)
+    ∷ by_box ds301 foreign (Err (refusal.Frame (InvalidServiceId 0x20)))
     ∷ by_box house (sent 1) (Ok box.Booked)
     ∷ by_box ds301 (sent 1) (Ok box.Known)
     ∷ []
@@ -147,8 +148,8 @@ pub record LossAndRepeat : Type 0 where
   pub made : calls w.log ≡ at_start ++ (five_raised ++ (answered_twice ++ (read_twice ++ (first_closed ++ (second_closed ++ one_taken)))))
   -- the ASnd of service 20h: under both tables it is the same frame
   pub asnd : List ℕ
-  pub held : get_elem? w.log 14 ≡ some (box_read house foreign asnd (Err boxError.NotStatusResponse))
-  pub unheld : get_elem? w.log 13 ≡ some (box_read ds301 foreign asnd (Err (boxError.Frame (InvalidServiceId 0x20))))
+  pub held : get_elem? w.log 14 ≡ some (box_read house foreign asnd (Err refusal.NotStatusResponse))
+  pub unheld : get_elem? w.log 13 ≡ some (box_read ds301 foreign asnd (Err (refusal.Frame (InvalidServiceId 0x20))))
   -- answer 1: when the box books it, status entries stand before its first and behind its second entry; in its repeat another one behind the last
   pub answer : List ℕ
   pub is_sent : get_elem? (answers_sent 7 w.log) 1 ≡ some answer
@@ -157,7 +158,7 @@ pub record LossAndRepeat : Type 0 where
   pub entries : accepted 7 w.log ≡ five
   pub handed : handed_out 7 w.log ≡ take 1 five
   -- the others are booked, and nothing is left at the head
-  pub place : account_of w.box 7 ≡ some (record { ea = false; book = drop 1 five })
+  pub place : account_of w.box 7 ≡ Some (record { ea = false; book = drop 1 five })
   pub rest : ruled 7 w.log ≡ record { id = 7; en = false; batch = []; waiting = [] }
   pub state : head_of w.head ≡ ruled 7 w.log
   pub booked : is_booked 7 w.log ≡ true
@@ -188,7 +189,7 @@ pub record FreeEaLoses : Type 0 where
   pub w : World
   pub run : Run 7 w
   pub entries : accepted 7 w.log ≡ five
-  pub place : account_of w.box 7 ≡ some (record { ea = false; book = [] })
+  pub place : account_of w.box 7 ≡ Some (record { ea = false; book = [] })
   pub frame : List ℕ
   pub gives : (services : List ℕ) → ea_told services 7 frame ≡ Ok (Some true)
   pub after : List ℕ
@@ -213,7 +214,7 @@ pub record BuiltAheadLoses : Type 0 where
   pub onward : Onward 7 v w
   pub run : Run 7 w
   pub entries : accepted 7 w.log ≡ five
-  pub place : account_of w.box 7 ≡ some (record { ea = true; book = take 4 five })
+  pub place : account_of w.box 7 ≡ Some (record { ea = true; book = take 4 five })
   pub holds : head_of w.head ≡ record { id = 7; en = false; batch = entry ErrorCleared 0x8165 ∷ []; waiting = [] }
   pub late : Tells 7 w.box frame → ⊥
   pub after : List ℕ
@@ -232,7 +233,7 @@ made_status f =
 pub record MadeStatusLoses : Type 0 where
   pub v : World
   pub run : Run 7 v
-  pub before : account_of v.box 7 ≡ some (record { ea = true; book = take 4 five })
+  pub before : account_of v.box 7 ≡ Some (record { ea = true; book = take 4 five })
   pub fields : AnswerFields
   -- no step of a list: the head has not sent it, and its source is no other
   pub strange : (services : List ℕ) (o : Origin) → Reaches services 7 o (made_status fields) (tally 7 v.log).answers → ⊥
@@ -245,5 +246,5 @@ pub record MadeStatusLoses : Type 0 where
   pub made : calls w.log
       ≡ calls v.log
       ++ (answers (Ok 72) ∷ by_box house (sent 2) (Ok box.Known) ∷ requests 7 (Ok 60) ∷ by_head ds301 (sent 3) (Ok head.Closed) ∷ [])
-  pub place : account_of w.box 7 ≡ some (record { ea = false; book = take 4 five })
+  pub place : account_of w.box 7 ≡ Some (record { ea = false; book = take 4 five })
   pub left : head_of w.head ≡ record { id = 7; en = false; batch = []; waiting = [] }

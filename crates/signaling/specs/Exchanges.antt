@@ -2,17 +2,16 @@
 -- exchange needs them (`StepwiseProgress`), which is more.
 -- Assumes nothing.
 use Rattle.std.specs.Prelude.{ℕ, suc, ◌+◌, ◌-◌, ◌≤◌, Bool, ◌≡◌, List, [], ◌++◌, length, Result, Ok, Err, Some}
-use Rattle.std.proofs.Math.Option.{some}
+use Rattle.types.specs.declared.hal.PowerlinkError.{PowerlinkError}
 use Rattle.error_entry.specs.declared.ErrorEntry.{ErrorEntry}
 use Rattle.reporter.specs.Rules.{ea_told}
-use Rattle.reporter.specs.declared.RaiseError.TheVariants.{EntryInvalid, StatusEntry, QueueFull}
+use Rattle.reporter.specs.declared.ReadOutcome.{ReadOutcome}
 use Rattle.collector.specs.Layout.{account_of}
 use Rattle.collector.specs.Rules.{Account}
-use Rattle.collector.specs.declared.ReadError.TheVariants as boxError
-use Rattle.signaling.specs.Calls.{sent, foreign, Event, raised, answered, head_read, registered, box_read, requested, taken, hosted, answers_sent, requests_sent, ruled, unbooked, World, Step, Run}
-use Rattle.reporter.specs.declared.ReadOutcome.{ReadOutcome}
-use Rattle.types.specs.declared.hal.PowerlinkError.{PowerlinkError}
+use Rattle.collector.specs.declared.ReadError.TheVariants as refusal
 use Rattle.collector.specs.declared.ReadError.{ReadError}
+use Rattle.collector.specs.declared.ReadOutcome.{ReadOutcome as BoxOutcome}
+use Rattle.signaling.specs.Calls.{sent, foreign, Event, raised, answered, head_read, registered, box_read, requested, taken, hosted, answers_sent, requests_sent, ruled, unbooked, World, Step, Run}
 
 -- "w entries (waiting and open)"
 abbrev pub pending : ℕ → World → List ErrorEntry
@@ -23,9 +22,7 @@ pending i w = (ruled i w.log).batch ++ (ruled i w.log).waiting
 -- gives it an EA: this is wider than 01. All else may be called.
 abbrev pub Quiet : ℕ → Event → Type 0
 Quiet i (raised e (Ok _)) = ⊥
-Quiet i (raised e (Err EntryInvalid)) = Unit {0}
-Quiet i (raised e (Err StatusEntry)) = Unit {0}
-Quiet i (raised e (Err QueueFull)) = Unit {0}
+Quiet i (raised e (Err x)) = Unit {0}
 Quiet i (answered r bs) = Unit {0}
 Quiet i (head_read services o bs r) = Unit {0}
 Quiet i (registered j r) = Unit {0}
@@ -38,7 +35,7 @@ Quiet i (hosted bs) = Unit {0}
 -- "On the line a repeat arrives before any later frame of the same sender": the frame that was read last is read once more,
 -- under whichever table; an answer with whichever status entries
 abbrev pub AnswerAgain : ℕ → Event → Type 0
-AnswerAgain p x = (services : List ℕ) × (bs : List ℕ) × (r : Result ReadOutcome ReadError) × (x ≡ box_read services (sent p) bs r)
+AnswerAgain p x = (services : List ℕ) × (bs : List ℕ) × (r : Result BoxOutcome ReadError) × (x ≡ box_read services (sent p) bs r)
 
 abbrev pub RequestAgain : ℕ → List ℕ → Event → Type 0
 RequestAgain q bs x = (services : List ℕ) × (r : Result ReadOutcome PowerlinkError) × (x ≡ head_read services (sent q) bs r)
@@ -65,7 +62,7 @@ pub record Exchange (i : ℕ) (w v : World) : Type 0 where
   pub p : ℕ
   pub answer_read : List ℕ
   pub box_services : List ℕ
-  pub box_says : Result ReadOutcome ReadError
+  pub box_says : Result BoxOutcome ReadError
   pub w₃ : World
   pub box_reads : Step i w₂ (box_read box_services (sent p) answer_read box_says) w₃
   pub new_answer : length (answers_sent i w.log) ≤ p
@@ -99,7 +96,7 @@ pub data Exchanges (i : ℕ) : ℕ → World → World → Type 0 where
 -- heads" that have a book, and the answer of any other is refused with 11 and closes nothing.
 pub record Room (i : ℕ) (w : World) : Type 0 where
   pub account : Account
-  pub registered : account_of w.box i ≡ some account
+  pub registered : account_of w.box i ≡ Some account
   pub free : length account.book + length (unbooked i w.log ++ (ruled i w.log).waiting) ≤ 64
 
 pub record Progress : Type 0 where
@@ -111,12 +108,12 @@ pub record Progress : Type 0 where
 -- ---- free places, exchange by exchange: Takes between two exchanges make places too
 
 abbrev pub IsRegistered : ℕ → World → Type 0
-IsRegistered i w = (account : Account) × (account_of w.box i ≡ some account)
+IsRegistered i w = (account : Account) × (account_of w.box i ≡ Some account)
 
 -- each exchange finds the places that it needs: its answer, when first read, is not refused with 12
 abbrev pub Found : {i n : ℕ} {w v : World} → Exchanges i n w v → Type 0
 Found (done l) = Unit {0}
-Found (more l x xs) = (x.box_says ≡ Err boxError.BookFull → ⊥) × Found xs
+Found (more l x xs) = (x.box_says ≡ Err refusal.BookFull → ⊥) × Found xs
 
 pub record StepwiseProgress : Type 0 where
   pub closes : (i n : ℕ) (w v : World) → Run i w → IsRegistered i w → (xs : Exchanges i n w v) → Found xs

@@ -20,7 +20,7 @@ use Rattle.status_response.specs.Steps.{status_bytes}
 use Rattle.status_response.specs.declared.bit_field.StaticErrorBitField.{StaticErrorBitField}
 use Rattle.status_response.specs.declared.fields.StatusFields.{StatusFields}
 use Rattle.types.proofs.PollBack.{poll_priority, poll_requests}
-use Rattle.status_response.proofs.StepsBack.{steps_back, entries_back}
+use Rattle.status_response.proofs.StepsBack.{steps_back, walk_back, entries_back}
 
 -- the two flags of octet 0
 en_back : (x y : Bool) → bit en_bit (at_bit en_bit x + at_bit ec_bit y) ≡ x
@@ -70,6 +70,7 @@ unfolding head_bytes field_bytes
 status_reads_back =
     record {
       steps = steps_back;
+      walk = walk_back;
       fields = fields_back;
       field = field_back;
       entries = λ f field es behind each. entries_back behind (head_bytes f field) es refl each;

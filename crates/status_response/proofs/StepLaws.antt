@@ -9,7 +9,8 @@ use lib.Dec.{leb}
 use lib.ListN.{length, drop, length-drop}
 use native.Mathlib.Omega.{arith}
 use borrow.Author.Tests.{leb-true, leb-false, le-leb, lt-leb}
-use Rattle.std.specs.Prelude.{Ok, Err, Option, Some, None}
+use Rattle.std.specs.Prelude.{Result, Ok, Err, Option, Some, None}
+use Rattle.std.specs.Result.{result_ok}
 use Rattle.octets.proofs.Order.{le_or_lt}
 use Rattle.types.specs.declared.error_mode.ErrorEntryMode.{ErrorEntryMode}
 use Rattle.types.specs.Codes.{need}
@@ -38,24 +39,24 @@ module _ (s : List ℕ) (offset : ℕ) where
       (er ∙ ap (λ (k : ErrorEntryMode). unless_terminator k (Some (e, (offset + 20))) None) (sym em))
 
   -- of the entry that was read there, or refused
-  module _ (t : List ℕ) (et : t ≡ drop offset s) where
+  module _ (t : List ℕ) (et : t ≡ drop offset s) (a : Result ErrorEntry PowerlinkError) (ea : a ≡ read_entry t) where
     rest : length t ≡ length s - offset
     rest = ap length et ∙ length-drop offset s
 
-    pub step_refused : (e : PowerlinkError) → read_entry t ≡ Err e → None ≡ step_at s offset
+    pub step_refused : result_ok a ≡ None → None ≡ step_at s offset
     unfolding read_entry
-    step_refused e q = split (leb 20 (length t)) refl q
+    step_refused none = split (leb 20 (length t)) refl (ap result_ok (sym ea) ∙ none)
       where
-        split : (b : Bool) → leb 20 (length t) ≡ b → need b (Err BufferTooShort) (Ok (entry_of t)) ≡ Err e → None ≡ step_at s offset
-        split true k a = let z : ◌≡◌ {A = ℕ} 0 1 = cc in absurd (omega arith)
-        split false k a = step_none (omega (arith, rest, leb-false 20 (length t) k))
+        split : (b : Bool) → leb 20 (length t) ≡ b → result_ok (need b (Err BufferTooShort) (Ok (entry_of t))) ≡ None → None ≡ step_at s offset
+        split true k o = let z : ◌≡◌ {A = ℕ} 0 1 = cc in absurd (omega arith)
+        split false k o = step_none (omega (arith, rest, leb-false 20 (length t) k))
 
     -- by its mode
-    pub step_read : (e : ErrorEntry) (m : ErrorEntryMode) (r : Option (ErrorEntry × ℕ)) → read_entry t ≡ Ok e → e.entry_type.mode ≡ m
+    pub step_read : (e : ErrorEntry) (m : ErrorEntryMode) (r : Option (ErrorEntry × ℕ)) → result_ok a ≡ Some e → e.entry_type.mode ≡ m
         → r ≡ unless_terminator m (Some (e, (offset + 20))) None → r ≡ step_at s offset
     unfolding read_entry
-    step_read e m r q em er = split (leb 20 (length t)) refl q
+    step_read e m r some em er = split (leb 20 (length t)) refl (ap result_ok (sym ea) ∙ some)
       where
-        split : (b : Bool) → leb 20 (length t) ≡ b → need b (Err BufferTooShort) (Ok (entry_of t)) ≡ Ok e → r ≡ step_at s offset
-        split true k a = step_by_mode t e m r (omega (arith, rest, leb-true 20 (length t) k)) et (cc) em er
-        split false k a = let z : ◌≡◌ {A = ℕ} 0 1 = cc in absurd (omega arith)
+        split : (b : Bool) → leb 20 (length t) ≡ b → result_ok (need b (Err BufferTooShort) (Ok (entry_of t))) ≡ Some e → r ≡ step_at s offset
+        split true k o = step_by_mode t e m r (omega (arith, rest, leb-true 20 (length t) k)) et (cc) em er
+        split false k o = let z : ◌≡◌ {A = ℕ} 0 1 = cc in absurd (omega arith)

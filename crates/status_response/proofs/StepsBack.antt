@@ -1,14 +1,14 @@
 -- The steps of a walk find the entries of a payload, and the entries that were written are those of the payload.
 -- Assumes nothing.
 use Prim.Native.Nat.{ℕ, zero, suc, ◌+◌, ◌-◌, ◌≤◌, ◌<◌}
-use mathlib.Core.Path.{◌≡◌, refl, ap, ◌∙◌}
+use mathlib.Core.Path.{◌≡◌, refl, sym, ap, ◌∙◌}
 use mathlib.Core.Logic.{◌⊎◌, inl, inr}
 use mathlib.Core.List.{List, [], ◌∷◌, ◌++◌, append_assoc}
 use native.Mathlib.Omega.{arith}
 use lib.ListN.{length, drop, replicate, length-append, length-drop}
 use lib.Seq.{drop_at, drop-drop}
 use borrow.Author.Tests.{le-leb, lt-leb}
-use Rattle.std.specs.Prelude.{Some, None}
+use Rattle.std.specs.Prelude.{Option, Some, None}
 use Rattle.octets.specs.Numbers.{le_at}
 use Rattle.octets.proofs.Order.{le_or_lt}
 use Rattle.types.specs.Modes.{mode_in}
@@ -18,7 +18,7 @@ use Rattle.error_entry.specs.Entry.{entry_type_of, entry_of, entry_bytes}
 use Rattle.error_entry.specs.declared.ErrorEntry.{ErrorEntry}
 use Rattle.error_entry.proofs.ReadBack.{entry_back_lem}
 use Rattle.status_response.specs.ReadBack.{stepped, walked, until_terminator, EachInRange}
-use Rattle.status_response.specs.Steps.{entries_bytes, entries_in, status_bytes, status_entries, step_at, unless_terminator}
+use Rattle.status_response.specs.Steps.{entries_bytes, entries_from, entries_in, status_bytes, status_entries, step_at, unless_terminator}
 use Rattle.status_response.proofs.Places.{entry_length}
 use Rattle.status_response.proofs.StepLaws.{step_none, step_by_mode}
 use Rattle.status_response.proofs.WriteLaws.{status_length_lem}
@@ -60,10 +60,32 @@ bound_free (suc n) zero t h k = rw (lt-leb 20 (length t) (omega arith))
 bound_free (suc n) (suc m) t h k =
     rw (bound_free n m (drop 20 t) (simp length-drop (omega arith)) (simp length-drop (omega arith)))
 
+-- the entries from an offset on are that of the step there, and those from the offset after it on
+entries_stepped : (s : List ℕ) (offset : ℕ) → entries_from s offset ≡ stepped (step_at s offset) (entries_from s)
+unfolding entries_from
+entries_stepped s offset =
+    bound_free (length s) (suc (length s)) (drop offset s) (simp length-drop (omega arith)) (simp length-drop (omega arith))
+    ∙ sym (walked_is s (suc (length s)) offset)
+    ∙ same_behind (step_at s offset) (walked (length s) s) (λ next. entries_in (length s) (drop next s)) (walked_is s (length s))
+  where
+    same_behind : (o : Option (ErrorEntry × ℕ)) (f g : ℕ → List ErrorEntry) → ((next : ℕ) → f next ≡ g next) → stepped o f ≡ stepped o g
+    same_behind None f g same = refl
+    same_behind (Some (e, next)) f g same = ap (λ (es : List ErrorEntry). e ∷ es) (same next)
+
+pub entries_first : (s : List ℕ) (offset : ℕ) (e : ErrorEntry) (next : ℕ) → step_at s offset ≡ Some (e, next) → entries_from s offset ≡ e ∷ entries_from s next
+entries_first s offset e next some = entries_stepped s offset ∙ ap (λ (o : Option (ErrorEntry × ℕ)). stepped o (entries_from s)) some
+
+pub entries_none : (s : List ℕ) (offset : ℕ) → step_at s offset ≡ None → entries_from s offset ≡ []
+entries_none s offset none = entries_stepped s offset ∙ ap (λ (o : Option (ErrorEntry × ℕ)). stepped o (entries_from s)) none
+
 pub steps_back : (n : ℕ) (s : List ℕ) → length s ≤ n → walked n s 14 ≡ status_entries s
 unfolding status_entries
 steps_back n s h =
     walked_is s n 14 ∙ bound_free n (length s) (drop 14 s) (simp length-drop (omega arith)) (simp length-drop (omega arith))
+
+pub walk_back : (s : List ℕ) → entries_from s 14 ≡ status_entries s
+unfolding entries_from status_entries
+walk_back s = refl
 
 -- the terminator's zeros end the list
 zeros_end : (n : ℕ) (behind : List ℕ) → entries_in (suc n) (replicate 20 0 ++ behind) ≡ []

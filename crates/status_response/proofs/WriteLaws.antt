@@ -22,7 +22,7 @@ use Rattle.status_response.specs.BitField.{field_bytes}
 use Rattle.status_response.specs.Fields.{head_bytes}
 use Rattle.status_response.specs.declared.bit_field.StaticErrorBitField.{StaticErrorBitField}
 use Rattle.status_response.specs.declared.fields.StatusFields.{StatusFields}
-use Rattle.status_response.specs.Parts.{entries_answer, entries_fit, entries_put, entry_at_place, head_put, terminated}
+use Rattle.status_response.specs.Parts.{entries_answer, entries_fit, entries_put, entry_at_place, terminated}
 use Rattle.status_response.specs.Steps.{entries_bytes, status_bytes}
 use Rattle.status_response.proofs.Places.{entry_length, fit_true, fit_false, put_length}
 
@@ -108,15 +108,20 @@ module _ (es : List ErrorEntry) (t : List ℕ) where
           rw (a, o)
           (refuses (status_bytes (take 14 t) es) t (omega (arith, status_length_lem (take 14 t) es, length-take 14 t)))
 
-  -- what stands in front is written last
-  head_writes : (head : List ℕ) (r : Result ℕ PowerlinkError) (t₁ t₂ : List ℕ) → length head ≡ 14 → Writes (status_bytes (take 14 t) es) r t t₁
-      → t₂ ≡ head_put r head t₁ → Writes (status_bytes head es) r t t₂
+  -- a list that was refused is as it was
+  head_none : (head : List ℕ) (e : PowerlinkError) (t₁ : List ℕ) → length head ≡ 14 → Writes (status_bytes (take 14 t) es) (Err e) t t₁
+      → Writes (status_bytes head es) (Err e) t t₁
   unfolding status_bytes
-  head_writes head (Err e) t₁ t₂ n w e₂ =
+  head_none head e t₁ n w =
       let p = refused (status_bytes (take 14 t) es) t (Err e) e t₁ w refl in
-      rw (p.1.0, e₂, p.1.1)
+      rw (p.1.0, p.1.1)
       (refuses (status_bytes head es) t (omega (arith, p.0, status_length_lem (take 14 t) es, status_length_lem head es, length-take 14 t)))
-  head_writes head (Ok m) t₁ t₂ n w e₂ =
+
+  -- what stands in front is written last
+  head_writes : (head : List ℕ) (m : ℕ) (t₁ : List ℕ) → length head ≡ 14 → Writes (status_bytes (take 14 t) es) (Ok m) t t₁
+      → Writes (status_bytes head es) (Ok m) t (sets t₁ 0 head)
+  unfolding status_bytes
+  head_writes head m t₁ n w =
       let p = written (status_bytes (take 14 t) es) t (Ok m) m t₁ w refl in
       let bs : List ℕ = entries_bytes es ++ replicate 20 0 in
       let before : List ℕ = status_bytes (take 14 t) es in
@@ -127,9 +132,8 @@ module _ (es : List ErrorEntry) (t : List ℕ) where
       let d : drop 14 t₁ ≡ bs ++ drop (length before) t = ap (drop 14) o ∙ drop_at (take 14 t) (bs ++ drop (length before) t) 14 k in
       let q : length head ≤ length t₁ = omega (arith, ap length o, length-append (take 14 t) (bs ++ drop (length before) t)) in
       let g : head ++ (bs ++ drop (length (status_bytes head es)) t) ≡ status_bytes head es ++ drop (length (status_bytes head es)) t = simp append_assoc in
-      let f : t₂ ≡ sets t 0 (status_bytes head es) =
-      e₂
-      ∙ sets_front t₁ head q
+      let f : sets t₁ 0 head ≡ sets t 0 (status_bytes head es) =
+      sets_front t₁ head q
       ∙ ap (λ (i : ℕ). head ++ drop i t₁) n
       ∙ ap (λ (s : List ℕ). head ++ s) d
       ∙ ap (λ (i : ℕ). head ++ (bs ++ drop i t)) (sym l)
@@ -137,17 +141,13 @@ module _ (es : List ErrorEntry) (t : List ℕ) where
       ∙ sym (sets_front t (status_bytes head es) (omega (arith, p.0))) in
       rw f (writes (status_bytes head es) t m (l ∙ sym p.1.0) (omega (arith, p.0, p.1.0)))
 
-module _ (f : StatusFields) (field : StaticErrorBitField) (r a : Result ℕ PowerlinkError) (t t₁ t₂ : List ℕ)
-    (wrote : (r ≡ a) × (t₂ ≡ head_put a (head_bytes f field) t₁)) where
-  -- a list, then what stands in front
-  pub both_write : (es : List ErrorEntry) → Writes (status_bytes (take 14 t) es) a t t₁ → Writes (status_bytes (head_bytes f field) es) r t t₂
+-- a list, then what stands in front, or a list that was refused
+module _ (f : StatusFields) (field : StaticErrorBitField) (es : List ErrorEntry) (t t₁ : List ℕ) where
+  pub head_written : (n : ℕ) → Writes (status_bytes (take 14 t) es) (Ok n) t t₁
+      → Writes (status_bytes (head_bytes f field) es) (Ok n) t (sets t₁ 0 (head_bytes f field))
   unfolding head_bytes field_bytes
-  both_write es w = rw wrote.0 (head_writes es t (head_bytes f field) a t₁ t₂ refl w wrote.1)
+  head_written n w = head_writes es t (head_bytes f field) n t₁ refl w
 
--- the cases of `head_put`
-pub head_put_lem : (a : Result ℕ PowerlinkError) (m : ℕ) (h head t t₁ : List ℕ) → a ≡ Ok m → h ≡ head → t₁ ≡ sets t 0 h
-    → (Ok m ≡ a) × (t₁ ≡ head_put a head t)
-head_put_lem a m h head t t₁ ea eh e = rw (ea, ← eh) (refl, e)
-
-pub head_left : (a : Result ℕ PowerlinkError) (e : PowerlinkError) (head t : List ℕ) → a ≡ Err e → (Err e ≡ a) × (t ≡ head_put a head t)
-head_left a e head t ea = rw ea (refl, refl)
+  pub head_refused : (e : PowerlinkError) → Writes (status_bytes (take 14 t) es) (Err e) t t₁ → Writes (status_bytes (head_bytes f field) es) (Err e) t t₁
+  unfolding head_bytes field_bytes
+  head_refused e w = head_none es t (head_bytes f field) e t₁ refl w

@@ -1,13 +1,11 @@
 -- The static error bit field (EPSG DS 301, 6.5.8.1): octet 0 error register, 1 to 7 specific errors.
 -- Assumes nothing.
-use Rattle.std.specs.Prelude.{ℕ, List, [], ◌∷◌, ◌≡◌, length, get_or, leb}
+use Rattle.std.specs.Prelude.{ℕ, List, [], ◌∷◌, ◌≡◌, length, get_or, leb, Result, Ok, Err}
 use Rattle.types.specs.CauseNumbers.{too_short}
 use Rattle.types.specs.Causes.{Cause, row, cause_of}
 use Rattle.types.specs.Codes.{need}
 use Rattle.types.specs.declared.hal.PowerlinkError.TheVariants.{BufferTooShort}
-use Rattle.status_response.specs.declared.bit_field.DeserializedErrorField.{DeserializedErrorField}
-use Rattle.status_response.specs.declared.bit_field.ErrorFieldAnswer.{ErrorFieldAnswer}
-use Rattle.status_response.specs.declared.bit_field.ErrorFieldAnswer.TheVariants.{Read, Refused}
+use Rattle.types.specs.declared.hal.PowerlinkError.{PowerlinkError}
 use Rattle.status_response.specs.declared.bit_field.StaticErrorBitField.{StaticErrorBitField}
 
 -- octets past the end count as 0
@@ -25,15 +23,18 @@ field_bytes f =
     ∷ get_or f.specific_errors 6 0 ∷ []
 
 -- 8 octets are needed
-abbrev pub read_field : List ℕ → DeserializedErrorField
-read_field s = record { field = field_of s; answer = need (leb 8 (length s)) (Refused BufferTooShort) Read }
+abbrev pub read_field : List ℕ → Result StaticErrorBitField PowerlinkError
+read_field s = need (leb 8 (length s)) (Err BufferTooShort) (Ok (field_of s))
 
--- 01's number for each case: 0 for what is read
-abbrev pub field_cause : ErrorFieldAnswer → Cause
-field_cause Read = row 0 []
-field_cause (Refused e) = cause_of e
+-- 01's number and values for each case: 0 for what is read
+abbrev pub read_cause : {A : Type 0} → Result A PowerlinkError → Cause
+read_cause (Ok x) = row 0 []
+read_cause (Err e) = cause_of e
 
--- r is what reading the error field from the octets s gives, with 01's number
-pub record ReadsField (s : List ℕ) (r : DeserializedErrorField) : Type 0 where
-  pub read : r ≡ read_field s
-  pub cause : field_cause r.answer ≡ need (leb 8 (length s)) (row too_short []) (row 0 [])
+abbrev pub field_cause : Result StaticErrorBitField PowerlinkError → Cause
+field_cause r = read_cause r
+
+-- r is what reading the error field from the octets s answers, with 01's number
+pub record ReadsField (s : List ℕ) (r : Result StaticErrorBitField PowerlinkError) : Type 0 where
+  pub answer : r ≡ read_field s
+  pub cause : field_cause r ≡ need (leb 8 (length s)) (row too_short []) (row 0 [])

@@ -5,8 +5,7 @@ use Rattle.types.specs.Causes.{row, cause_of}
 use Rattle.types.specs.declared.hal.PowerlinkError.{PowerlinkError}
 use Rattle.status_response.specs.BitField.{field_cause}
 use Rattle.status_response.specs.Fields.{status_cause}
-use Rattle.status_response.specs.declared.bit_field.ErrorFieldAnswer.{ErrorFieldAnswer}
-use Rattle.status_response.specs.declared.bit_field.ErrorFieldAnswer.TheVariants as field
+use Rattle.status_response.specs.declared.bit_field.StaticErrorBitField.{StaticErrorBitField}
 use Rattle.status_response.specs.declared.fields.StatusFields.{StatusFields}
 
 pub record CausesTell : Type 0 where
@@ -15,6 +14,8 @@ pub record CausesTell : Type 0 where
   pub no_status : (e : PowerlinkError) → status_cause (Err e) ≡ cause_of e
   pub statuses_apart : (d e : PowerlinkError) → status_cause (Err d) ≡ status_cause (Err e) → d ≡ e
   pub status_or_not : (f : StatusFields) (e : PowerlinkError) → status_cause (Ok f) ≡ status_cause (Err e) → ⊥
-  pub error_field : field_cause field.Read ≡ row 0 []
-  pub no_error_field : (e : PowerlinkError) → field_cause (field.Refused e) ≡ cause_of e
-  pub error_fields_apart : (a b : ErrorFieldAnswer) → field_cause a ≡ field_cause b → a ≡ b
+  -- and so is the error field
+  pub error_field : (f : StaticErrorBitField) → field_cause (Ok f) ≡ row 0 []
+  pub no_error_field : (e : PowerlinkError) → field_cause (Err e) ≡ cause_of e
+  pub error_fields_apart : (d e : PowerlinkError) → field_cause (Err d) ≡ field_cause (Err e) → d ≡ e
+  pub error_field_or_not : (f : StaticErrorBitField) (e : PowerlinkError) → field_cause (Ok f) ≡ field_cause (Err e) → ⊥

@@ -2,15 +2,15 @@
 -- Assumes nothing.
 use Rattle.std.specs.Prelude.{ℕ, ◌+◌, List, [], ◌∷◌, ◌++◌, ◌≡◌, length, get_or, drop, leb, Result, Ok, Err}
 use Rattle.octets.specs.Numbers.{bit}
-use Rattle.types.specs.CauseNumbers.{too_short, unknown_state}
+use Rattle.types.specs.CauseNumbers.{too_short}
 use Rattle.types.specs.Causes.{Cause, row, cause_of}
 use Rattle.types.specs.Codes.{need}
 use Rattle.types.specs.PollFlags.{poll_octet, priority_at, requests_at}
 use Rattle.types.specs.States.{state_code, state_of}
-use Rattle.types.specs.declared.hal.PowerlinkError.TheVariants.{BufferTooShort, InvalidNmtState}
+use Rattle.types.specs.declared.hal.PowerlinkError.TheVariants.{BufferTooShort}
 use Rattle.types.specs.declared.states.NmtState.{NmtState}
 use Rattle.section.specs.Write.{at_bit}
-use Rattle.status_response.specs.BitField.{field_of, field_bytes}
+use Rattle.status_response.specs.BitField.{field_of, field_bytes, read_cause}
 use Rattle.status_response.specs.declared.bit_field.StaticErrorBitField.{StaticErrorBitField}
 use Rattle.status_response.specs.declared.fields.DeserializedStatus.{DeserializedStatus}
 use Rattle.status_response.specs.declared.fields.StatusFields.{StatusFields}
@@ -39,7 +39,7 @@ fields_of s state =
     }
 
 abbrev pub status_by_state : List ℕ → Result NmtState PowerlinkError → Result StatusFields PowerlinkError
-status_by_state s (Err (InvalidNmtState b)) = Err (InvalidNmtState b)
+status_by_state s (Err e) = Err e
 status_by_state s (Ok state) = Ok (fields_of s state)
 
 -- all octets are needed, then a state
@@ -48,12 +48,11 @@ read_fields s = need (leb front_length (length s)) (Err BufferTooShort) (status_
 
 -- 01's number and values for each case: 0 for what is read
 abbrev pub status_cause : Result StatusFields PowerlinkError → Cause
-status_cause (Ok f) = row 0 []
-status_cause (Err e) = cause_of e
+status_cause r = read_cause r
 
 -- that row, by the state that was read
 abbrev pub row_by_state : Result NmtState PowerlinkError → Cause
-row_by_state (Err (InvalidNmtState b)) = row unknown_state (b ∷ [])
+row_by_state (Err e) = cause_of e
 row_by_state (Ok state) = row 0 []
 
 abbrev pub fields_row : List ℕ → Cause
@@ -64,14 +63,19 @@ pub record ReadsFields (s : List ℕ) (r : Result StatusFields PowerlinkError) :
   pub answer : r ≡ read_fields s
   pub cause : status_cause r ≡ fields_row s
 
+-- the fields with an error field beside them
+abbrev pub with_field : StaticErrorBitField → Result StatusFields PowerlinkError → Result DeserializedStatus PowerlinkError
+with_field field (Ok f) = Ok (record { fields = f; static_error_bit_field = field })
+with_field field (Err e) = Err e
+
 -- octets 6 to 13 are the error field
-abbrev pub read_status : List ℕ → DeserializedStatus
-read_status s = record { static_error_bit_field = field_of (drop 6 s); answer = read_fields s }
+abbrev pub read_status : List ℕ → Result DeserializedStatus PowerlinkError
+read_status s = with_field (field_of (drop 6 s)) (read_fields s)
 
 -- as `ReadsFields`, with the error field
-pub record ReadsStatusResponse (s : List ℕ) (r : DeserializedStatus) : Type 0 where
-  pub read : r ≡ read_status s
-  pub cause : status_cause r.answer ≡ fields_row s
+pub record ReadsStatusResponse (s : List ℕ) (r : Result DeserializedStatus PowerlinkError) : Type 0 where
+  pub answer : r ≡ read_status s
+  pub cause : read_cause r ≡ fields_row s
 
 -- octets 3 to 5 are reserved
 unfoldable pub head_bytes : StatusFields → StaticErrorBitField → List ℕ

@@ -35,11 +35,6 @@ entries_put es t (suc i) = sets (entries_put es t i) (entry_place i) (entry_byte
 abbrev pub terminated : ℕ → List ℕ → List ℕ
 terminated n t = pick (entries_fit n (length t)) (sets t (entry_place n) (replicate entry_length 0)) t
 
--- the target once what stands in front is put, where the list behind it was written
-abbrev pub head_put : Result ℕ PowerlinkError → List ℕ → List ℕ → List ℕ
-head_put (Ok n) head t = sets t 0 head
-head_put (Err e) head t = t
-
 -- n entries, one after the other, terminators in the place of those that are not there whole
 abbrev pub batch_of : ℕ → List ℕ → List ErrorEntry
 batch_of zero s = []

@@ -5,7 +5,7 @@ use Rattle.error_entry.specs.ReadBack.{InRange}
 use Rattle.error_entry.specs.declared.ErrorEntry.{ErrorEntry}
 use Rattle.status_response.specs.BitField.{field_of}
 use Rattle.status_response.specs.Fields.{front_length, head_bytes, read_fields}
-use Rattle.status_response.specs.Steps.{status_bytes, status_entries, step_at, unless_terminator}
+use Rattle.status_response.specs.Steps.{status_bytes, entries_from, status_entries, step_at, unless_terminator}
 use Rattle.status_response.specs.declared.bit_field.StaticErrorBitField.{StaticErrorBitField}
 use Rattle.status_response.specs.declared.fields.StatusFields.{StatusFields}
 
@@ -33,6 +33,8 @@ EachInRange (e ∷ es) = InRange e × EachInRange es
 pub record StatusReadsBack : Type 0 where
   -- the steps from the front's end on find the entries of a payload, and end by themselves: any more steps find nothing more
   pub steps : (n : ℕ) (s : List ℕ) → length s ≤ n → walked n s front_length ≡ status_entries s
+  -- and so does the walk that is an iterator, which yields the entries from its offset on
+  pub walk : (s : List ℕ) → entries_from s front_length ≡ status_entries s
   -- above 7 rs counts as 7
   pub fields : (f : StatusFields) (field : StaticErrorBitField) (es : List ErrorEntry) (behind : List ℕ) → f.rs.0 ≤ 7
       → read_fields (status_bytes (head_bytes f field) es ++ behind) ≡ Ok f

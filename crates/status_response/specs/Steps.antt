@@ -14,7 +14,11 @@ entries_in (suc n) s =
     need (leb entry_length (length s)) []
     (unless_terminator (entry_of s).entry_type.mode (entry_of s ∷ entries_in n (drop entry_length s)) [])
 
--- the entries of a payload; it has too few octets for more than this bound
+-- the entries of a payload from an offset on; it has too few octets for more than this bound
+unfoldable pub entries_from : List ℕ → ℕ → List ErrorEntry
+entries_from s offset = entries_in (length s) (drop offset s)
+
+-- the entries of a payload
 unfoldable pub status_entries : List ℕ → List ErrorEntry
 status_entries s = entries_in (length s) (drop front_length s)
 

@@ -14,29 +14,19 @@ pub struct StaticErrorBitField {
     pub specific_errors: [u8; 7],
 }
 
-#[derive(Clone, Copy, Debug, PartialEq, Eq)]
-pub enum ErrorFieldAnswer {
-    Read,
-    Refused(PowerlinkError),
-}
-
-// The field stands beside the answer; where it is refused, octets past the end count as 0.
-#[derive(Clone, Copy, Debug, PartialEq, Eq)]
-pub struct DeserializedErrorField {
-    pub field: StaticErrorBitField,
-    pub answer: ErrorFieldAnswer,
-}
+// The octets of the field.
+pub const FIELD_LEN: usize = 8;
 
 impl StaticErrorBitField {
-    // The field that 8 octets are.
-    pub fn from_bytes(octets: &[u8; 8]) -> StaticErrorBitField
+    // The field that 8 octets are. This and `to_bytes` are no `From`: their names say which end of a conversion is octets.
+    pub fn from_bytes(octets: &[u8; FIELD_LEN]) -> StaticErrorBitField
         ensures { result ≡ field_of octets.now }
     {
         field_in(octets)
     }
 
     // The 8 octets of the field.
-    pub fn to_bytes(self) -> [u8; 8]
+    pub fn to_bytes(self) -> [u8; FIELD_LEN]
         ensures { result ≡ field_bytes self }
     {
         let s = self.specific_errors;
@@ -60,20 +50,13 @@ impl StaticErrorBitField {
     }
 
     // Reads the first 8 octets.
-    pub fn deserialize(buffer: &[u8]) -> DeserializedErrorField
+    pub fn deserialize(buffer: &[u8]) -> Result<StaticErrorBitField, PowerlinkError>
         ensures { ReadsField buffer.now result }
     {
-        let field = field_at(buffer);
-        if buffer.len() < 8 {
-            return DeserializedErrorField {
-                field,
-                answer: ErrorFieldAnswer::Refused(PowerlinkError::BufferTooShort),
-            };
+        if buffer.len() < FIELD_LEN {
+            return Err(PowerlinkError::BufferTooShort);
         }
-        DeserializedErrorField {
-            field,
-            answer: ErrorFieldAnswer::Read,
-        }
+        Ok(field_in(buffer))
     }
 }
 
@@ -91,13 +74,13 @@ fn field_in(buffer: &[u8]) -> StaticErrorBitField
 }
 
 // The field that the first 8 octets are, those past the end counting as 0.
-pub(crate) fn field_at(s: &[u8]) -> StaticErrorBitField
+pub fn field_at(s: &[u8]) -> StaticErrorBitField
     ensures { result ≡ field_of s.now }
 {
-    if 8 <= s.len() {
+    if FIELD_LEN <= s.len() {
         return field_in(s);
     }
-    let mut padded = [0u8; 8];
+    let mut padded = [0u8; FIELD_LEN];
     put(&mut padded, 0, s);
     field_in(&padded)
 }

@@ -7,7 +7,7 @@ ghost use Rattle.section.specs.Write.{Writes};
 ghost use Rattle.error_entry.specs.Entry.{entry_length, entry_bytes};
 ghost use Rattle.status_response.specs.Fields.{front_length, head_bytes};
 ghost use Rattle.status_response.specs.Given.{WritesWhole};
-ghost use Rattle.status_response.specs.Parts.{entries_answer, entries_fit, entries_put, entry_place, head_put, terminated};
+ghost use Rattle.status_response.specs.Parts.{entries_answer, entries_fit, entries_put, entry_place, terminated};
 ghost use Rattle.status_response.specs.Steps.{status_bytes, status_length};
 
 use crate::bit_field::StaticErrorBitField;
@@ -44,7 +44,7 @@ fn put_entry(e: ErrorEntry, i: usize, target: &mut [u8])
     ensures { target.new ≡ sets target.old (entry_place i) (entry_bytes e) }
 {
     let at = FRONT_LEN + ENTRY_LEN * i;
-    e.serialize(&mut target[at..at + ENTRY_LEN]);
+    let _ = e.serialize(&mut target[at..at + ENTRY_LEN]);
 }
 
 // Writes the terminator behind `n` entries.
@@ -70,15 +70,12 @@ fn finish(n: usize, target: &mut [u8]) -> Result<usize, PowerlinkError>
 }
 
 // Writes each entry at its place.
-fn write_entries(entries: &[ErrorEntry], target: &mut [u8])
+pub(crate) fn write_entries(entries: &[ErrorEntry], target: &mut [u8])
     requires { status_length (length entries.now) ≤ length target.old }
     ensures { target.new ≡ entries_put entries.now target.old (length entries.now) }
 {
-    let n = entries.len();
-    let mut i = 0usize;
-    while i < n {
-        put_entry(entries[i], i, target);
-        i = i + 1;
+    for (i, entry) in entries.iter().enumerate() {
+        put_entry(*entry, i, target);
     }
 }
 
@@ -94,25 +91,8 @@ fn write_list(entries: &[ErrorEntry], target: &mut [u8]) -> Result<usize, Powerl
     finish(n, target)
 }
 
-// Writes what stands in front where the list was written, and hands its answer on.
-fn put_head(
-    fields: StatusFields,
-    field: StaticErrorBitField,
-    answer: Result<usize, PowerlinkError>,
-    target: &mut [u8],
-) -> Result<usize, PowerlinkError>
-    ensures { (result ≡ answer) × (target.new ≡ head_put answer (head_bytes fields field) target.old) }
-{
-    match answer {
-        Ok(n) => {
-            put(target, 0, &fields.to_bytes(field));
-            Ok(n)
-        }
-        Err(e) => Err(e),
-    }
-}
-
-// Writes the payload of a StatusResponse, if it fits.
+// Writes the payload of a StatusResponse, if it fits: what stands in front last, so that a refusal has touched nothing.
+// The fields and the error field come apart, as who answers and C have them: a struct of both would be made for the call alone.
 pub fn serialize(
     fields: StatusFields,
     field: StaticErrorBitField,
@@ -121,34 +101,12 @@ pub fn serialize(
 ) -> Result<usize, PowerlinkError>
     ensures { Writes (status_bytes (head_bytes fields field) entries.now) result target.old target.new }
 {
-    let answer = write_list(entries, target);
-    put_head(fields, field, answer, target)
+    let len = write_list(entries, target)?;
+    put(target, 0, &fields.to_bytes(field));
+    Ok(len)
 }
 
-// The first entries of a batch, lent to the writer of entries.
-pub(crate) fn put_batch(batch: [ErrorEntry; 4], n: usize, target: &mut [u8])
-    requires { (n ≤ 4) × (status_length n ≤ length target.old) }
-    ensures { target.new ≡ entries_put (take n batch) target.old n }
-{
-    write_entries(&batch[..n], target)
-}
-
-// The first entries of a batch, lent to the writer.
-fn lend_batch(
-    fields: StatusFields,
-    field: StaticErrorBitField,
-    batch: [ErrorEntry; 4],
-    n: usize,
-    target: &mut [u8],
-) -> Result<usize, PowerlinkError>
-    requires { n ≤ 4 }
-    ensures { Writes (status_bytes (head_bytes fields field) (take n batch)) result target.old target.new }
-{
-    serialize(fields, field, &batch[..n], target)
-}
-
-// The same as `serialize`, of the first `n` entries of a batch: whoever calls it needs no slice of entries. A batch that has
-// fewer is too short.
+// The same as `serialize`, of the first `n` entries of a batch. A batch that has fewer is too short.
 pub fn serialize_batch(
     fields: StatusFields,
     field: StaticErrorBitField,
@@ -161,5 +119,5 @@ pub fn serialize_batch(
     if 4 < n {
         return Err(PowerlinkError::BufferTooShort);
     }
-    lend_batch(fields, field, batch, n, target)
+    serialize(fields, field, &batch[..n], target)
 }

@@ -15,6 +15,9 @@ pub const FRONT_LEN: usize = 14;
 // Where the state stands.
 pub const STATE_AT: usize = 2;
 
+// Where the error field stands.
+const FIELD_AT: usize = 6;
+
 // The bits of EN and EC in octet 0: 5 and 4 (docs/DIFFERENCES.md: others read 4 and 3).
 pub const EN: u8 = 0x20;
 
@@ -32,34 +35,33 @@ pub struct StatusFields {
     pub nmt_state: NmtState,
 }
 
-// The error field stands beside the answer; where the payload is refused, octets past the end count as 0.
+// All of it.
 #[derive(Clone, Copy, Debug, PartialEq, Eq)]
 pub struct DeserializedStatus {
+    pub fields: StatusFields,
     pub static_error_bit_field: StaticErrorBitField,
-    pub answer: Result<StatusFields, PowerlinkError>,
 }
 
 // Reads what stands in front of the entries.
-pub fn deserialize(payload: &[u8]) -> DeserializedStatus
+pub fn deserialize(payload: &[u8]) -> Result<DeserializedStatus, PowerlinkError>
     ensures { ReadsStatusResponse payload.now result }
 {
-    DeserializedStatus {
-        static_error_bit_field: field_at(tail(payload, 6)),
-        answer: read_fields(payload),
-    }
+    let fields = read_fields(payload)?;
+    Ok(DeserializedStatus {
+        fields,
+        static_error_bit_field: field_at(tail(payload, FIELD_AT)),
+    })
 }
 
-// The answer alone: for a caller that does not want the error field.
+// The fields alone: for a caller that does not want the error field.
 pub fn read_fields(payload: &[u8]) -> Result<StatusFields, PowerlinkError>
     ensures { ReadsFields payload.now result }
 {
     if payload.len() < FRONT_LEN {
         return Err(PowerlinkError::BufferTooShort);
     }
-    match NmtState::try_from(payload[2]) {
-        Err(PowerlinkError::InvalidNmtState(b)) => Err(PowerlinkError::InvalidNmtState(b)),
-        Ok(state) => Ok(fields(payload, state)),
-    }
+    let state = NmtState::try_from(payload[STATE_AT])?;
+    Ok(fields(payload, state))
 }
 
 // The fields of a payload that has passed the tests.

@@ -2,6 +2,7 @@
 -- Assumes nothing.
 use Prim.Native.Nat.{ℕ}
 use mathlib.Core.Path.{◌≡◌, refl, ap, ◌∙◌}
+use mathlib.Core.Bool.{false}
 use mathlib.Core.List.{List}
 use native.Mathlib.Omega.{arith}
 use lib.Dec.{eqb, ltb}
@@ -67,14 +68,17 @@ error_told_lem (InvalidServiceId o) b = refl
 error_told_lem (InvalidRequestedServiceId o) b = refl
 
 -- no error has the number 0
+pub no_0 : (e : PowerlinkError) → eqb (cause_of e).number 0 ≡ false
+no_0 BufferTooShort = refl
+no_0 InvalidEthernetFrame = refl
+no_0 InvalidPlFrame = refl
+no_0 (InvalidMessageType o) = refl
+no_0 (InvalidNmtState o) = refl
+no_0 (InvalidServiceId o) = refl
+no_0 (InvalidRequestedServiceId o) = refl
+
 pub not_0 : {A : Type 0} (e : PowerlinkError) (a b : A) → pick (eqb (cause_of e).number 0) a b ≡ b
-not_0 BufferTooShort a b = refl
-not_0 InvalidEthernetFrame a b = refl
-not_0 InvalidPlFrame a b = refl
-not_0 (InvalidMessageType o) a b = refl
-not_0 (InvalidNmtState o) a b = refl
-not_0 (InvalidServiceId o) a b = refl
-not_0 (InvalidRequestedServiceId o) a b = refl
+not_0 e a b = rw (no_0 e)
 
 -- and none a number above 7
 pub below_8 : {A : Type 0} (e : PowerlinkError) (a b : A) → pick (ltb (cause_of e).number 8) a b ≡ a

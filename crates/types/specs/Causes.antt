@@ -1,6 +1,6 @@
 -- 01's table of causes, for the errors of frames: the number of each, and what is returned with it.
 -- Assumes nothing.
-use Rattle.std.specs.Prelude.{ℕ, List, [], ◌∷◌, get_or, eqb}
+use Rattle.std.specs.Prelude.{ℕ, List, [], ◌∷◌, eqb, Option, Some, None}
 use Rattle.types.specs.Codes.{pick}
 use Rattle.types.specs.CauseNumbers.{too_short, not_powerlink, invalid_frame, unknown_message, unknown_state, unknown_service, unknown_request}
 use Rattle.types.specs.declared.hal.PowerlinkError.{PowerlinkError}
@@ -26,9 +26,13 @@ cause_of (InvalidRequestedServiceId b) = row unknown_request (b ∷ [])
 abbrev pub cause_number : PowerlinkError → ℕ
 cause_number e = (cause_of e).number
 
--- the octet, or 0 where the table returns the number alone
-abbrev pub cause_byte : PowerlinkError → ℕ
-cause_byte e = get_or (cause_of e).returned 0 0
+abbrev pub first : List ℕ → Option ℕ
+first [] = None
+first (b ∷ bs) = Some b
+
+-- the octet, where the table does not return the number alone
+abbrev pub cause_byte : PowerlinkError → Option ℕ
+cause_byte e = first (cause_of e).returned
 
 -- and back: the error of a number, 1 to 7, with the octet that is returned
 abbrev pub error_told : ℕ → ℕ → PowerlinkError

@@ -35,18 +35,18 @@ impl PowerlinkError {
         }
     }
 
-    // The octet that 01's table returns with the number, and 0 where it returns the number alone.
-    pub fn byte(self) -> u8
+    // The octet that 01's table returns with the number, where it does not return the number alone.
+    pub fn byte(self) -> Option<u8>
         ensures { result ≡ cause_byte self }
     {
         match self {
-            PowerlinkError::BufferTooShort => 0,
-            PowerlinkError::InvalidEthernetFrame => 0,
-            PowerlinkError::InvalidPlFrame => 0,
-            PowerlinkError::InvalidMessageType(b) => b,
-            PowerlinkError::InvalidNmtState(b) => b,
-            PowerlinkError::InvalidServiceId(b) => b,
-            PowerlinkError::InvalidRequestedServiceId(b) => b,
+            PowerlinkError::BufferTooShort => None,
+            PowerlinkError::InvalidEthernetFrame => None,
+            PowerlinkError::InvalidPlFrame => None,
+            PowerlinkError::InvalidMessageType(b) => Some(b),
+            PowerlinkError::InvalidNmtState(b) => Some(b),
+            PowerlinkError::InvalidServiceId(b) => Some(b),
+            PowerlinkError::InvalidRequestedServiceId(b) => Some(b),
         }
     }
 }

@@ -2,34 +2,39 @@
 -- Assumes nothing.
 use Prim.Native.Nat.{ℕ}
 use mathlib.Core.Path.{refl, sym, ap, ◌∙◌}
-use native.Mathlib.Omega.{arith}
+use Rattle.std.specs.Prelude.{is_some}
+use borrow.Author.Tests.{ltb-true, ltb-false}
 use Rattle.collector.specs.Layout.{placed_bytes}
 use Rattle.collector.proofs.AnswerLaws.{register_bad, register_known, register_full, register_new}
 use Rattle.collector.proofs.CallLaws.{registers, registers_none}
+use Rattle.collector.proofs.IdLaws.{found_is, found_not, found_any}
 use Rattle.collector.proofs.register.Goals as goal
 
 pub returns-then-not-is_cn : goal.returns-then-not-is_cn
 returns-then-not-is_cn c =
     let a = c.args in
-    registers_none a.id a.state.now (register_bad a.state.now a.id.0 (sym c.is_cn.ensures ∙ c.if-not-is_cn.true))
+    registers_none a.id a.state.now (register_bad a.state.now a.id.0 (sym c.if-not-is_cn.ensures))
 
-pub returns-then-find-lt-NODES : goal.returns-then-find-lt-NODES
-returns-then-find-lt-NODES c =
+pub returns-then-is_some : goal.returns-then-is_some
+returns-then-is_some c =
     let a = c.args in
-    registers a.id _ a.state.now _ c.find.ensures.2
-    (register_known a.state.now a.id.0 (sym c.is_cn.ensures ∙ c.if-not-is_cn.false) (omega (arith, c.find.ensures.0)))
+    registers a.id _ a.state.now _ c.told-state
+    (register_known a.state.now a.id.0 (sym c.if-not-is_cn.ensures) (ltb-true _ _ (sym (found_any _ _ (c.if-is_some.ensures ∙ ap is_some c.find.ensures)))))
     refl
 
-pub returns-then-k-ge-NODES : goal.returns-then-k-ge-NODES
-returns-then-k-ge-NODES c =
+pub returns-in_default : goal.returns-in_default
+returns-in_default c =
     let a = c.args in
-    registers a.id _ a.state.now _ c.find.ensures.2
-    (register_full a.state.now a.id.0 (sym c.is_cn.ensures ∙ c.if-not-is_cn.false) (omega (arith, c.find.ensures.0)) (omega (arith, c.find-k.ensures.0)))
+    registers a.id _ a.state.now _ c.told-state
+    (register_full a.state.now a.id.0 (sym c.if-not-is_cn.ensures)
+    (ltb-false _ _ (sym (found_any _ _ (c.if-is_some.ensures ∙ ap is_some c.find.ensures)))) (found_not _ c.in_default.ensures))
     refl
 
 pub returns : goal.returns
 returns c =
     let a = c.args in
-    registers a.id _ a.state.now _ c.find.ensures.2
-    (register_new a.state.now a.id.0 (sym c.is_cn.ensures ∙ c.if-not-is_cn.false) (omega (arith, c.find.ensures.0)) (omega (arith, c.find-k.ensures.0)))
-    (c.place_node.ensures ∙ ap (λ (k : ℕ). placed_bytes a.state.now k a.id.0) c.find-k.ensures.0)
+    let at = found_is _ _ c.in-Some.ensures in
+    registers a.id _ a.state.now _ c.told-state
+    (register_new a.state.now a.id.0 (sym c.if-not-is_cn.ensures)
+    (ltb-false _ _ (sym (found_any _ _ (c.if-is_some.ensures ∙ ap is_some c.find.ensures)))) at.1)
+    (c.place_node.ensures ∙ ap (λ (k : ℕ). placed_bytes a.state.now k a.id.0) (sym at.0))

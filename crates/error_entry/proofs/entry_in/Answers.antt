@@ -8,9 +8,9 @@ unfolding entry_of
 returns c =
     rw (
       c.from-entry_type.ensures,
-      c.get_u16_le.ensures,
-      c.get_u16_le-2.ensures,
-      c.get_u32_le.ensures,
-      c.get_u32_le-2.ensures,
-      c.get_u64_le.ensures,
+      c.get_le.ensures,
+      c.get_le-2.ensures,
+      c.get_le-3.ensures,
+      c.get_le-4.ensures,
+      c.get_le-5.ensures,
     )

@@ -16,8 +16,8 @@ some (suc n) h = refl
 
 pub returns-then-n-eq0 : goal.returns-then-n-eq0
 returns-then-n-eq0 c =
-    none _ c.if-n-eq0.true ∙ ap answer_length (c.carried-n.ensures.0 ∙ sym (carried_length c.args.state.now))
+    none _ c.if-n-eq0.true ∙ ap answer_length (c.carried-n.ensures ∙ sym (carried_length c.args.state.now))
 
 pub returns-else-n-eq0 : goal.returns-else-n-eq0
 returns-else-n-eq0 c =
-    some _ c.if-n-eq0.false ∙ ap answer_length (c.carried-n.ensures.0 ∙ sym (carried_length c.args.state.now))
+    some _ c.if-n-eq0.false ∙ ap answer_length (c.carried-n.ensures ∙ sym (carried_length c.args.state.now))

@@ -2,36 +2,32 @@
 -- Assumes nothing.
 use borrow.Author.Rules.{rules}
 use mathlib.Core.Path.{sym, ◌∙◌}
-use borrow.Author.Tests.{ltb-true}
-use Rattle.reporter.proofs.CallLaws.{raise_invalid, raise_status, raise_full, raise_good, invalid, status, full, raised}
+use Rattle.reporter.proofs.CallLaws.{raise_invalid, raise_status, raise_full, raise_good, not_raised, raised}
 use Rattle.reporter.proofs.raise.Goals as goal
 
 pub returns-then-not-raisable : goal.returns-then-not-raisable
 returns-then-not-raisable c =
     let a = c.args in
     let s = a.state.now in
-    invalid a.entry s (search rules) (raise_invalid a.entry s _ c.raisable.ensures c.if-not-raisable.true)
+    not_raised a.entry s (search rules) _ (raise_invalid a.entry s _ c.raisable.ensures c.if-not-raisable.true)
 
 pub returns-then-entry : goal.returns-then-entry
 returns-then-entry c =
     let a = c.args in
     let s = a.state.now in
-    status a.entry s (search rules) (raise_status a.entry s _ c.raisable.ensures c.if-not-raisable.false (rw c.if-entry.true))
+    not_raised a.entry s (search rules) _ (raise_status a.entry s _ c.raisable.ensures c.if-not-raisable.false (rw c.if-entry.true))
 
 pub returns-then-not-has_room : goal.returns-then-not-has_room
 returns-then-not-has_room c =
     let a = c.args in
     let s = a.state.now in
-    full a.entry s (search rules)
+    not_raised a.entry s (search rules) _
     (raise_full a.entry s _ c.raisable.ensures c.if-not-raisable.false (rw c.if-entry.false) (sym c.has_room.ensures ∙ c.if-not-has_room.true))
-
-pub push-requires : goal.push-requires
-push-requires c = ltb-true _ _ (sym c.has_room.ensures ∙ c.if-not-has_room.false)
 
 pub returns : goal.returns
 returns c =
     let a = c.args in
     let s = a.state.now in
-    raised a.entry s (search rules) _ c.push.ensures.1
+    raised a.entry s (search rules) _ (search rules)
     (raise_good a.entry s _ c.raisable.ensures c.if-not-raisable.false (rw c.if-entry.false) (sym c.has_room.ensures ∙ c.if-not-has_room.false))
-    c.push.ensures.0
+    c.push.ensures

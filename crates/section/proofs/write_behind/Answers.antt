@@ -19,13 +19,6 @@ put_behind-requires c =
     let a = c.args in
     room a.front.now a.header.now a.payload.now (length a.target.now) (sym c.fits.ensures ∙ c.if-not-fits.false)
 
-pub overflow_add-result : goal.overflow_add-result
-overflow_add-result c =
-    let a = c.args in
-    let e = behind_length a.front.now a.header.now a.payload.now in
-    let enough = room a.front.now a.header.now a.payload.now (length a.target.now) (sym c.fits.ensures ∙ c.if-not-fits.false) in
-    omega (arith, c.padded_len.ensures)
-
 pub returns : goal.returns
 returns c =
     let a = c.args in

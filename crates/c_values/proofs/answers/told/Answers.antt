@@ -2,10 +2,10 @@
 -- Assumes nothing.
 use Rattle.c_values.proofs.answers.told.Goals as goal
 
-pub returns-in-Written : goal.returns-in-Written
-returns-in-Written c = let e = c.in-Written.is in record { value = rw e; written_after = rw e; octet_after = rw e }
+pub returns-in-Ok : goal.returns-in-Ok
+returns-in-Ok c = let e = c.in-Ok.is in record { value = rw e; written_after = rw e; octet_after = rw e }
 
-pub returns-in-Refused : goal.returns-in-Refused
-returns-in-Refused c =
-    let e = c.in-Refused.is in
+pub returns-in-Err : goal.returns-in-Err
+returns-in-Err c =
+    let e = c.in-Err.is in
     record { value = rw e c.refusal.ensures.value; written_after = rw e; octet_after = rw e c.refusal.ensures.octet_after }

@@ -9,7 +9,7 @@ pub returns-then-s-lt-FIELDS_LEN : goal.returns-then-s-lt-FIELDS_LEN
 returns-then-s-lt-FIELDS_LEN c = preq_short _ (omega arith)
 
 pub returns-then-s-len : goal.returns-then-s-len
-returns-then-s-len c = let k = payload_cut _ _ _ c.get_u16_le-size.ensures (omega arith) in search preq-laws
+returns-then-s-len c = let k = payload_cut _ _ _ c.get_le-size.ensures (omega arith) in search preq-laws
 
 pub returns : goal.returns
-returns c = let k = payload_fits _ _ _ c.get_u16_le-size.ensures (omega arith) in search preq-laws
+returns c = let k = payload_fits _ _ _ c.get_le-size.ensures (omega arith) in search preq-laws

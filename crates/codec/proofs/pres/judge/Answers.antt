@@ -13,10 +13,10 @@ pub returns-then-s : goal.returns-then-s
 returns-then-s c = search pres-laws
 
 pub returns-then-s-len : goal.returns-then-s-len
-returns-then-s-len c = let k = payload_cut _ _ _ c.get_u16_le-size.ensures (omega arith) in search pres-laws
+returns-then-s-len c = let k = payload_cut _ _ _ c.get_le-size.ensures (omega arith) in search pres-laws
 
 pub returns-in_err-nmt_state : goal.returns-in_err-nmt_state
 returns-in_err-nmt_state c = search pres-laws
 
 pub returns : goal.returns
-returns c = let k = payload_fits _ _ _ c.get_u16_le-size.ensures (omega arith) in search pres-laws
+returns c = let k = payload_fits _ _ _ c.get_le-size.ensures (omega arith) in search pres-laws

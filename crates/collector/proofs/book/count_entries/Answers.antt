@@ -1,30 +1,33 @@
--- `count_entries` meets its contract. The loop's invariant: n is how many of the entries before `at` are booked. The measure is what is left
--- of the payload.
+-- `count_entries` meets its contract.
 -- Assumes nothing.
-use mathlib.Core.Path.{sym, ap, ◌∙◌}
+use Prim.Native.Nat.{ℕ}
+use mathlib.Core.Path.{refl, ap, ◌∙◌}
+use mathlib.Core.Bool.{not}
+use mathlib.Core.List.{List}
+use mathlib.Core.Logic.{inl}
 use native.Mathlib.Omega.{arith}
 use lib.ListN.{length}
-use Rattle.collector.proofs.BookableLaws.{at_start, none_yet, so_far_few, all_found, one_more, next_inside, more_count}
+use denote.Ref.{Bor}
+use Rattle.std.proofs.Common.{rules, tests}
+use Rattle.std.proofs.lemmas.Iterator.Consumers.{count_from_yields_List, YieldsList-from_filter, YieldsList-from_first}
+use Rattle.error_entry.specs.declared.ErrorEntry.{ErrorEntry}
+use Rattle.status_response.specs.Steps.{entries_from, status_entries}
+use Rattle.status_response.specs.declared.walk.EntryWalk.{EntryWalk}
+use Rattle.collector.specs.Rules.{booked_entries}
+use Rattle.collector.proofs.BookableLaws.{bookable_filter}
+use Rattle.collector.proofs.WalkLaws.{entries_few}
 use Rattle.collector.proofs.book.count_entries.Goals as goal
 
-pub loop-e-init : goal.loop-e-init
-loop-e-init c = (at_start _, none_yet _)
+pub count-requires-clause-fits : goal.count-requires-clause-fits
+count-requires-clause-fits c =
+    inl (omega (arith, entries_few c.filter.result.iter.payload.now c.filter.result.iter.offset, ap (λ (w : EntryWalk). length w.payload.now) c.filter.ensures.source, ap (λ (s : Bor (List ℕ)). length s.now) c.new.ensures.0, c.well_formed))
 
-pub returns-in-End : goal.returns-in-End
-returns-in-End c =
-    c.loop-e.invariant.1 ∙ ap length (all_found c.loop-e.invariant.0 (sym c.step_from.ensures ∙ c.in-End.is))
-
-pub overflow_add-n : goal.overflow_add-n
-overflow_add-n c =
-    let found = sym c.step_from.ensures ∙ c.in-Entry.is in
-    omega (arith, so_far_few c.loop-e.invariant.0, (next_inside c.loop-e.invariant.0 _ _ found).1, c.loop-e.invariant.1, c.places_for-n.ensures.1, c.well_formed)
-
-pub loop-e-smaller : goal.loop-e-smaller
-loop-e-smaller c =
-    let found = sym c.step_from.ensures ∙ c.in-Entry.is in
-    omega (arith, next_inside c.loop-e.invariant.0 _ _ found)
-
-pub loop-e-preserved : goal.loop-e-preserved
-loop-e-preserved c =
-    let found = sym c.step_from.ensures ∙ c.in-Entry.is in
-    (one_more c.loop-e.invariant.0 _ _ found, more_count c.loop-e.invariant.0 _ _ found _ _ c.loop-e.invariant.1 c.places_for-n.ensures.0)
+pub returns : goal.returns
+unfolding booked_entries entries_from status_entries
+returns c =
+    let es : List ErrorEntry = status_entries c.args.payload.now in
+    count_from_yields_List _ _ c.count.ensures.ran
+    (YieldsList-from_filter _ (λ e. not e.entry_type.is_status_entry)
+    (YieldsList-from_first (λ e. e) (λ (w : EntryWalk). entries_from w.payload.now w.offset) es (rw (c.filter.ensures.source, c.new.ensures.0, c.new.ensures.1) refl))
+    c.filter.ensures.closure (λ x r q k. search (rules, tests)))
+    ∙ ap length (bookable_filter es)

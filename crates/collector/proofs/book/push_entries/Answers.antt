@@ -1,29 +1,19 @@
--- `push_entries` meets its contract. The loop's invariant: those of the entries before `at` that are booked have joined the book. The measure is
--- what is left of the payload.
+-- `push_entries` meets its contract.
 -- Assumes nothing.
-use mathlib.Core.Path.{sym, ap, ◌∙◌}
-use native.Mathlib.Omega.{arith}
-use Rattle.collector.specs.Layout.{pushed_all}
-use Rattle.collector.proofs.BookableLaws.{at_start, joined_none, all_found, one_more, more_fits, next_inside, more_joined}
+use mathlib.Core.Path.{sym}
+use Rattle.status_response.specs.Steps.{entries_from}
+use Rattle.collector.proofs.BookableLaws.{join_begin, join_end, join_one}
 use Rattle.collector.proofs.book.push_entries.Goals as goal
 
 pub loop-e-init : goal.loop-e-init
-loop-e-init c = (at_start _, joined_none _ _ _)
+loop-e-init c =
+    join_begin c.args.state.now c.args.block c.args.payload c.new-e-items.result c.into_iter-e-iterator.result c.into_iter-e-iterator.ensures.into_iter_gives
+    c.new-e-items.ensures c.requires
 
-pub returns-in-End : goal.returns-in-End
-returns-in-End c =
-    c.loop-e.invariant.1.0 ∙ ap (pushed_all _ _) (all_found c.loop-e.invariant.0 (sym c.step_from.ensures ∙ c.in-End.is))
+pub loop-e-preserved-then-takes_place : goal.loop-e-preserved-then-takes_place
+loop-e-preserved-then-takes_place c =
+    join_one c.args.block _ c.loop-e.state _ c.loop-e.invariant c.in-Some.e (entries_from c.next.new.self.payload.now c.next.new.self.offset)
+    c.in-Some.ensures.steps (sym c.if-takes_place.ensures) c.push.new.state c.push.ensures.0 c.push.ensures.1
 
-pub push_bookable-requires : goal.push_bookable-requires
-push_bookable-requires c =
-    let found = sym c.step_from.ensures ∙ c.in-Entry.is in
-    (omega (arith, c.requires.0), omega (arith, c.loop-e.invariant.1.1, more_fits c.loop-e.invariant.0 _ _ found, c.requires.1))
-
-pub loop-e-smaller : goal.loop-e-smaller
-loop-e-smaller c =
-    omega (arith, next_inside c.loop-e.invariant.0 _ _ (sym c.step_from.ensures ∙ c.in-Entry.is))
-
-pub loop-e-preserved : goal.loop-e-preserved
-loop-e-preserved c =
-    let found = sym c.step_from.ensures ∙ c.in-Entry.is in
-    (one_more c.loop-e.invariant.0 _ _ found, more_joined c.loop-e.invariant.0 _ _ found _ _ _ _ c.loop-e.invariant.1 c.push_bookable.ensures)
+pub returns : goal.returns
+returns c = join_end c.args.block _ c.loop-e.state _ c.loop-e.invariant c.in-None.ensures.steps.0

@@ -11,6 +11,6 @@ unfolding taken_bytes
 returns c =
     let a = c.args in (
       record_read a.state.now c.record_place.result _ _ (search rules) c.get.ensures.answer c.or_terminator-e.ensures
-          ∙ rw (c.record_place.ensures, c.start-first.ensures.0),
-      rw (c.count-n.ensures.0, c.start-first.ensures.0),
+          ∙ rw (c.record_place.ensures.0, c.start-first.ensures.0),
+      c.set_octet-2.ensures ∙ rw (c.set_octet.ensures, c.count-n.ensures.0, c.start-first.ensures.0),
     )

@@ -1,28 +1,25 @@
 -- `read_status` meets its contract.
 -- Assumes nothing.
-use mathlib.Core.Path.{sym, ◌∙◌}
-use native.Mathlib.Omega.{arith}
+use mathlib.Core.Path.{sym}
+use Rattle.types.proofs.Passed.{passed}
 use Rattle.collector.proofs.CallLaws.{status_unknown, status_refused, status_books}
+use Rattle.collector.proofs.IdLaws.{found_is, found_not}
 use Rattle.collector.proofs.reading.read_status.Goals as goal
 
-pub returns-then-k-ge-NODES : goal.returns-then-k-ge-NODES
-returns-then-k-ge-NODES c =
+pub returns-in_default : goal.returns-in_default
+returns-in_default c =
+    status_unknown c.args.state.now c.args.source c.args.payload.now (found_not _ c.in_default.ensures)
+
+pub returns-in_err-fields : goal.returns-in_err-fields
+returns-in_err-fields c =
     let a = c.args in
-    (status_unknown a.state.now a.source a.payload.now (omega (arith, c.slot-k.ensures.0)), c.slot-k.ensures.2)
+    let at = found_is _ _ c.in-Some.ensures in
+    rw (passed _ c.from_residual.ensures.1)
+    (status_refused a.state.now a.source a.payload.now at.1 c.in_err-fields.field-0.0 c.in_err-fields.ensures.answer)
 
-pub returns-in-Refused : goal.returns-in-Refused
-returns-in-Refused c =
-    let a = c.args in (
-      status_refused a.state.now a.source a.payload.now (omega (arith, c.slot-k.ensures.0)) _
-          (sym c.in-Refused.is ∙ c.read_fields.ensures.answer),
-      c.slot-k.ensures.2,
-    )
-
-pub returns-in-Status : goal.returns-in-Status
-returns-in-Status c =
-    let a = c.args in (
-      status_books a.state.now a.source a.payload.now (omega (arith, c.slot-k.ensures.0)) c.in-Status.f
-          (sym c.in-Status.is ∙ c.read_fields.ensures.answer) c.slot-k.result c.slot-k.ensures.0
-          _ _ c.book.ensures,
-      c.slot-k.ensures.2,
-    )
+pub returns : goal.returns
+returns c =
+    let a = c.args in
+    let at = found_is _ _ c.in-Some.ensures in
+    status_books a.state.now a.source a.payload.now at.1 c.in_ok-fields.fields c.in_ok-fields.ensures.answer c.in-Some.block (sym at.0) _ _
+    c.book.ensures

@@ -3,4 +3,4 @@
 use Rattle.control.proofs.soc.time_octets.Goals as goal
 
 pub returns : goal.returns
-returns c = rw (c.put_u32_le-2.ensures, c.put_u32_le.ensures)
+returns c = rw (c.put_le-2.ensures, c.put_le.ensures)

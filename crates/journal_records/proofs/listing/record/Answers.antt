@@ -3,27 +3,24 @@
 use mathlib.Core.Path.{sym, ap, ◌∙◌}
 use Rattle.journal_records.specs.Listing.{fields_line}
 use Rattle.journal_records.specs.Record.{valid_record}
-use Rattle.journal_records.proofs.StepLaws.{entry_read, record_cut, record_fault, record_good, prints_as, prints_text}
+use Rattle.journal_records.proofs.StepLaws.{entry_cut, entry_read, record_cut, record_fault, record_good, prints_as, prints_text}
 use Rattle.journal_records.proofs.TextLaws.{put_as}
 use Rattle.journal_records.proofs.listing.record.Goals as goal
 
-pub returns-then-bytes-lt-JOURNAL_RECORD_LEN : goal.returns-then-bytes-lt-JOURNAL_RECORD_LEN
-returns-then-bytes-lt-JOURNAL_RECORD_LEN c =
-    prints_as (record_cut _ c.if-bytes-lt-JOURNAL_RECORD_LEN.true) c.refuse.ensures
+pub returns-in_default : goal.returns-in_default
+returns-in_default c =
+    prints_as (record_cut _ (entry_cut _ c.tail.ensures.octets (sym c.deserialize.ensures.answer ∙ c.in_default.is))) c.refuse.ensures
 
 pub returns-then-not-valid : goal.returns-then-not-valid
 returns-then-not-valid c =
-    let a = c.args in
+    let read = entry_read _ c.tail.ensures.octets (sym c.deserialize.ensures.answer ∙ c.in-Ok.is) in
     prints_as
-    (record_fault _ c.if-bytes-lt-JOURNAL_RECORD_LEN.false
-    (ap (valid_record _) (sym (entry_read a.bytes.now c.if-bytes-lt-JOURNAL_RECORD_LEN.false _ _ _ c.tail.ensures.octets c.deserialize.ensures.answer c.or_terminator-entry.ensures)) ∙ sym c.valid.ensures ∙ c.if-not-valid.true))
+    (record_fault _ read.0 (ap (valid_record _) (sym read.1) ∙ sym c.valid.ensures ∙ c.if-not-valid.true))
     c.refuse-then-not-valid.ensures
 
 pub returns : goal.returns
 returns c =
-    let a = c.args in
-    let read = entry_read a.bytes.now c.if-bytes-lt-JOURNAL_RECORD_LEN.false _ _ _ c.tail.ensures.octets c.deserialize.ensures.answer c.or_terminator-entry.ensures in
+    let read = entry_read _ c.tail.ensures.octets (sym c.deserialize.ensures.answer ∙ c.in-Ok.is) in
     prints_as
-    (record_good _ c.if-bytes-lt-JOURNAL_RECORD_LEN.false
-    (ap (valid_record _) (sym read) ∙ sym c.valid.ensures ∙ c.if-not-valid.false))
-    (prints_text (put_as c.put_line-written.ensures (ap (fields_line _) read)))
+    (record_good _ read.0 (ap (valid_record _) (sym read.1) ∙ sym c.valid.ensures ∙ c.if-not-valid.false))
+    (prints_text (put_as c.put_line-written.ensures (ap (fields_line _) read.1)))

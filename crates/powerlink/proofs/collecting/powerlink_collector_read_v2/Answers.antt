@@ -5,32 +5,32 @@ use Rattle.powerlink.proofs.Collectors.{reads_told}
 use Rattle.powerlink.proofs.Told.{refused_told}
 use Rattle.powerlink.proofs.collecting.powerlink_collector_read_v2.Goals as goal
 
-pub returns-in-Refused : goal.returns-in-Refused
-returns-in-Refused c =
-    let q = c.in-Refused.is in
-    reads_told _ _ _ _ _ _ _ _ _ _ c.read.ensures (rw q (refused_told c.in-Refused.e _ _ _ _ c.refusal.ensures.value c.refusal.ensures.octet_after))
+pub returns-in-Err-Frame : goal.returns-in-Err-Frame
+returns-in-Err-Frame c =
+    let q = c.in-Err-Frame.is in
+    reads_told _ _ _ _ _ _ _ _ _ _ c.read.ensures (rw q (refused_told c.in-Err-Frame.e _ _ _ _ c.refusal.ensures.value c.refusal.ensures.octet_after))
 
-pub returns-in-NotStatusResponse : goal.returns-in-NotStatusResponse
-returns-in-NotStatusResponse c =
-    let q = c.in-NotStatusResponse.is in
+pub returns-in-Err-NotStatusResponse : goal.returns-in-Err-NotStatusResponse
+returns-in-Err-NotStatusResponse c =
+    let q = c.in-Err-NotStatusResponse.is in
     reads_told _ _ _ _ _ _ _ _ _ _ c.read.ensures (rw q (record { cause = refl; value = refl; octet = refl }))
 
-pub returns-in-NotRegistered : goal.returns-in-NotRegistered
-returns-in-NotRegistered c =
-    let q = c.in-NotRegistered.is in
+pub returns-in-Err-NotRegistered : goal.returns-in-Err-NotRegistered
+returns-in-Err-NotRegistered c =
+    let q = c.in-Err-NotRegistered.is in
     reads_told _ _ _ _ _ _ _ _ _ _ c.read.ensures (rw q (record { cause = refl; value = refl; octet = refl }))
 
-pub returns-in-BookFull : goal.returns-in-BookFull
-returns-in-BookFull c =
-    let q = c.in-BookFull.is in
+pub returns-in-Err-BookFull : goal.returns-in-Err-BookFull
+returns-in-Err-BookFull c =
+    let q = c.in-Err-BookFull.is in
     reads_told _ _ _ _ _ _ _ _ _ _ c.read.ensures (rw q (record { cause = refl; value = refl; octet = refl }))
 
-pub returns-in-Known : goal.returns-in-Known
-returns-in-Known c =
-    let q = c.in-Known.is in
+pub returns-in-Ok-Known : goal.returns-in-Ok-Known
+returns-in-Ok-Known c =
+    let q = c.in-Ok-Known.is in
     reads_told _ _ _ _ _ _ _ _ _ _ c.read.ensures (rw q (record { cause = refl; value = refl; octet = refl }))
 
-pub returns-in-Booked : goal.returns-in-Booked
-returns-in-Booked c =
-    let q = c.in-Booked.is in
+pub returns-in-Ok-Booked : goal.returns-in-Ok-Booked
+returns-in-Ok-Booked c =
+    let q = c.in-Ok-Booked.is in
     reads_told _ _ _ _ _ _ _ _ _ _ c.read.ensures (rw q (record { cause = refl; value = refl; octet = refl }))

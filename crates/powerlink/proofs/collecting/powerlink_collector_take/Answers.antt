@@ -4,17 +4,17 @@ use mathlib.Core.Path.{◌∙◌}
 use Rattle.powerlink.proofs.Collectors.{takes_told}
 use Rattle.powerlink.proofs.collecting.powerlink_collector_take.Goals as goal
 
-pub returns-in-NotRegistered : goal.returns-in-NotRegistered
-returns-in-NotRegistered c =
-    let q = c.in-NotRegistered.is in
+pub returns-in-Err-NotRegistered : goal.returns-in-Err-NotRegistered
+returns-in-Err-NotRegistered c =
+    let q = c.in-Err-NotRegistered.is in
     takes_told _ _ _ _ _ _ _ c.take.ensures (rw q) (rw q)
 
-pub returns-in-NothingBooked : goal.returns-in-NothingBooked
-returns-in-NothingBooked c =
-    let q = c.in-NothingBooked.is in
+pub returns-in-Err-NothingBooked : goal.returns-in-Err-NothingBooked
+returns-in-Err-NothingBooked c =
+    let q = c.in-Err-NothingBooked.is in
     takes_told _ _ _ _ _ _ _ c.take.ensures (rw q) (rw q)
 
-pub returns-in-Taken : goal.returns-in-Taken
-returns-in-Taken c =
-    let q = c.in-Taken.is in
+pub returns-in-Ok : goal.returns-in-Ok
+returns-in-Ok c =
+    let q = c.in-Ok.is in
     takes_told _ _ _ _ _ _ _ c.take.ensures (rw q) (c.entry_values.ensures ∙ rw q)

@@ -11,13 +11,13 @@ use Rattle.powerlink.proofs.frames.powerlink_new_pres.Goals as goal
 pub slice_bounds-put_frame-end : goal.slice_bounds-put_frame-end
 slice_bounds-put_frame-end c = sym (length-set c.to_bytes-fields.result _ _ ∙ ap length c.to_bytes-fields.ensures)
 
-pub returns-in-Unknown : goal.returns-in-Unknown
-returns-in-Unknown c =
-    refuses_coded _ _ _ _ _ _ _ _ (rw (← c.from_u8.ensures.answer, c.in-Unknown.is, c.padded_len-needed.ensures)) (c.unnamed.ensures.value, c.unnamed.ensures.octet_after)
+pub returns-in-Err : goal.returns-in-Err
+returns-in-Err c =
+    refuses_coded _ _ _ _ _ _ _ _ (rw (← c.try_from.ensures.answer, c.in-Err.is, c.padded_len-needed.ensures)) (c.unnamed.ensures.value, c.unnamed.ensures.octet_after)
 
-pub returns-in-Known : goal.returns-in-Known
+pub returns-in-Ok : goal.returns-in-Ok
 unfolding frame_bytes pres_section
-returns-in-Known c =
-    let known = sym c.from_u8.ensures.answer ∙ c.in-Known.is in
+returns-in-Ok c =
+    let known = sym c.try_from.ensures.answer ∙ c.in-Ok.is in
     let code = state_code_lem _ _ known in
-    writes_named _ _ _ _ _ _ _ _ (rw (known, c.from_u8-in-Known.ensures, code)) (rw (c.to_bytes-fields.ensures, c.new-new.ensures) at c.put_frame.ensures)
+    writes_named _ _ _ _ _ _ _ _ (rw (known, c.from-in-Ok.ensures, code)) (rw (c.to_bytes-fields.ensures, c.new-new.ensures) at c.put_frame.ensures)

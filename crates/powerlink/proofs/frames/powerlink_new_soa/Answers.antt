@@ -5,16 +5,16 @@ use Rattle.frame.specs.Write.{frame_bytes}
 use Rattle.powerlink.proofs.Writers.{writes_named, refuses_coded}
 use Rattle.powerlink.proofs.frames.powerlink_new_soa.Goals as goal
 
-pub returns-in-Unknown : goal.returns-in-Unknown
-returns-in-Unknown c =
-    refuses_coded _ _ _ _ _ _ _ _ (rw (← c.from_u8.ensures.answer, c.in-Unknown.is)) (c.unnamed.ensures.value, c.unnamed.ensures.octet_after)
+pub returns-in-Err : goal.returns-in-Err
+returns-in-Err c =
+    refuses_coded _ _ _ _ _ _ _ _ (rw (← c.try_from.ensures.answer, c.in-Err.is)) (c.unnamed.ensures.value, c.unnamed.ensures.octet_after)
 
-pub returns-in-Unknown-from_u8 : goal.returns-in-Unknown-from_u8
-returns-in-Unknown-from_u8 c =
-    refuses_coded _ _ _ _ _ _ _ _ (rw (← c.from_u8.ensures.answer, c.in-Known.is, ← c.from_u8-in-Known.ensures.answer, c.in-Unknown-from_u8.is)) (c.unnamed-in-Unknown-from_u8.ensures.value, c.unnamed-in-Unknown-from_u8.ensures.octet_after)
+pub returns-in-Err-try_from : goal.returns-in-Err-try_from
+returns-in-Err-try_from c =
+    refuses_coded _ _ _ _ _ _ _ _ (rw (← c.try_from.ensures.answer, c.in-Ok.is, ← c.try_from-in-Ok.ensures.answer, c.in-Err-try_from.is)) (c.unnamed-in-Err-try_from.ensures.value, c.unnamed-in-Err-try_from.ensures.octet_after)
 
-pub returns-in-Known-from_u8 : goal.returns-in-Known-from_u8
+pub returns-in-Ok-try_from : goal.returns-in-Ok-try_from
 unfolding frame_bytes soa_section
-returns-in-Known-from_u8 c =
-    writes_named _ _ _ _ _ _ _ _ (rw (← c.from_u8.ensures.answer, c.in-Known.is, ← c.from_u8-in-Known.ensures.answer, c.in-Known-from_u8.is))
+returns-in-Ok-try_from c =
+    writes_named _ _ _ _ _ _ _ _ (rw (← c.try_from.ensures.answer, c.in-Ok.is, ← c.try_from-in-Ok.ensures.answer, c.in-Ok-try_from.is))
     (rw (c.to_bytes.ensures, c.new-new.ensures) at c.put_frame.ensures)

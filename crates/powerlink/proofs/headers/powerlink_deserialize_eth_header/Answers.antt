@@ -1,12 +1,13 @@
 -- `headers::powerlink_deserialize_eth_header` meets its contract.
 -- Assumes nothing.
+use mathlib.Core.Path.{sym, ◌∙◌}
 use Rattle.powerlink.proofs.Readers.{eth_refused, eth_read}
 use Rattle.powerlink.proofs.headers.powerlink_deserialize_eth_header.Goals as goal
 
-pub returns-in-Refused : goal.returns-in-Refused
-returns-in-Refused c =
-    eth_refused _ _ c.deserialize_eth_header-read.ensures.read _ _ _ _ _ c.in-Refused.is c.number.ensures
+pub returns-in-Err : goal.returns-in-Err
+returns-in-Err c =
+    eth_refused _ _ _ _ _ _ (sym c.deserialize_eth_header.ensures.answer ∙ c.in-Err.is) c.number.ensures
 
-pub returns-in-Read : goal.returns-in-Read
-returns-in-Read c =
-    eth_read _ _ c.deserialize_eth_header-read.ensures.read _ _ _ c.in-Read.is
+pub returns-in-Ok : goal.returns-in-Ok
+returns-in-Ok c =
+    eth_read _ _ _ _ _ (sym c.deserialize_eth_header.ensures.answer ∙ c.in-Ok.is)

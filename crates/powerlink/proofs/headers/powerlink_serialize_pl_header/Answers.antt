@@ -3,10 +3,10 @@
 use Rattle.powerlink.proofs.Writers.{writes_coded, refuses_coded}
 use Rattle.powerlink.proofs.headers.powerlink_serialize_pl_header.Goals as goal
 
-pub returns-in-Unknown : goal.returns-in-Unknown
-returns-in-Unknown c =
-    refuses_coded _ _ _ _ _ _ _ _ (rw (← c.from_u8.ensures.answer, c.in-Unknown.is)) (c.unnamed.ensures.value, c.unnamed.ensures.octet_after)
+pub returns-in-Err : goal.returns-in-Err
+returns-in-Err c =
+    refuses_coded _ _ _ _ _ _ _ _ (rw (← c.try_from.ensures.answer, c.in-Err.is)) (c.unnamed.ensures.value, c.unnamed.ensures.octet_after)
 
-pub returns-in-Known : goal.returns-in-Known
-returns-in-Known c =
-    writes_coded _ _ _ _ _ _ _ _ _ (rw (← c.from_u8.ensures.answer, c.in-Known.is)) c.serialize_pl_header-answer.ensures (c.written_or.ensures.value, c.written_or.ensures.written_after)
+pub returns-in-Ok : goal.returns-in-Ok
+returns-in-Ok c =
+    writes_coded _ _ _ _ _ _ _ _ _ (rw (← c.try_from.ensures.answer, c.in-Ok.is)) c.serialize_pl_header-answer.ensures (c.written_or.ensures.value, c.written_or.ensures.written_after)

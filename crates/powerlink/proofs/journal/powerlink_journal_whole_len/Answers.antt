@@ -3,17 +3,17 @@
 use Rattle.powerlink.proofs.Journals.{whole_told}
 use Rattle.powerlink.proofs.journal.powerlink_journal_whole_len.Goals as goal
 
-pub returns-in-Whole : goal.returns-in-Whole
-returns-in-Whole c =
-    let q = c.in-Whole.is in
+pub returns-in-Ok : goal.returns-in-Ok
+returns-in-Ok c =
+    let q = c.in-Ok.is in
     whole_told _ _ _ _ _ _ c.whole_len.ensures (rw q) (rw q)
 
-pub returns-in-TooShort : goal.returns-in-TooShort
-returns-in-TooShort c =
-    let q = c.in-TooShort.is in
+pub returns-in-Err-TooShort : goal.returns-in-Err-TooShort
+returns-in-Err-TooShort c =
+    let q = c.in-Err-TooShort.is in
     whole_told _ _ _ _ _ _ c.whole_len.ensures (rw q) (rw q)
 
-pub returns-in-UnknownVersion : goal.returns-in-UnknownVersion
-returns-in-UnknownVersion c =
-    let q = c.in-UnknownVersion.is in
+pub returns-in-Err-UnknownVersion : goal.returns-in-Err-UnknownVersion
+returns-in-Err-UnknownVersion c =
+    let q = c.in-Err-UnknownVersion.is in
     whole_told _ _ _ _ _ _ c.whole_len.ensures (rw q) (rw q)

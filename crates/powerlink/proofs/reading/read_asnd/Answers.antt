@@ -1,19 +1,14 @@
 -- `reading::read_asnd` meets its contract: each verdict is told as its answer.
 -- Assumes nothing.
-use Rattle.types.specs.declared.hal.PowerlinkError.TheVariants.{BufferTooShort, InvalidServiceId}
 use Rattle.frame.specs.declared.PowerlinkFrame.TheVariants.{ASnd}
 use Rattle.powerlink.proofs.Readers.{section_refused, section_frame}
 use Rattle.powerlink.proofs.reading.read_asnd.Goals as goal
 
-pub returns-in-Read : goal.returns-in-Read
-returns-in-Read c =
-    section_frame _ _ _ _ _ (ASnd c.fields-f.result) (rw c.fields-f.ensures (rw c.in-Read.is at c.judge.ensures))
+pub returns-in-Ok : goal.returns-in-Ok
+returns-in-Ok c =
+    section_frame _ _ _ _ _ (ASnd c.fields-f.result) (rw c.fields-f.ensures (rw c.in-Ok.is at c.judge.ensures))
     (rw c.payload_place.ensures at c.asnd_values.ensures)
 
-pub returns-in-TooShort : goal.returns-in-TooShort
-returns-in-TooShort c =
-    section_refused _ _ _ _ _ _ BufferTooShort (rw c.in-TooShort.is at c.judge.ensures) (c.refusal.ensures.value, c.refusal.ensures.octet_after)
-
-pub returns-in-NoService : goal.returns-in-NoService
-returns-in-NoService c =
-    section_refused _ _ _ _ _ _ (InvalidServiceId c.in-NoService.b) (rw c.in-NoService.is at c.judge.ensures) (c.refusal-in-NoService.ensures.value, c.refusal-in-NoService.ensures.octet_after)
+pub returns-in-Err : goal.returns-in-Err
+returns-in-Err c =
+    section_refused _ _ _ _ _ _ c.in-Err.e (rw c.in-Err.is at c.judge.ensures) (c.refusal.ensures.value, c.refusal.ensures.octet_after)

@@ -4,10 +4,10 @@ use mathlib.Core.Path.{sym, ◌∙◌}
 use Rattle.powerlink.proofs.Reporters.{answers_none, answers_told}
 use Rattle.powerlink.proofs.reporting.powerlink_reporter_answer_v2.Goals as goal
 
-pub returns-in-Unknown : goal.returns-in-Unknown
-returns-in-Unknown c =
-    answers_none _ _ _ _ _ _ _ _ _ _ _ (sym c.from_u8.ensures.answer ∙ c.in-Unknown.is) c.answer_len-needed.ensures (c.unnamed.ensures.value, c.unnamed.ensures.octet_after)
+pub returns-in-Err : goal.returns-in-Err
+returns-in-Err c =
+    answers_none _ _ _ _ _ _ _ _ _ _ _ (sym c.try_from.ensures.answer ∙ c.in-Err.is) c.answer_len-needed.ensures (c.unnamed.ensures.value, c.unnamed.ensures.octet_after)
 
-pub returns-in-Known : goal.returns-in-Known
-returns-in-Known c =
-    answers_told _ _ _ _ _ _ _ _ _ _ _ _ _ _ (sym c.from_u8.ensures.answer ∙ c.in-Known.is) (rw (c.from_u8-in-Known.ensures, c.from_bytes.ensures) at c.answer.ensures) (c.told.ensures.value, (c.told.ensures.written_after, c.told.ensures.octet_after))
+pub returns-in-Ok : goal.returns-in-Ok
+returns-in-Ok c =
+    answers_told _ _ _ _ _ _ _ _ _ _ _ _ _ _ (sym c.try_from.ensures.answer ∙ c.in-Ok.is) (rw (c.from-in-Ok.ensures, c.from_bytes.ensures) at c.answer.ensures) (c.told.ensures.value, (c.told.ensures.written_after, c.told.ensures.octet_after))

@@ -3,8 +3,8 @@
 use Rattle.powerlink.proofs.Reporters.{makes_told}
 use Rattle.powerlink.proofs.reporting.powerlink_reporter_new_v2.Goals as goal
 
-pub returns-in-Made : goal.returns-in-Made
-returns-in-Made c = makes_told _ _ _ _ _ c.new.ensures (rw c.in-Made.is)
+pub returns-in-Ok : goal.returns-in-Ok
+returns-in-Ok c = makes_told _ _ _ _ _ c.new.ensures (rw c.in-Ok.is)
 
-pub returns-in-IdOutOfRange : goal.returns-in-IdOutOfRange
-returns-in-IdOutOfRange c = makes_told _ _ _ _ _ c.new.ensures (rw c.in-IdOutOfRange.is)
+pub returns-in-Err-IdOutOfRange : goal.returns-in-Err-IdOutOfRange
+returns-in-Err-IdOutOfRange c = makes_told _ _ _ _ _ c.new.ensures (rw c.in-Err-IdOutOfRange.is)

@@ -5,22 +5,22 @@ use Rattle.powerlink.proofs.Reporters.{reads_told}
 use Rattle.powerlink.proofs.Told.{refused_told}
 use Rattle.powerlink.proofs.reporting.powerlink_reporter_read_v2.Goals as goal
 
-pub returns-in-Refused : goal.returns-in-Refused
-returns-in-Refused c =
-    let q = c.in-Refused.is in
-    reads_told _ _ _ _ _ _ _ _ _ _ c.read.ensures (rw q (refused_told c.in-Refused.e _ _ _ _ c.refusal.ensures.value c.refusal.ensures.octet_after))
+pub returns-in-Err : goal.returns-in-Err
+returns-in-Err c =
+    let q = c.in-Err.is in
+    reads_told _ _ _ _ _ _ _ _ _ _ c.read.ensures (rw q (refused_told c.in-Err.e _ _ _ _ c.refusal.ensures.value c.refusal.ensures.octet_after))
 
-pub returns-in-Ignored : goal.returns-in-Ignored
-returns-in-Ignored c =
-    let q = c.in-Ignored.is in
+pub returns-in-Ok-Ignored : goal.returns-in-Ok-Ignored
+returns-in-Ok-Ignored c =
+    let q = c.in-Ok-Ignored.is in
     reads_told _ _ _ _ _ _ _ _ _ _ c.read.ensures (rw q (record { cause = refl; value = refl; octet = refl }))
 
-pub returns-in-Kept : goal.returns-in-Kept
-returns-in-Kept c =
-    let q = c.in-Kept.is in
+pub returns-in-Ok-Kept : goal.returns-in-Ok-Kept
+returns-in-Ok-Kept c =
+    let q = c.in-Ok-Kept.is in
     reads_told _ _ _ _ _ _ _ _ _ _ c.read.ensures (rw q (record { cause = refl; value = refl; octet = refl }))
 
-pub returns-in-Closed : goal.returns-in-Closed
-returns-in-Closed c =
-    let q = c.in-Closed.is in
+pub returns-in-Ok-Closed : goal.returns-in-Ok-Closed
+returns-in-Ok-Closed c =
+    let q = c.in-Ok-Closed.is in
     reads_told _ _ _ _ _ _ _ _ _ _ c.read.ensures (rw q (record { cause = refl; value = refl; octet = refl }))

@@ -4,9 +4,9 @@ use mathlib.Core.Path.{sym, ◌∙◌}
 use Rattle.powerlink.proofs.Readers.{step_end, step_entry}
 use Rattle.powerlink.proofs.status.powerlink_entry_step.Goals as goal
 
-pub returns-in-End : goal.returns-in-End
-returns-in-End c = step_end _ _ _ (sym c.step_from.ensures ∙ c.in-End.is)
+pub returns-in-None : goal.returns-in-None
+returns-in-None c = step_end _ _ _ (sym c.step_from.ensures ∙ c.in-None.is)
 
-pub returns-in-Entry : goal.returns-in-Entry
-returns-in-Entry c =
-    step_entry _ _ _ _ _ _ (sym c.step_from.ensures ∙ c.in-Entry.is) c.entry_values.ensures
+pub returns-in-Some : goal.returns-in-Some
+returns-in-Some c =
+    step_entry _ _ _ _ _ _ (sym c.step_from.ensures ∙ c.in-Some.is) c.entry_values.ensures

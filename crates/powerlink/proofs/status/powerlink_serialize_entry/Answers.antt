@@ -6,12 +6,12 @@ use Rattle.powerlink.proofs.status.powerlink_serialize_entry.Goals as goal
 
 pub returns-then-target-lt-ENTRY_LEN : goal.returns-then-target-lt-ENTRY_LEN
 returns-then-target-lt-ENTRY_LEN c =
-    entry_short _ _ _ _ _ (sym c.from_u8.ensures.answer ∙ c.in-Unknown.is) c.if-target-lt-ENTRY_LEN.true
+    entry_short _ _ _ _ _ (sym c.try_from.ensures.answer ∙ c.in-Err.is) c.if-target-lt-ENTRY_LEN.true
 
 pub returns-else-target-lt-ENTRY_LEN : goal.returns-else-target-lt-ENTRY_LEN
 returns-else-target-lt-ENTRY_LEN c =
-    entry_none _ _ _ _ _ (sym c.from_u8.ensures.answer ∙ c.in-Unknown.is) c.if-target-lt-ENTRY_LEN.false
+    entry_none _ _ _ _ _ (sym c.try_from.ensures.answer ∙ c.in-Err.is) c.if-target-lt-ENTRY_LEN.false
 
-pub returns-in-Known : goal.returns-in-Known
-returns-in-Known c =
-    entry_told_lem _ _ _ _ _ _ _ _ _ (sym c.from_u8.ensures.answer ∙ c.in-Known.is) c.entry_given-entry.ensures (writes_to _ _ _ _ _ _ _ c.serialize-answer.ensures (c.written_or.ensures.value, c.written_or.ensures.written_after))
+pub returns-in-Ok : goal.returns-in-Ok
+returns-in-Ok c =
+    entry_told_lem _ _ _ _ _ _ _ _ _ (sym c.try_from.ensures.answer ∙ c.in-Ok.is) c.entry_given-entry.ensures (writes_to _ _ _ _ _ _ _ c.serialize-answer.ensures (c.written_or.ensures.value, c.written_or.ensures.written_after))

@@ -1,20 +1,19 @@
 -- `status::powerlink_serialize_status` meets its contract.
 -- Assumes nothing.
 use mathlib.Core.Path.{sym, ◌∙◌}
-use Rattle.types.specs.declared.hal.PowerlinkError.TheVariants.{InvalidNmtState}
 use Rattle.powerlink.proofs.Writers.{given_short, given_refused, given_told}
 use Rattle.powerlink.proofs.status.powerlink_serialize_status.Goals as goal
 
 pub returns-then-not-fits : goal.returns-then-not-fits
 returns-then-not-fits c =
     let s = c.args.entries.now in
-    given_short _ _ _ _ s (InvalidNmtState c.in-Unknown.b) (rw (← c.from_u8.ensures.answer, c.in-Unknown.is)) (sym c.fits.ensures ∙ c.if-not-fits.true)
+    given_short _ _ _ _ s c.in-Err.e (rw (← c.try_from.ensures.answer, c.in-Err.is)) (sym c.fits.ensures ∙ c.if-not-fits.true)
 
 pub returns-else-not-fits : goal.returns-else-not-fits
 returns-else-not-fits c =
     let s = c.args.entries.now in
-    given_refused _ _ _ _ s (InvalidNmtState c.in-Unknown.b) _ _ (rw (← c.from_u8.ensures.answer, c.in-Unknown.is)) (sym c.fits.ensures ∙ c.if-not-fits.false) (c.refusal.ensures.value, c.refusal.ensures.octet_after)
+    given_refused _ _ _ _ s c.in-Err.e _ _ (rw (← c.try_from.ensures.answer, c.in-Err.is)) (sym c.fits.ensures ∙ c.if-not-fits.false) (c.refusal.ensures.value, c.refusal.ensures.octet_after)
 
-pub returns-in-Known : goal.returns-in-Known
-returns-in-Known c =
-    given_told _ _ _ _ c.args.entries.now _ _ _ _ _ (rw (← c.from_u8.ensures.answer, c.in-Known.is, c.from_u8-in-Known.ensures, c.from_bytes-bits.ensures)) c.serialize-answer.ensures (c.written_or.ensures.value, c.written_or.ensures.written_after)
+pub returns-in-Ok : goal.returns-in-Ok
+returns-in-Ok c =
+    given_told _ _ _ _ c.args.entries.now _ _ _ _ _ (rw (← c.try_from.ensures.answer, c.in-Ok.is, c.from-in-Ok.ensures, c.from_bytes-bits.ensures)) c.serialize-answer.ensures (c.written_or.ensures.value, c.written_or.ensures.written_after)

@@ -14,14 +14,14 @@ loads-told : (f : List ℕ) (a k : Result Unit LoadError) (services after : List
 loads-told f a k services after l q =
     record { cause = ap (λ (x : Result Unit LoadError). (load_cause x).number) (sym q ∙ l.answer); loads = rw l.answer at l }
 
-pub returns-in-Loaded : goal.returns-in-Loaded
-returns-in-Loaded c = loads-told _ _ _ _ _ c.load.ensures c.in-Loaded.is
+pub returns-in-Ok : goal.returns-in-Ok
+returns-in-Ok c = loads-told _ _ _ _ _ c.load.ensures c.in-Ok.is
 
-pub returns-in-NotATable : goal.returns-in-NotATable
-returns-in-NotATable c = loads-told _ _ _ _ _ c.load.ensures c.in-NotATable.is
+pub returns-in-Err-NotATable : goal.returns-in-Err-NotATable
+returns-in-Err-NotATable c = loads-told _ _ _ _ _ c.load.ensures c.in-Err-NotATable.is
 
-pub returns-in-NotAscending : goal.returns-in-NotAscending
-returns-in-NotAscending c = loads-told _ _ _ _ _ c.load.ensures c.in-NotAscending.is
+pub returns-in-Err-NotAscending : goal.returns-in-Err-NotAscending
+returns-in-Err-NotAscending c = loads-told _ _ _ _ _ c.load.ensures c.in-Err-NotAscending.is
 
-pub returns-in-WithoutStatusResponse : goal.returns-in-WithoutStatusResponse
-returns-in-WithoutStatusResponse c = loads-told _ _ _ _ _ c.load.ensures c.in-WithoutStatusResponse.is
+pub returns-in-Err-WithoutStatusResponse : goal.returns-in-Err-WithoutStatusResponse
+returns-in-Err-WithoutStatusResponse c = loads-told _ _ _ _ _ c.load.ensures c.in-Err-WithoutStatusResponse.is

@@ -5,4 +5,4 @@ use Rattle.replay.proofs.record.part.Goals as goal
 
 pub returns : goal.returns
 returns c =
-    between c.args.s.now c.front.ensures.octets c.get_u32_le-end.ensures c.mark.ensures c.tail.ensures.octets
+    between c.args.s.now c.front.ensures.octets c.get_le-end.ensures c.mark.ensures c.tail.ensures.octets

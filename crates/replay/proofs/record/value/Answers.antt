@@ -6,7 +6,7 @@ use Rattle.replay.proofs.record.value.Goals as goal
 pub returns-then-i-byte_at : goal.returns-then-i-byte_at
 returns-then-i-byte_at c =
     let a = c.args in
-    value_there a.s.now a.i _ _ _ c.byte_at.ensures c.if-i-byte_at.true c.byte_at-then-i-byte_at.ensures c.get_u64_le.ensures
+    value_there a.s.now a.i _ _ _ c.byte_at.ensures c.if-i-byte_at.true c.byte_at-then-i-byte_at.ensures c.get_le.ensures
 
 pub returns-else-i-byte_at : goal.returns-else-i-byte_at
 returns-else-i-byte_at c =

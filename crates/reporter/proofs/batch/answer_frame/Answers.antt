@@ -1,9 +1,11 @@
 -- `batch::answer_frame` meets its contract: the payload is written behind the front's place, and then the front.
 -- Assumes nothing.
 use native.Mathlib.Omega.{arith}
+use mathlib.Core.Path.{refl}
 use mathlib.Core.List.{◌++◌}
 use lib.ListN.{length-append}
-use Rattle.section.proofs.Behind.{behind_refused, behind_bound, behind_written}
+use Rattle.types.proofs.Passed.{passed}
+use Rattle.section.proofs.Behind.{behind_refused, behind_written}
 use Rattle.section.proofs.Sections.{refuses}
 use Rattle.reporter.specs.Layout.{head_of}
 use Rattle.reporter.specs.Rules.{opened, filled_payload, answer_front}
@@ -19,24 +21,18 @@ returns-then-target-lt-PAYLOAD_AT c =
     rw (frame_parts a.fields h)
     (refuses (front ++ payload) a.target.now (omega (arith, length-append front payload, front_length a.fields h.id)))
 
-pub overflow_add-result : goal.overflow_add-result
-overflow_add-result c =
+pub returns-in_err-n : goal.returns-in_err-n
+returns-in_err-n c =
     let a = c.args in
     let h = opened (head_of a.state.now) in
-    omega (arith, c.well_formed.1.1, behind_bound (answer_front a.fields h.id) (filled_payload a.fields h) a.target.now 18 (front_length a.fields h.id) c.if-target-lt-PAYLOAD_AT.false _ _ c.write_payload.ensures _ c.in-Written.is)
-
-pub returns-in-Refused : goal.returns-in-Refused
-returns-in-Refused c =
-    let a = c.args in
-    let h = opened (head_of a.state.now) in
-    rw (frame_parts a.fields h)
+    rw (frame_parts a.fields h, passed _ c.from_residual.ensures.1)
     (behind_refused (answer_front a.fields h.id) (filled_payload a.fields h) a.target.now 18 (front_length a.fields h.id) c.if-target-lt-PAYLOAD_AT.false _ _
-    c.write_payload.ensures _ c.in-Refused.is)
+    c.in_err-n.ensures _ refl)
 
-pub returns-in-Written : goal.returns-in-Written
-returns-in-Written c =
+pub returns : goal.returns
+returns c =
     let a = c.args in
     let h = opened (head_of a.state.now) in
     rw (frame_parts a.fields h)
     (behind_written (answer_front a.fields h.id) (filled_payload a.fields h) a.target.now 18 (front_length a.fields h.id) c.if-target-lt-PAYLOAD_AT.false _ _
-    c.write_payload.ensures _ c.in-Written.is _ c.put_front.ensures)
+    c.in_ok-n.ensures _ refl _ c.put_front.ensures)

@@ -1,55 +1,32 @@
--- `batch::fill` meets its contract. The loop's invariant: the octets in front of `at`, from `len` on, are zeros. The measure is how many are
--- left.
+-- `batch::fill` meets its contract.
 -- Assumes nothing.
 use Prim.Native.Nat.{ℕ, ◌+◌, ◌-◌, ◌≤◌}
 use mathlib.Core.Path.{◌≡◌, sym, ap, ◌∙◌}
-use mathlib.Core.List.{List, [], ◌∷◌, ◌++◌}
+use mathlib.Core.List.{List, ◌++◌, append_assoc}
 use native.Mathlib.Omega.{arith}
-use lib.ListN.{length, replicate, set, length-replicate, length-set, replicate-append-replicate}
-use lib.Seq.{sets}
-use borrow.Author.Rules.{rules}
-use Rattle.octets.proofs.Sets.{sets_append}
-use Rattle.reporter.proofs.batch.fill.Invariants.{Cleared}
+use lib.ListN.{length, take, drop, replicate, length-replicate, length-drop}
+use lib.Seq.{sets, sets-eq, drop-drop, length-take-le}
+use borrow.Rule.Slice.PartMut.{put_mid}
 use Rattle.reporter.proofs.batch.fill.Goals as goal
 
--- one more zero
-more : (len : ℕ) (before target : List ℕ) (at : ℕ) → Cleared len before target at → at + 1 ≤ len + (42 - len) → Cleared len before (set target at 0) (at + 1)
-more len before target at c h =
-    let k : ℕ = at - len in
+-- a part that is all zeros
+zeroed : (t part : List ℕ) (at k : ℕ) → at + k ≤ length t → part ≡ replicate (length (take k (drop at t))) 0
+    → put_mid at k t part ≡ sets t at (replicate k 0)
+zeroed t part at k h e =
     let zs : List ℕ = replicate k 0 in
-    let here : at ≡ len + length zs = omega (arith, length-replicate {A = ℕ} k 0, c.from) in
-    let one : k + 1 ≡ at + 1 - len = omega (arith, c.from) in
-    record {
-      from = omega (arith, c.from);
-      to = h;
-      long = length-set target at 0 ∙ c.long;
-      zeros = ap (λ (l : List ℕ). set l at 0) c.zeros
-          ∙ ap (λ (i : ℕ). set (sets before len zs) i 0) here
-          ∙ sym (sets_append before len zs (0 ∷ []))
-          ∙ ap (sets before len) {x = zs ++ (0 ∷ [])} {y = replicate (k + 1) 0} (replicate-append-replicate k 1 0)
-          ∙ ap (λ (n : ℕ). sets before len (replicate n 0)) one;
-    }
-
-pub loop-at-init : goal.loop-at-init
-loop-at-init c =
-    let l : ℕ = c.args.len in
-    let t : List ℕ = c.args.target.now in
-    let none : 0 ≡ l - l = omega arith in
-    record { from = omega arith; to = omega arith; long = search rules; zeros = ap (λ (n : ℕ). sets t l (replicate n 0)) none }
-
-pub loop-at-preserved : goal.loop-at-preserved
-loop-at-preserved c =
-    more c.args.len c.args.target.now c.loop-at.target c.loop-at.at c.loop-at.invariant (omega arith)
+    let l : length zs ≡ k = length-replicate {A = ℕ} k 0 in
+    let m : length (take k (drop at t)) ≡ k = length-take-le k (drop at t) (simp length-drop (omega arith)) in
+    ap (put_mid at k t) (e ∙ ap (λ (n : ℕ). replicate n 0) m)
+    ∙ ap (λ (d : List ℕ). take at t ++ (zs ++ d)) (drop-drop k at t ∙ ap (λ (n : ℕ). drop (at + n) t) (sym l))
+    ∙ sym (sets-eq zs t at (omega arith) ∙ (simp append_assoc))
 
 pub returns : goal.returns
 returns c =
-    let n : ℕ = c.args.len in
-    let t : List ℕ = c.args.target.now in
-    let all : c.loop-at.at - n ≡ 42 - n = omega (arith, c.loop-at.invariant.to, c.loop-at.invariant.from) in
-    (omega (arith, c.loop-at.invariant.to, c.loop-at.invariant.from), c.loop-at.invariant.zeros ∙ ap (λ (k : ℕ). sets t n (replicate k 0)) all)
-
-pub bounds-target-at : goal.bounds-target-at
-bounds-target-at c = omega (arith, c.loop-at.invariant.long, c.requires)
-
-pub shape_of-target : goal.shape_of-target
-shape_of-target c = c.loop-at.invariant.long
+    let a = c.args in
+    let t : List ℕ = a.target.now in (
+      omega (arith, c.max.ensures),
+      elim c.if-len-lt-PAYLOAD_MIN.branch [
+        | goal.then-len-lt-PAYLOAD_MIN w ↦ w.target-is ∙ zeroed t _ a.len (42 - a.len) (omega (arith, c.requires, w.if-len-lt-PAYLOAD_MIN.true)) (w.fill.ensures.after (λ y e. e))
+        | goal.else-len-lt-PAYLOAD_MIN w ↦ let none : 0 ≡ 42 - a.len = omega (arith, w.if-len-lt-PAYLOAD_MIN.false) in w.target-is ∙ ap (λ (n : ℕ). sets t a.len (replicate n 0)) none
+      ],
+    )

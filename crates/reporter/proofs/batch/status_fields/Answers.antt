@@ -11,7 +11,7 @@ returns c =
     let a = c.args in
     let e : c.if-opens.result ≡ (opened (head_of a.state.now)).en =
     elim c.if-opens.branch [
-      | goal.then-opens w ↦ en_flips a.state.now _ _ _ c.en-en.ensures c.opens.ensures.0 w.if-opens.true w.result-is
-      | goal.else-opens w ↦ en_stays a.state.now _ _ _ c.en-en.ensures c.opens.ensures.0 w.if-opens.false w.result-is
+      | goal.then-opens w ↦ en_flips a.state.now _ _ _ c.en-en.ensures c.opens.ensures w.if-opens.true w.result-is
+      | goal.else-opens w ↦ en_stays a.state.now _ _ _ c.en-en.ensures c.opens.ensures w.if-opens.false w.result-is
     ] in
     ap (status_fields a.fields) e

@@ -9,4 +9,4 @@ returns-then-n-gt4 c = rw (lt-leb _ 4 c.if-n-gt4.true) (refl, refl, refl)
 
 pub returns : goal.returns
 returns c =
-    rw (le-leb _ 4 c.if-n-gt4.false) c.lend_batch.ensures
+    rw (le-leb _ 4 c.if-n-gt4.false) c.serialize.ensures

@@ -27,5 +27,5 @@ put_terminator-requires c =
 pub returns : goal.returns
 returns c =
     let a = c.args in
-    status_written a.fields a.field a.entries.now a.target.now (λ j. omega (arith, c.shared_slice_known-1.given j)) (sym c.fits.ensures ∙ c.if-not-fits.false) _ _ _ _ _
+    status_written a.fields a.field a.entries.now a.target.now (λ j. omega (arith, c.type_inv.entries j)) (sym c.fits.ensures ∙ c.if-not-fits.false) _ _ _ _ _
     c.to_bytes.ensures c.put.ensures c.put_groups.ensures c.put_terminator.ensures c.status_len.ensures

@@ -8,9 +8,3 @@ use Rattle.types.proofs.poll_flags.poll_octet.Goals as goal
 pub returns : goal.returns
 unfolding poll_octet
 returns c = omega (arith, c.from.ensures, c.get.ensures)
-
-pub overflow_mul-result : goal.overflow_mul-result
-overflow_mul-result c = record { fits = omega (arith, priority_small c.args.pr, c.from.ensures) }
-
-pub overflow_add-result : goal.overflow_add-result
-overflow_add-result c = omega (arith, priority_small c.args.pr, c.from.ensures, c.get.ensures)

@@ -5,7 +5,7 @@ use Rattle.control.proofs.soc.SocFrame.to_bytes.Goals as goal
 pub returns : goal.returns
 returns c =
     rw (
-      c.put_u64_le.ensures,
+      c.put_le.ensures,
       c.put-3.ensures,
       c.put-2.ensures,
       c.put.ensures,

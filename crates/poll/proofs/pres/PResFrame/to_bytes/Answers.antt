@@ -4,4 +4,4 @@ use Rattle.poll.proofs.pres.PResFrame.to_bytes.Goals as goal
 
 pub returns : goal.returns
 returns c =
-    rw (c.put_u16_le.ensures, c.put.ensures, c.first_octets.ensures)
+    rw (c.put_le.ensures, c.put.ensures, c.first_octets.ensures)

@@ -8,7 +8,7 @@ pub returns : goal.returns
 unfolding head_bytes field_bytes
 returns c =
     rw (
-      c.to_u8.ensures,
+      c.from.ensures,
       c.poll_octet.ensures,
       c.flag-2.ensures.0,
       c.flag.ensures.0,
