@@ -87,9 +87,12 @@ impl Head {
     // Accepted entries that the box has not booked.
     pub fn unbooked(&self) -> u64 {
         match self.open {
-            Some(Batch {
-                told_from: Some(_), ..
-            }) => self.waiting,
+            Some(
+                Batch {
+                    told_from: Some(_),
+                    ..
+                },
+            ) => self.waiting,
             _ => self.held(),
         }
     }
@@ -158,7 +161,9 @@ impl Head {
 
     // Nothing is under way any more, of the head's answers and of the frames that the managing node sent.
     pub fn line_cleared(&mut self, frames: u64) {
-        self.lost = self.lost.saturating_add(self.sent.saturating_sub(self.read));
+        self.lost = self
+            .lost
+            .saturating_add(self.sent.saturating_sub(self.read));
         self.read = self.sent;
         self.heard = frames;
     }

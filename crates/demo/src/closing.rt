@@ -1,10 +1,9 @@
 // The end of the simulation: the line is good, and each head's entries come to the box and are closed.
-use crate::check;
 use crate::expected::BOOK_LEN;
 use crate::journal::Out;
 use crate::target::ROOM;
-use crate::turns;
 use crate::world::{Node, Scene, World};
+use crate::{check, turns};
 
 // The line gives the next frame that was not given yet.
 const IN_ORDER: u64 = 15;
@@ -47,7 +46,9 @@ fn clear(out: &mut Out<'_, impl Print + Eprint>, w: &mut World, node: &mut Node)
     let id = node.head.id;
     let held = node.head.held();
     let exchanges = close(w, node);
-    let _ = println!(out.rt; "head {id}: entries open or waiting {held}, exchanges until they are closed {exchanges}");
+    let _ = println!(out.rt;
+        "head {id}: entries open or waiting {held}, exchanges until they are closed {exchanges}"
+    );
     take_all(out, w, node);
     w.demands(node.head.held() == 0);
     w.demands(node.head.taken == node.head.accepted);

@@ -83,10 +83,12 @@ pub fn hearing(head: Head, number: u64, node: u8) -> Outcome {
         return Ok(Success::Ignored);
     }
     match head.open {
-        Some(Batch {
-            told_from: Some(first),
-            ..
-        }) if first <= number => DONE,
+        Some(
+            Batch {
+                told_from: Some(first),
+                ..
+            },
+        ) if first <= number => DONE,
         _ => Ok(Success::Kept),
     }
 }

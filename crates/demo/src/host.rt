@@ -13,30 +13,23 @@ use poll::preq::{PReqFlags, PReqFrame};
 use poll::pres::{PResFlags, PResFrame};
 use services::ServiceId;
 use types::NodeId;
-use types::basic::NewFrame;
+use types::basic::EthernetHeader;
 use types::mapping::PDOVersion;
 use types::poll_flags::{PRFlag, RSFlag};
 use types::requested_service::RequestedServiceId;
 use types::states::NmtState;
 
 impl World {
-    // Writes a frame without payload, of the kind that `wrap` makes of it, under a head's table of services.
-    fn writes<F>(
+    // Writes a frame without payload, under a head's table of services.
+    fn writes(
         &mut self,
         node: &Node,
-        made: NewFrame<F>,
-        wrap: impl FnOnce(F) -> PowerlinkFrame,
+        eth_header: EthernetHeader,
+        frame: PowerlinkFrame,
         room: usize,
     ) -> Result<Frame, Cause> {
         let mut target = Target::new(room);
-        let frame = wrap(made.frame);
-        let got = serialize_frame(
-            &node.services,
-            made.eth_header,
-            frame,
-            b"",
-            target.lend(),
-        );
+        let got = serialize_frame(&node.services, eth_header, frame, b"", target.lend());
         self.has_written(target, got)
     }
 
@@ -50,7 +43,12 @@ impl World {
             NodeId(MANAGING_NODE_ID),
             ServiceId(SERVICE),
         );
-        self.writes(node, made, PowerlinkFrame::ASnd, room)
+        self.writes(
+            node,
+            made.eth_header,
+            PowerlinkFrame::ASnd(made.frame),
+            room,
+        )
     }
 
     // A PReq to a head.
@@ -69,7 +67,12 @@ impl World {
             PDOVersion(0),
             b"",
         );
-        self.writes(node, made, PowerlinkFrame::PReq, ROOM)
+        self.writes(
+            node,
+            made.eth_header,
+            PowerlinkFrame::PReq(made.frame),
+            ROOM,
+        )
     }
 
     // An IdentRequest to a head.
@@ -82,7 +85,7 @@ impl World {
             NodeId(node.head.id),
             EPL_VERSION,
         );
-        self.writes(node, made, PowerlinkFrame::SoA, ROOM)
+        self.writes(node, made.eth_header, PowerlinkFrame::SoA(made.frame), ROOM)
     }
 
     // The PRes of a head.
@@ -103,7 +106,12 @@ impl World {
             PDOVersion(0),
             b"",
         );
-        self.writes(node, made, PowerlinkFrame::PRes, ROOM)
+        self.writes(
+            node,
+            made.eth_header,
+            PowerlinkFrame::PRes(made.frame),
+            ROOM,
+        )
     }
 
     // What the box says of a head; nothing is told to one that is not registered.

@@ -9,9 +9,8 @@ use crate::script::Call::{
     Answer, AnswerZeros, Asnd, BoxReads, Exchanges, Fresh, HeadReads, Load, PReq, PReqWithoutEa,
     PutIn, Raise, RaiseOne, Register, Request, Spoil, Take,
 };
-use crate::script::Line;
 use crate::script::Line::{Quiet, Shown};
-use crate::script::Script;
+use crate::script::{Line, Script};
 use crate::world::World;
 
 const OF_HEAD: [Line; 16] = [
@@ -19,18 +18,42 @@ const OF_HEAD: [Line; 16] = [
     Shown(Fresh(240), Err(Cause::IdOutOfRange), "a head of ID 240"),
     Shown(Fresh(239), DONE, "a head of ID 239"),
     Quiet(Fresh(7)),
-    Shown(RaiseOne(Kind::Terminator), Err(Cause::EntryInvalid), "an entry of mode 0"),
-    Shown(RaiseOne(Kind::WideProfile), Err(Cause::EntryInvalid), "an entry of profile 4,096"),
+    Shown(
+        RaiseOne(Kind::Terminator),
+        Err(Cause::EntryInvalid),
+        "an entry of mode 0",
+    ),
+    Shown(
+        RaiseOne(Kind::WideProfile),
+        Err(Cause::EntryInvalid),
+        "an entry of profile 4,096",
+    ),
     Shown(Raise(16), DONE, "a 16th waiting entry"),
     Shown(Raise(1), Err(Cause::QueueFull), "a 17th waiting entry"),
-    Shown(RaiseOne(Kind::WideProfile), Err(Cause::EntryInvalid), "a 17th of profile 4,096"),
+    Shown(
+        RaiseOne(Kind::WideProfile),
+        Err(Cause::EntryInvalid),
+        "a 17th of profile 4,096",
+    ),
     Quiet(Fresh(7)),
     Quiet(Raise(1)),
-    Shown(Answer(71), Err(Cause::TooShort), "an answer of 72 octets into 71"),
+    Shown(
+        Answer(71),
+        Err(Cause::TooShort),
+        "an answer of 72 octets into 71",
+    ),
     Quiet(Raise(1)),
-    Shown(Answer(192), Ok(Success::Written(92)), "the next answer, with one more raised"),
+    Shown(
+        Answer(192),
+        Ok(Success::Written(92)),
+        "the next answer, with one more raised",
+    ),
     Quiet(Raise(2)),
-    Shown(Answer(192), Ok(Success::Written(92)), "its repeat, with two more raised"),
+    Shown(
+        Answer(192),
+        Ok(Success::Written(92)),
+        "its repeat, with two more raised",
+    ),
 ];
 
 const OF_BOX: [Line; 19] = [
@@ -47,12 +70,28 @@ const OF_BOX: [Line; 19] = [
     Shown(Register(7), Err(Cause::IdRegistered), "a fifth of ID 7"),
     Quiet(Fresh(7)),
     Quiet(Register(7)),
-    Shown(Take(8), Err(Cause::NotRegistered), "taking for an unregistered ID"),
+    Shown(
+        Take(8),
+        Err(Cause::NotRegistered),
+        "taking for an unregistered ID",
+    ),
     Shown(Take(0), Err(Cause::NotRegistered), "taking for ID 0"),
-    Shown(Take(7), Err(Cause::NothingBooked), "taking with nothing booked"),
-    Shown(Request(7, 60), Ok(Success::Written(60)), "a request into 60 octets"),
+    Shown(
+        Take(7),
+        Err(Cause::NothingBooked),
+        "taking with nothing booked",
+    ),
+    Shown(
+        Request(7, 60),
+        Ok(Success::Written(60)),
+        "a request into 60 octets",
+    ),
     Shown(Request(7, 59), Err(Cause::TooShort), "a request into 59"),
-    Shown(Request(8, 59), Err(Cause::NotRegistered), "one to an unregistered ID into 59"),
+    Shown(
+        Request(8, 59),
+        Err(Cause::NotRegistered),
+        "one to an unregistered ID into 59",
+    ),
 ];
 
 const OF_READING: [Line; 30] = [
@@ -61,15 +100,31 @@ const OF_READING: [Line; 30] = [
     Quiet(Raise(1)),
     Quiet(Answer(192)),
     Quiet(Spoil(Odd::SoC)),
-    Shown(BoxReads(192), Err(Cause::NotStatusResponse), "an SoC to the box"),
+    Shown(
+        BoxReads(192),
+        Err(Cause::NotStatusResponse),
+        "an SoC to the box",
+    ),
     Quiet(Answer(192)),
-    Shown(BoxReads(192), Err(Cause::NotRegistered), "an answer of an unregistered head"),
+    Shown(
+        BoxReads(192),
+        Err(Cause::NotRegistered),
+        "an answer of an unregistered head",
+    ),
     Shown(BoxReads(31), Err(Cause::NotRegistered), "31 octets of it"),
     Quiet(Register(8)),
-    Shown(BoxReads(31), Err(Cause::TooShort), "the 31 once it is registered"),
+    Shown(
+        BoxReads(31),
+        Err(Cause::TooShort),
+        "the 31 once it is registered",
+    ),
     Shown(BoxReads(192), DONE, "the whole answer"),
     Quiet(Spoil(Odd::NoState)),
-    Shown(BoxReads(192), Err(Cause::UnknownState), "its repeat with a state that is none"),
+    Shown(
+        BoxReads(192),
+        Err(Cause::UnknownState),
+        "its repeat with a state that is none",
+    ),
     Quiet(Fresh(7)),
     Quiet(Register(7)),
     Quiet(AnswerZeros(192)),
@@ -83,7 +138,11 @@ const OF_READING: [Line; 30] = [
     Shown(HeadReads, DONE, "the request behind it"),
     Quiet(Raise(1)),
     Quiet(Answer(192)),
-    Shown(BoxReads(192), Err(Cause::BookFull), "a new answer with a full book"),
+    Shown(
+        BoxReads(192),
+        Err(Cause::BookFull),
+        "a new answer with a full book",
+    ),
     Shown(Take(7), DONE, "taking one"),
     Shown(BoxReads(192), DONE, "the same answer again"),
 ];
@@ -97,9 +156,17 @@ const OF_HOST: [Line; 32] = [
     Quiet(Request(7, 60)),
     Quiet(HeadReads),
     Quiet(Raise(1)),
-    Shown(Answer(192), Ok(Success::Written(72)), "the answer with a second fault, which is lost"),
+    Shown(
+        Answer(192),
+        Ok(Success::Written(72)),
+        "the answer with a second fault, which is lost",
+    ),
     Quiet(PReq),
-    Shown(HeadReads, KEPT, "a PReq of the host, with the EA that `flags` says"),
+    Shown(
+        HeadReads,
+        KEPT,
+        "a PReq of the host, with the EA that `flags` says",
+    ),
     Shown(Answer(192), Ok(Success::Written(72)), "the next answer"),
     Shown(BoxReads(192), DONE, "the box reads it"),
     Quiet(PReq),
@@ -114,40 +181,112 @@ const OF_HOST: [Line; 32] = [
     Quiet(Request(7, 60)),
     Quiet(HeadReads),
     Quiet(Raise(1)),
-    Shown(Answer(192), Ok(Success::Written(72)), "the same with EA 0: the answer is lost"),
+    Shown(
+        Answer(192),
+        Ok(Success::Written(72)),
+        "the same with EA 0: the answer is lost",
+    ),
     Quiet(PReqWithoutEa),
     Shown(HeadReads, DONE, "the PReq closes what is not booked"),
-    Shown(Answer(192), Ok(Success::Written(60)), "the next answer carries nothing"),
+    Shown(
+        Answer(192),
+        Ok(Success::Written(60)),
+        "the next answer carries nothing",
+    ),
     Shown(BoxReads(192), DONE, "the box reads it, and books nothing"),
     Shown(Take(7), DONE, "taking the first fault"),
-    Shown(Take(7), Err(Cause::NothingBooked), "taking the second: it is lost"),
+    Shown(
+        Take(7),
+        Err(Cause::NothingBooked),
+        "taking the second: it is lost",
+    ),
 ];
 
 const OF_TABLES: [Line; 28] = [
-    Shown(Load(b"PLS\x01"), Err(Cause::NotATable), "a table of services of 4 octets"),
-    Shown(Load(b"PLB\x01\x00\x02"), Err(Cause::NotATable), "one with the mark PLB"),
-    Shown(Load(b"PLS\x02\x00\x02"), Err(Cause::NotATable), "one of version 2"),
-    Shown(Load(b"PLS\x01\x01\x02"), Err(Cause::NotATable), "one of version 257"),
-    Shown(Load(b"PLS\x01\x00\x02\x02"), Err(Cause::NotAscending), "one with an ID twice"),
-    Shown(Load(b"PLS\x01\x00\x04\x03"), Err(Cause::NotAscending), "one with descending IDs and without 2"),
-    Shown(Load(b"PLS\x01\x00"), Err(Cause::WithoutStatusResponse), "one without IDs"),
-    Shown(Load(b"PLS\x01\x00\x01\x03"), Err(Cause::WithoutStatusResponse), "one without 2"),
+    Shown(
+        Load(b"PLS\x01"),
+        Err(Cause::NotATable),
+        "a table of services of 4 octets",
+    ),
+    Shown(
+        Load(b"PLB\x01\x00\x02"),
+        Err(Cause::NotATable),
+        "one with the mark PLB",
+    ),
+    Shown(
+        Load(b"PLS\x02\x00\x02"),
+        Err(Cause::NotATable),
+        "one of version 2",
+    ),
+    Shown(
+        Load(b"PLS\x01\x01\x02"),
+        Err(Cause::NotATable),
+        "one of version 257",
+    ),
+    Shown(
+        Load(b"PLS\x01\x00\x02\x02"),
+        Err(Cause::NotAscending),
+        "one with an ID twice",
+    ),
+    Shown(
+        Load(b"PLS\x01\x00\x04\x03"),
+        Err(Cause::NotAscending),
+        "one with descending IDs and without 2",
+    ),
+    Shown(
+        Load(b"PLS\x01\x00"),
+        Err(Cause::WithoutStatusResponse),
+        "one without IDs",
+    ),
+    Shown(
+        Load(b"PLS\x01\x00\x01\x03"),
+        Err(Cause::WithoutStatusResponse),
+        "one without 2",
+    ),
     Quiet(Fresh(7)),
     Quiet(Register(7)),
-    Shown(Asnd(60), Err(Cause::UnknownService), "writing an ASnd of service 20h, with the twelve of DS 301"),
+    Shown(
+        Asnd(60),
+        Err(Cause::UnknownService),
+        "writing an ASnd of service 20h, with the twelve of DS 301",
+    ),
     Shown(Asnd(59), Err(Cause::TooShort), "writing it into 59 octets"),
     Quiet(Answer(192)),
     Quiet(Spoil(Odd::HouseService)),
-    Shown(BoxReads(192), Err(Cause::UnknownService), "the box reads such an ASnd"),
+    Shown(
+        BoxReads(192),
+        Err(Cause::UnknownService),
+        "the box reads such an ASnd",
+    ),
     Shown(Load(FILE), DONE, "the house's table: 2, 20h, 80h and FFh"),
-    Shown(BoxReads(192), Err(Cause::NotStatusResponse), "the box reads the same ASnd under it"),
+    Shown(
+        BoxReads(192),
+        Err(Cause::NotStatusResponse),
+        "the box reads the same ASnd under it",
+    ),
     Quiet(Load(b"PLS\x01\x00\x01\x03")),
-    Shown(BoxReads(192), Err(Cause::NotStatusResponse), "the same again, after a table was refused"),
+    Shown(
+        BoxReads(192),
+        Err(Cause::NotStatusResponse),
+        "the same again, after a table was refused",
+    ),
     Quiet(Spoil(Odd::IdentResponse)),
-    Shown(BoxReads(192), Err(Cause::UnknownService), "an IdentResponse, which the house's table lacks"),
-    Shown(Asnd(60), Ok(Success::Written(60)), "writing an ASnd of service 20h"),
+    Shown(
+        BoxReads(192),
+        Err(Cause::UnknownService),
+        "an IdentResponse, which the house's table lacks",
+    ),
+    Shown(
+        Asnd(60),
+        Ok(Success::Written(60)),
+        "writing an ASnd of service 20h",
+    ),
     Quiet(Raise(1)),
-    Shown(Answer(192), Ok(Success::Written(72)), "an answer under the house's table"),
+    Shown(
+        Answer(192),
+        Ok(Success::Written(72)),
+        "an answer under the house's table",
+    ),
     Shown(BoxReads(192), DONE, "the box reads it"),
     Quiet(Request(7, 60)),
     Shown(HeadReads, DONE, "the request behind it"),
@@ -156,10 +295,22 @@ const OF_TABLES: [Line; 28] = [
 
 const OF_STATUS: [Line; 29] = [
     Quiet(Fresh(7)),
-    Shown(RaiseOne(Kind::Status), Err(Cause::StatusEntry), "an entry with bit 15 set"),
-    Shown(RaiseOne(Kind::StatusTerminator), Err(Cause::EntryInvalid), "one of mode 0 with bit 15 set"),
+    Shown(
+        RaiseOne(Kind::Status),
+        Err(Cause::StatusEntry),
+        "an entry with bit 15 set",
+    ),
+    Shown(
+        RaiseOne(Kind::StatusTerminator),
+        Err(Cause::EntryInvalid),
+        "one of mode 0 with bit 15 set",
+    ),
     Quiet(Raise(16)),
-    Shown(RaiseOne(Kind::Status), Err(Cause::StatusEntry), "a 17th with bit 15 set"),
+    Shown(
+        RaiseOne(Kind::Status),
+        Err(Cause::StatusEntry),
+        "a 17th with bit 15 set",
+    ),
     Quiet(Fresh(7)),
     Quiet(Register(7)),
     Quiet(Raise(2)),
@@ -167,13 +318,25 @@ const OF_STATUS: [Line; 29] = [
     Quiet(PutIn(0, Kind::Status)),
     Quiet(PutIn(2, Kind::Status)),
     Quiet(PutIn(4, Kind::Status)),
-    Shown(BoxReads(240), DONE, "two entries with status entries before, between and behind"),
+    Shown(
+        BoxReads(240),
+        DONE,
+        "two entries with status entries before, between and behind",
+    ),
     Quiet(Answer(240)),
     Quiet(PutIn(1, Kind::Status)),
-    Shown(BoxReads(240), KNOWN, "the answer again, with another status entry"),
+    Shown(
+        BoxReads(240),
+        KNOWN,
+        "the answer again, with another status entry",
+    ),
     Shown(Take(7), DONE, "taking the first entry"),
     Shown(Take(7), DONE, "taking the second"),
-    Shown(Take(7), Err(Cause::NothingBooked), "taking a third: no status entry is booked"),
+    Shown(
+        Take(7),
+        Err(Cause::NothingBooked),
+        "taking a third: no status entry is booked",
+    ),
     Quiet(Request(7, 60)),
     Shown(HeadReads, DONE, "the request behind it"),
     Quiet(Fresh(7)),
@@ -181,9 +344,17 @@ const OF_STATUS: [Line; 29] = [
     Quiet(Raise(2)),
     Quiet(Answer(240)),
     Quiet(PutIn(1, Kind::StatusTerminator)),
-    Shown(BoxReads(240), DONE, "two entries with one of mode 0 and bit 15 set between"),
+    Shown(
+        BoxReads(240),
+        DONE,
+        "two entries with one of mode 0 and bit 15 set between",
+    ),
     Shown(Take(7), DONE, "taking the first entry"),
-    Shown(Take(7), Err(Cause::NothingBooked), "taking the second: the reading ends in front of it"),
+    Shown(
+        Take(7),
+        Err(Cause::NothingBooked),
+        "taking the second: the reading ends in front of it",
+    ),
 ];
 
 const OF_STATUS_ALONE: [Line; 9] = [
@@ -194,7 +365,11 @@ const OF_STATUS_ALONE: [Line; 9] = [
     Quiet(PutIn(0, Kind::Status)),
     Quiet(PutIn(1, Kind::Status)),
     Shown(BoxReads(240), DONE, "nothing but status entries, with EN 1"),
-    Shown(Take(7), Err(Cause::NothingBooked), "taking with nothing booked"),
+    Shown(
+        Take(7),
+        Err(Cause::NothingBooked),
+        "taking with nothing booked",
+    ),
     Shown(BoxReads(240), KNOWN, "the same answer again"),
 ];
 
@@ -207,22 +382,38 @@ const OF_FULL_BOOK: [Line; 26] = [
     Quiet(PutIn(0, Kind::Status)),
     Quiet(PutIn(3, Kind::Status)),
     Quiet(PutIn(6, Kind::Status)),
-    Shown(BoxReads(240), DONE, "four entries and three status entries, with four free places"),
+    Shown(
+        BoxReads(240),
+        DONE,
+        "four entries and three status entries, with four free places",
+    ),
     Quiet(PutIn(4, Kind::Status)),
-    Shown(BoxReads(240), KNOWN, "the answer again, with a fourth and a full book"),
+    Shown(
+        BoxReads(240),
+        KNOWN,
+        "the answer again, with a fourth and a full book",
+    ),
     Quiet(Request(7, 60)),
     Shown(HeadReads, DONE, "the request behind it"),
     Quiet(Answer(240)),
     Quiet(Spoil(Odd::EnOne)),
     Quiet(PutIn(0, Kind::Status)),
-    Shown(BoxReads(240), DONE, "nothing but a status entry, with EN 1 and a full book"),
+    Shown(
+        BoxReads(240),
+        DONE,
+        "nothing but a status entry, with EN 1 and a full book",
+    ),
     Quiet(Answer(240)),
     Quiet(PutIn(0, Kind::Status)),
     Shown(BoxReads(240), DONE, "the same with EN 0"),
     Quiet(Raise(1)),
     Quiet(Answer(240)),
     Quiet(PutIn(0, Kind::Status)),
-    Shown(BoxReads(240), Err(Cause::BookFull), "a status entry and an entry with a full book"),
+    Shown(
+        BoxReads(240),
+        Err(Cause::BookFull),
+        "a status entry and an entry with a full book",
+    ),
     Shown(Take(7), DONE, "taking one"),
     Shown(BoxReads(240), DONE, "the same answer again"),
 ];

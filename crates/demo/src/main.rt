@@ -67,11 +67,15 @@ fn simulated(out: &mut Out<'_, impl Eprint>, scene: &mut Scene) {
 }
 
 fn demo(out: &mut Out<'_, impl Print + Eprint>) {
-    let _ = println!(out.rt; "lines to check: the cause of a refusal, a length, or what a call came to");
+    let _ = println!(out.rt;
+        "lines to check: the cause of a refusal, a length, or what a call came to"
+    );
     let mut scene = Scene::new(lines::play(out.rt));
-    let _ = println!(out.rt; "the simulation: entries, then answers on their way to the box; head 200 is another supplier's, with batches of 6\n\
+    let _ = println!(out.rt;
+        "the simulation: entries, then answers on their way to the box; head 200 is another supplier's, with batches of 6\n\
         and status entries in every answer, which are not booked\n\
-        every second head, 21 and 239, is under the house's table of services, the others under the twelve of DS 301");
+        every second head, 21 and 239, is under the house's table of services, the others under the twelve of DS 301"
+    );
     simulated(out, &mut scene);
     table::simulated(out.rt, &mut scene);
     let _ = println!(out.rt; "the line is good from here on");
@@ -109,7 +113,9 @@ fn is_given(rt: &impl Env, argument: usize) -> bool {
 
 fn main(rt: HostRuntime) {
     if is_given(&rt, 2) {
-        let _ = eprintln!(&rt; "usage: demo [FILE]\nWith FILE, what the box hands out is written there as a journal.");
+        let _ = eprintln!(&rt;
+            "usage: demo [FILE]\nWith FILE, what the box hands out is written there as a journal."
+        );
     } else if is_given(&rt, 1) {
         demo_to_file(&rt);
     } else {

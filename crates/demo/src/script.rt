@@ -115,7 +115,8 @@ impl Script {
     }
 
     fn box_reads(&mut self, most: usize) -> Outcome {
-        self.world.box_read(&self.node, front(self.hand.bytes(), most))
+        self.world
+            .box_read(&self.node, front(self.hand.bytes(), most))
     }
 
     // Four entries are raised, booked and closed.

@@ -1,9 +1,8 @@
 // The simulation: one call after another, by a fixed rule in place of chance.
-use crate::check;
 use crate::journal::Out;
 use crate::target::ROOM;
-use crate::turns;
 use crate::world::{Node, Scene, World};
+use crate::{check, turns};
 
 // The largest prime below 2^31.
 const MODULUS: u64 = 2147483647;

@@ -35,14 +35,18 @@ fn causes(rt: &impl Print, w: &mut World) {
 }
 
 pub fn simulated(rt: &impl Print, scene: &mut Scene) {
-    let _ = println!(rt; "     head   raised  refused   booked    taken     open  waiting     sent     lost repeated");
+    let _ = println!(rt;
+        "     head   raised  refused   booked    taken     open  waiting     sent     lost repeated"
+    );
     for node in &scene.nodes {
         row(rt, node.head);
     }
     let calls = scene.world.calls;
     let by_host = scene.world.by_host;
     let requests = scene.world.sent.saturating_sub(by_host);
-    let _ = println!(rt; "calls {calls}, requests sent {requests}, frames that the host sent by itself {by_host}, refusals by cause");
+    let _ = println!(rt;
+        "calls {calls}, requests sent {requests}, frames that the host sent by itself {by_host}, refusals by cause"
+    );
     causes(rt, &mut scene.world);
 }
 
@@ -61,6 +65,8 @@ pub fn verdict(out: &Out<'_, impl Print + Eprint>, scene: &mut Scene) {
     let _ = if faults == 0 {
         println!(out.rt; "every accepted fault is accounted for")
     } else {
-        println!(out.rt; "{faults} times something else than 01 and 02 have\nFAULTS ARE MISSING OR DOUBLE")
+        println!(out.rt;
+            "{faults} times something else than 01 and 02 have\nFAULTS ARE MISSING OR DOUBLE"
+        )
     };
 }

@@ -62,6 +62,10 @@ impl Frame {
     // The node that a frame of the managing node is for: a PReq's destination, an SoA's target.
     pub fn addressed(&self) -> u8 {
         let octets = &self.octets;
-        if octets[14] == 3 { octets[15] } else { octets[21] }
+        if octets[14] == 3 {
+            octets[15]
+        } else {
+            octets[21]
+        }
     }
 }

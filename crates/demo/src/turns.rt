@@ -29,7 +29,10 @@ pub fn answer(w: &mut World, node: &mut Node, room: usize) {
     let head = node.head;
     let got = if head.is_ours() {
         let got = w.answer(node, room, 9);
-        w.comes_to(outcome(got), expected::writing(answer_len(head.carried()), room));
+        w.comes_to(
+            outcome(got),
+            expected::writing(answer_len(head.carried()), room),
+        );
         got
     } else {
         Ok(foreign::answer(head))
