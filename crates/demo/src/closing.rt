@@ -65,6 +65,7 @@ fn finish(out: &mut Out<'_, impl Print + Eprint>, w: &mut World, node: &mut Node
 }
 
 pub fn all(out: &mut Out<'_, impl Print + Eprint>, scene: &mut Scene) {
+    // By index: after each head, every head is looked at, which lends the whole scene.
     for k in 0..scene.nodes.len() {
         finish(out, &mut scene.world, &mut scene.nodes[k]);
         check::all(scene);

@@ -2,7 +2,7 @@
 use crate::account::{Batch, Head};
 use crate::cause::Cause;
 use crate::entries::Kind;
-use crate::outcome::{DONE, Outcome, Success};
+use crate::outcome::{DONE, IGNORED, KEPT, KNOWN, Outcome, Success};
 use error_entry::ENTRY_LEN;
 
 // The entries that may wait.
@@ -67,7 +67,7 @@ pub fn booking(head: Head, number: u64) -> Outcome {
                 DONE
             }
         }
-        _ => Ok(Success::Known),
+        _ => KNOWN,
     }
 }
 
@@ -80,7 +80,7 @@ pub fn requesting(head: Head, room: usize) -> Outcome {
 // The head's reading of the managing node's frame with this number, for this node.
 pub fn hearing(head: Head, number: u64, node: u8) -> Outcome {
     if node != head.id {
-        return Ok(Success::Ignored);
+        return IGNORED;
     }
     match head.open {
         Some(
@@ -89,7 +89,7 @@ pub fn hearing(head: Head, number: u64, node: u8) -> Outcome {
                 ..
             },
         ) if first <= number => DONE,
-        _ => Ok(Success::Kept),
+        _ => KEPT,
     }
 }
 

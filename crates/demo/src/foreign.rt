@@ -4,18 +4,13 @@
 use crate::account::Head;
 use crate::entries::entry;
 use crate::expected::answer_len;
-use crate::outcome::{DONE, Outcome, Success};
+use crate::outcome::{DONE, IGNORED, KEPT, Outcome};
+use crate::places::{ENTRIES_AT, FLAGS_AT};
 use crate::target::{Frame, ROOM};
 use error_entry::ENTRY_LEN;
 use octets::slices::put;
 
 pub const BATCH: u64 = 6;
-
-// The octets of an answer in front of its entries.
-pub const ENTRIES_AT: usize = 32;
-
-// EN in an answer: bit 4 and 5 of octet 4 of the section.
-const FLAGS_AT: usize = 18;
 
 // How many entries it has sent once its next answer is sent; no more than one batch waits.
 fn sent_then(head: Head) -> u64 {
@@ -57,12 +52,12 @@ pub fn answer(head: Head) -> Frame {
 // What it makes of a frame: EA is bit 2 of octet 4 of the section, in a PReq as in an SoA.
 pub fn hears(head: Head, frame: Frame) -> Outcome {
     if frame.addressed() != head.id {
-        return Ok(Success::Ignored);
+        return IGNORED;
     }
     let ea = frame.octets[FLAGS_AT] / 4 % 2 == 1;
     if head.open.is_some() && ea == en(head) {
         DONE
     } else {
-        Ok(Success::Kept)
+        KEPT
     }
 }

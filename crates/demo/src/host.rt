@@ -19,6 +19,7 @@ use types::poll_flags::{PRFlag, RSFlag};
 use types::requested_service::RequestedServiceId;
 use types::states::NmtState;
 
+// Each kind of frame has fields of its own; what its writing shares is `writes`.
 impl World {
     // Writes a frame without payload, under a head's table of services.
     fn writes(

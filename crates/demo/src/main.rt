@@ -24,6 +24,7 @@ mod line;
 mod lines;
 mod odd;
 mod outcome;
+mod places;
 mod script;
 mod simulate;
 mod status;

@@ -1,32 +1,15 @@
 // Frames that neither the head nor the box has sent.
 use crate::cause::Cause;
 use crate::house;
-use crate::outcome::{Outcome, Success};
+use crate::outcome::{IGNORED, Outcome};
+use crate::places::{
+    DESTINATION_AT, ETHER_TYPE_AT, FLAGS_AT, MESSAGE_AT, SERVICE_AT, SIZE_AT, SOURCE_AT, STATE_AT,
+};
 use crate::target::Frame;
 use octets::slices::put;
 
 // A node that takes no part in the exchange.
 pub const STRANGER: u8 = 0x21;
-
-// Places in a frame.
-const ETHER_TYPE_AT: usize = 12;
-
-const MESSAGE_AT: usize = 14;
-
-const DESTINATION_AT: usize = 15;
-
-const SOURCE_AT: usize = 16;
-
-// An ASnd's service, and an SoA's NMT state.
-const SERVICE_AT: usize = 17;
-
-const EN_AT: usize = 18;
-
-// A StatusResponse's NMT state, and an SoA's requested service.
-const STATE_AT: usize = 20;
-
-// A PReq's payload size.
-const SIZE_AT: usize = 22;
 
 // What is odd of a frame.
 #[derive(Clone, Copy, PartialEq, Eq)]
@@ -94,7 +77,7 @@ impl Odd {
             ],
             Odd::SoC => &[(MESSAGE_AT, 0x01)],
             Odd::NoState => &[(STATE_AT, 0x77)],
-            Odd::EnOne => &[(EN_AT, 0x30)],
+            Odd::EnOne => &[(FLAGS_AT, 0x30)],
         }
     }
 
@@ -140,6 +123,6 @@ impl Odd {
 
     // What the head makes of it.
     pub fn head_makes(self, number: usize) -> Outcome {
-        self.refused(number).map_or(Ok(Success::Ignored), Err)
+        self.refused(number).map_or(IGNORED, Err)
     }
 }

@@ -27,6 +27,7 @@ fn take(out: &mut Out<'_, impl Eprint>, w: &mut World, node: &mut Node) {
     }
 }
 
+// What a head's turn does. A `match`, since each call takes other parts of this: a table of closures would name them twice.
 fn act(out: &mut Out<'_, impl Eprint>, w: &mut World, node: &mut Node, chance: u64) {
     let rest = chance / 32;
     match chance % 32 {

@@ -2,7 +2,7 @@
 // box: when the line repeats it, and when the head sends its batch again, they are others.
 use crate::entries::status;
 use crate::expected::{BARE_LEN, MOST_ENTRIES, answer_len};
-use crate::foreign::ENTRIES_AT;
+use crate::places::ENTRIES_AT;
 use crate::target::{Frame, ROOM};
 use error_entry::{ENTRY_LEN, ErrorEntry};
 

@@ -1,5 +1,7 @@
 // Targets of writers, and frames.
+use crate::places::{DESTINATION_AT, MESSAGE_AT, TARGET_AT};
 use octets::slices::{front, tail};
+use types::message_type::MessageType;
 
 // More than the longest frame.
 pub const ROOM: usize = 240;
@@ -42,7 +44,8 @@ impl Target {
     }
 }
 
-// A frame, in the first octets of a space.
+// A frame, in the first octets of a space. An array with a length, since the line keeps copies of frames; a Vec would have to be
+// allocated for each, and could fail.
 #[derive(Clone, Copy)]
 pub struct Frame {
     pub octets: Space,
