@@ -54,8 +54,8 @@ pub(crate) fn open_batch(state: &mut Reporter)
     state[WAITING_AT] = left;
 }
 
-// The four entries from the ring's start on, whether they are of the batch or not. `map` over the four places would say no
-// less, and ask for a closure's contract: so they are written out.
+// The four entries from the ring's start on, whether they are of the batch or not. They are written out, since of a `map` over
+// the four places (tried) the check does not find what it gives, and its law would take more lines than these.
 #[tactic(auto, using(crate::proofs::Ranges::start_small))]
 fn first_four(state: &Reporter) -> [ErrorEntry; 4]
     ensures { result ≡ first_four state.now }
