@@ -9,14 +9,14 @@ use crate::world::World;
 pub fn play(rt: &impl Print) -> World {
     let mut script = Script::new();
     for lines in [
-        of_01::OF_HEAD.as_slice(),
-        &of_01::OF_BOX,
-        &of_01::OF_READING,
-        &of_01::OF_HOST,
-        &of_02::OF_TABLES,
-        &of_02::OF_STATUS,
-        &of_02::OF_STATUS_ALONE,
-        &of_02::OF_FULL_BOOK,
+        of_01::OF_HEAD,
+        of_01::OF_BOX,
+        of_01::OF_READING,
+        of_01::OF_HOST,
+        of_02::OF_TABLES,
+        of_02::OF_STATUS,
+        of_02::OF_STATUS_ALONE,
+        of_02::OF_FULL_BOOK,
     ] {
         script.play(rt, lines);
     }

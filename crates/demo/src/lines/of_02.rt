@@ -16,7 +16,7 @@ use crate::script::Line;
 use crate::script::Line::{Quiet, Shown};
 
 // Tables of services (02, CR 1): 20 is tested first and 22 last. Until one is loaded, the twelve of DS 301 are in use.
-pub const OF_TABLES: [Line; 28] = [
+pub const OF_TABLES: &[Line] = &[
     Shown(
         Load(b"PLS\x01"),
         Err(NotATable),
@@ -100,7 +100,7 @@ pub const OF_TABLES: [Line; 28] = [
 ];
 
 // Entries with bit 15 set (02, CR 2): no head of ours raises one, and no box books one.
-pub const OF_STATUS: [Line; 29] = [
+pub const OF_STATUS: &[Line] = &[
     Quiet(Fresh(7)),
     Shown(
         RaiseOne(Status),
@@ -161,7 +161,7 @@ pub const OF_STATUS: [Line; 29] = [
 ];
 
 // A batch of nothing else.
-pub const OF_STATUS_ALONE: [Line; 9] = [
+pub const OF_STATUS_ALONE: &[Line] = &[
     Quiet(Fresh(7)),
     Quiet(Register(7)),
     Quiet(Answer(240)),
@@ -174,7 +174,7 @@ pub const OF_STATUS_ALONE: [Line; 9] = [
 ];
 
 // They take no place of a book.
-pub const OF_FULL_BOOK: [Line; 26] = [
+pub const OF_FULL_BOOK: &[Line] = &[
     Quiet(Fresh(7)),
     Quiet(Register(7)),
     Quiet(Exchanges(15)),
