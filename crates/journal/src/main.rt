@@ -35,9 +35,7 @@ fn rest_after(answer: Result<Stop, ListError>, phase: Phase, at: usize) -> Optio
     ensures { result ≡ rest_after answer phase at }
 {
     match answer {
-        Ok(Stop::More) => Some(Rest { phase, at }),
-        Ok(Stop::Full) => Some(Rest { phase, at }),
-        Err(ListError::BufferTooShort) => Some(Rest { phase, at }),
+        Ok(Stop::More | Stop::Full) | Err(ListError::BufferTooShort) => Some(Rest { phase, at }),
         _ => None,
     }
 }
