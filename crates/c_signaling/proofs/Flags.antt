@@ -2,8 +2,8 @@
 -- Assumes nothing.
 use mathlib.Core.Bool.{Bool, false}
 use mathlib.Core.Path.{◌≡◌, refl, ◌∙◌}
-use mathlib.Core.Option.{Option, none, some}
 use native.Mathlib.Omega.{arith}
+use Rattle.std.specs.Prelude.{Option, Some, None}
 use Rattle.error_entry.proofs.Values.{flag_told_lem}
 use Rattle.collector.specs.Layout.{account_of}
 use Rattle.collector.specs.Rules.{Account, flags_answer, flags_cause}
@@ -13,12 +13,12 @@ use Rattle.signaling.proofs.Host.{same_ea}
 use Rattle.c_signaling.specs.Calls.{CFlagsTell}
 
 told_ea : (p : Option Account) (a a' : Bool) → 0 ≡ (flags_cause (flags_answer p)).number → a' ≡ flag_told (flags_cause (flags_answer p)) 0 a → a' ≡ ea_of p
-told_ea none a a' n e = absurd (omega arith)
-told_ea (some p) a a' n e = e ∙ flag_told_lem p.ea
+told_ea None a a' n e = absurd (omega arith)
+told_ea (Some p) a a' n e = e ∙ flag_told_lem p.ea
 
 no_ea : (p : Option Account) → 11 ≡ (flags_cause (flags_answer p)).number → false ≡ ea_of p
-no_ea none n = refl
-no_ea (some p) n = absurd (omega arith)
+no_ea None n = refl
+no_ea (Some p) n = absurd (omega arith)
 
 pub c_flags_tell : CFlagsTell
 c_flags_tell =

@@ -4,10 +4,9 @@ use Prim.Native.Nat.{ℕ}
 use mathlib.Core.Bool.{Bool, true, false}
 use mathlib.Core.Path.{◌≡◌, refl, ap, ◌∙◌}
 use mathlib.Core.List.{List, [], ◌∷◌}
-use mathlib.Core.Option.{Option, none, some}
 use lib.ListN.{length}
 use lib.Dec.{eqb, leb}
-use Rattle.std.specs.Prelude.{Result, Ok, Err}
+use Rattle.std.specs.Prelude.{Result, Ok, Err, Option, Some, None}
 use Rattle.types.specs.Causes.{row, cause_of, error_told}
 use Rattle.types.specs.Codes.{need, pick}
 use Rattle.types.specs.declared.hal.PowerlinkError.{PowerlinkError}
@@ -72,8 +71,8 @@ request_by false m r n n' o o' t = rw t.cause
 pub request_row : (j : ℕ) (f : RequestFields) (t : List ℕ) (p : Option rules.Account) (r n n' o o' : ℕ)
     → RowTold (rules.request_cause (rules.request_answer j f t p)) r n n' o o' → box.request_told (row r (n' ∷ [])) ≡ rules.request_answer j f t p
 unfolding write_answer
-request_row j f t none r n n' o o' y = rw y.cause
-request_row j f t (some p) r n n' o o' y =
+request_row j f t None r n n' o o' y = rw y.cause
+request_row j f t (Some p) r n n' o o' y =
     let bs = rules.request_frame j f p.ea in
     request_by (leb (length bs) (length t)) (length bs) r n n' o o' y
 
@@ -88,8 +87,8 @@ unasked_by true e = no_0 e
 unasked_by false e = refl
 
 pub unasked_number : (e : PowerlinkError) (t : List ℕ) (p : Option rules.Account) → eqb (rules.request_cause (unasked e t p)).number 0 ≡ false
-unasked_number e t none = refl
-unasked_number e t (some p) = unasked_by (leb min_frame (length t)) e
+unasked_number e t None = refl
+unasked_number e t (Some p) = unasked_by (leb min_frame (length t)) e
 
 -- ---- readings: the octet of a refusal
 

@@ -52,7 +52,7 @@ fn service_name(id: u8) -> &'static str {
     }
 }
 
-// Under the table of the twelve; a service's code is the octet itself.
+// Under the table of the twelve. No `list`: a service is a number that no `Debug` names.
 fn list_services(rt: &impl Print) -> io::Result<()> {
     println!(rt; "{:<24}code", "services")?;
     for id in 0..=255u8 {

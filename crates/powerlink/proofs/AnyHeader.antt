@@ -171,12 +171,12 @@ no_room_lem h (unnamed j e) t n o short =
 -- a code that is named gives the frame, and one that is not the same error
 module _ (h : EthernetHeader) (n k : ℕ) (more : 14 + n ≡ k) where
   by_state : (a : Result NmtState PowerlinkError) (f g : NmtState → Coded) → ((s : NmtState) → behind_header h (f s) ≡ g s) → behind_header h (stated n a f) ≡ stated k a g
-  by_state (Err (InvalidNmtState b)) f g e = ap (λ (i : ℕ). unnamed i (InvalidNmtState b)) more
+  by_state (Err x) f g e = ap (λ (i : ℕ). unnamed i x) more
   by_state (Ok s) f g e = e s
 
   by_request : (a : Result RequestedServiceId PowerlinkError) (f g : RequestedServiceId → Coded) → ((s : RequestedServiceId) → behind_header h (f s) ≡ g s)
       → behind_header h (requested n a f) ≡ requested k a g
-  by_request (Err (InvalidRequestedServiceId b)) f g e = ap (λ (i : ℕ). unnamed i (InvalidRequestedServiceId b)) more
+  by_request (Err x) f g e = ap (λ (i : ℕ). unnamed i x) more
   by_request (Ok s) f g e = e s
 
 by_service : (h : EthernetHeader) (b : Bool) (bs : List ℕ) (e : PowerlinkError)

@@ -4,10 +4,9 @@ use Prim.Native.Nat.{ℕ}
 use mathlib.Core.Bool.{Bool, true, false}
 use mathlib.Core.Path.{◌≡◌, refl, ap, ◌∙◌}
 use mathlib.Core.List.{List}
-use mathlib.Core.Option.{Option, none, some}
 use lib.ListN.{length, get_or}
 use lib.Dec.{eqb, leb}
-use Rattle.std.specs.Prelude.{Result, Ok, Err}
+use Rattle.std.specs.Prelude.{Result, Ok, Err, Option, Some, None}
 use Rattle.types.specs.Codes.{pick}
 use Rattle.types.specs.States.{state_of}
 use Rattle.types.specs.declared.hal.PowerlinkError.TheVariants.{BufferTooShort}
@@ -72,16 +71,16 @@ module _ (i : ℕ) (f : NmtState → RequestFields) (code : ℕ) where
     asks_nobody t n o h =
         record { told = rw (q, no_place (account_of s i) h) (record { cause = refl; value = refl; octet = refl }); requests = rw q refl }
       where
-        no_place : (p : Option Account) → false ≡ is_registered p → p ≡ none
-        no_place none h = refl
-        no_place (some p) h = cc
+        no_place : (p : Option Account) → false ≡ is_registered p → p ≡ None
+        no_place None h = refl
+        no_place (Some p) h = cc
 
     module _ (t : List ℕ) (r n o o' : ℕ) where
       unasked_told : (p : Option Account) → true ≡ is_registered p
           → (r ≡ (write_cause (unnamed_answer min_frame e (length t))).number) × (o' ≡ octet_after (unnamed_answer min_frame e (length t)) o)
           → RowTold (request_cause (unasked e t p)) r n n o o'
-      unasked_told none h u = let z : ◌≡◌ {A = Bool} true false = h in record { cause = cc; value = cc; octet = cc }
-      unasked_told (some p) h u =
+      unasked_told None h u = let z : ◌≡◌ {A = Bool} true false = h in record { cause = cc; value = cc; octet = cc }
+      unasked_told (Some p) h u =
           rw (same_row (unnamed_answer min_frame e (length t))) at (unnamed_told (leb min_frame (length t)) e r n o o' u)
 
       pub asks_none : true ≡ is_registered (account_of s i)
@@ -98,8 +97,8 @@ module _ (i : ℕ) (f : NmtState → RequestFields) (code : ℕ) where
 
     octet_known : (o : ℕ) (p : Option Account) → o ≡ octet_told (request_cause (request_answer i (f k) t p)) o
     unfolding write_answer
-    octet_known o none = refl
-    octet_known o (some p) =
+    octet_known o None = refl
+    octet_known o (Some p) =
         let bs = request_frame i (f k) p.ea in
         octet_by (leb (length bs) (length t)) (length bs) o
 

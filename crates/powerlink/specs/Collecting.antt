@@ -1,8 +1,7 @@
 -- What the calls of a collector leave to a caller in C: all that the call below promises, with the rule's answer; that answer's number; and
 -- the out-parameters, off its row. Where a code names nothing, no call is made below: the target stays, and nothing is sent.
 -- Assumes nothing.
-use Rattle.std.specs.Prelude.{ℕ, Bool, ◌≡◌, List, length, Result, Ok, Err}
-use Rattle.std.proofs.Math.Option.{Option, none, some}
+use Rattle.std.specs.Prelude.{ℕ, Bool, ◌≡◌, List, length, Result, Ok, Err, Option, Some, None}
 use Rattle.types.specs.States.{state_of}
 use Rattle.types.specs.declared.states.NmtState.{NmtState}
 use Rattle.section.specs.Write.{min_frame, unnamed_answer}
@@ -41,8 +40,8 @@ request_fields from version state =
 
 -- a code that names no state: 11, then 1, then 5
 abbrev pub unasked : PowerlinkError → List ℕ → Option Account → Result ℕ RequestError
-unasked e t none = Err requesting.NotRegistered
-unasked e t (some p) = as_request (unnamed_answer min_frame e (length t))
+unasked e t None = Err requesting.NotRegistered
+unasked e t (Some p) = as_request (unnamed_answer min_frame e (length t))
 
 abbrev pub request_by : ℕ → (NmtState → RequestFields) → Result NmtState PowerlinkError → List ℕ → Option Account → Result ℕ RequestError
 request_by i f (Err e) t p = unasked e t p

@@ -24,8 +24,10 @@ pub fn powerlink_deserialize_eth_header(
     match deserialize_eth_header(buffer) {
         Err(e) => e.number(),
         Ok(header) => {
-            *destination = header.destination_mac.0;
-            *source = header.source_mac.0;
+            let d = header.destination_mac.0;
+            let s = header.source_mac.0;
+            *destination = d;
+            *source = s;
             *ether_type = header.ether_type;
             0
         }
@@ -40,9 +42,9 @@ pub fn powerlink_deserialize_pl_header(buffer: &[u8], values: &mut [u64; 3], oct
         Err(e) => refusal(e, octet),
         Ok(h) => {
             *values = [
-                u64::from(u8::from(h.message_type)),
-                u64::from(h.destination.0),
-                u64::from(h.source.0),
+                u8::from(h.message_type) as u64,
+                h.destination.0 as u64,
+                h.source.0 as u64,
             ];
             0
         }

@@ -88,7 +88,7 @@ fn read_pres(s: &[u8], values: &mut [u64; 16], octet: &mut u8) -> u8
             let f = codec::pres::fields(s, state, size);
             let mut numbers = pres_values(f, payload_place(PowerlinkFrame::PRes(f), s));
             // The state's number is its octet: the compiler then makes no table of states.
-            numbers[10] = u64::from(byte_at(s, pres::STATE_AT));
+            numbers[10] = byte_at(s, pres::STATE_AT) as u64;
             *values = numbers;
             0
         }
@@ -104,8 +104,8 @@ fn read_soa(s: &[u8], values: &mut [u64; 16], octet: &mut u8) -> u8
             let f = codec::soa::fields(s, state, service);
             let mut numbers = soa_values(f, payload_place(PowerlinkFrame::SoA(f), s));
             // And so is the service's.
-            numbers[7] = u64::from(byte_at(s, soa::SERVICE_AT));
-            numbers[10] = u64::from(byte_at(s, soa::STATE_AT));
+            numbers[7] = byte_at(s, soa::SERVICE_AT) as u64;
+            numbers[10] = byte_at(s, soa::STATE_AT) as u64;
             *values = numbers;
             0
         }

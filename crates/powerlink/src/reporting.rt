@@ -5,8 +5,7 @@ ghost use Rattle.powerlink.specs.Reporting.{ReporterMakes, ReporterRaises, Repor
 use c_values::answers::{refusal, told, unnamed};
 use c_values::values::entry_given;
 use reporter::{
-    AnswerFields, NewError, RaiseError, ReadOutcome, Reporter, answer, answer_len, new, raise,
-    read,
+    AnswerFields, NewError, RaiseError, ReadOutcome, Reporter, answer, answer_len, new, raise, read,
 };
 use services::table::Services;
 use status_response::bit_field::StaticErrorBitField;

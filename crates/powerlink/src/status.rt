@@ -32,7 +32,7 @@ pub fn powerlink_deserialize_status(
         Ok(status) => {
             let mut numbers = status_values(status.fields);
             // The state's number is its octet: the compiler then makes no table of states.
-            numbers[4] = u64::from(payload[STATE_AT]);
+            numbers[4] = payload[STATE_AT] as u64;
             *values = numbers;
             *field = status.static_error_bit_field.to_bytes();
             0

@@ -16,7 +16,6 @@ use Rattle.codec.specs.Frame.{read_frame}
 use Rattle.reporter.specs.Calls.{Makes, Numbers, Raises, Acknowledges, Reads}
 use Rattle.reporter.specs.Layout.{reporter_length, en_of, open_of, waiting_of, head_of, new_bytes, raise_bytes, acknowledge_bytes}
 use Rattle.reporter.specs.Rules.{queue_length, new_answer, new_cause, is_raisable, raise_answer, raise_cause, ea_answer, acknowledge_answer, read_cause, after_acknowledge, ea_told}
-use Rattle.reporter.specs.declared.NewError.TheVariants.{IdOutOfRange}
 use Rattle.reporter.specs.declared.RaiseError.TheVariants.{EntryInvalid, StatusEntry, QueueFull}
 use Rattle.reporter.specs.declared.ReadOutcome.TheVariants.{Closed, Kept}
 use Rattle.reporter.proofs.Meaning.{made, raises_means, reads_means}
@@ -29,14 +28,8 @@ use Rattle.types.specs.declared.hal.PowerlinkError.{PowerlinkError}
 -- ---- a new head
 
 module _ (i : NodeId) (s : List ℕ) where
-  pub makes_not : (Err IdOutOfRange) ≡ new_answer i.0 → Makes i (Err IdOutOfRange) s s
-  makes_not e = record { answer = e; cause = ap new_cause e; head = λ r. let z : ◌≡◌ {A = ℕ} 0 1 = cc in absurd (omega arith); bytes = refl }
-
   pub makes : (Ok tt) ≡ new_answer i.0 → Makes i (Ok tt) s (new_bytes (Ok tt) i.0 s)
   makes e = record { answer = e; cause = ap new_cause e; head = λ r. made i.0 s; bytes = refl }
-
-  pub id_bad : is_cn_node_id i.0 ≡ false → (Err IdOutOfRange) ≡ new_answer i.0
-  id_bad h = rw h
 
   pub id_good : is_cn_node_id i.0 ≡ true → (Ok tt) ≡ new_answer i.0
   id_good h = rw h

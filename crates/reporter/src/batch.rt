@@ -54,7 +54,8 @@ pub(crate) fn open_batch(state: &mut Reporter)
     state[WAITING_AT] = left;
 }
 
-// The four entries from the ring's start on, whether they are of the batch or not.
+// The four entries from the ring's start on, whether they are of the batch or not. They are written out, since of a `map` over
+// the four places (tried) the check does not find what it gives, and its law would take more lines than these.
 #[tactic(auto, using(crate::proofs::Ranges::start_small))]
 fn first_four(state: &Reporter) -> [ErrorEntry; 4]
     ensures { result ≡ first_four state.now }
@@ -93,7 +94,8 @@ fn fill(len: usize, target: &mut [u8]) -> usize
     len.max(PAYLOAD_MIN)
 }
 
-// Writes an answer's payload, and behind it the zeros up to the smallest frame, if both fit.
+// Writes an answer's payload, and behind it the zeros up to the smallest frame, if both fit. A struct of the three parameters,
+// which two more have, would borrow two of them to be taken apart at once: so they come one by one.
 fn write_payload(
     state: &Reporter,
     fields: AnswerFields,

@@ -68,6 +68,7 @@ const BARE_ANSWER_LEN: usize = PAYLOAD_AT + FRONT_LEN + ENTRY_LEN;
 //   is known and closed, and what has joined is lost;
 // - begun anew after an odd number of booked batches: EA is 1 and so is the first EN; that batch is known and lost.
 // No other StatusResponse goes out under its ID, since each tells the box EN.
+// C lends these octets: so they are an array with a ring in it, and no struct with entries.
 pub type Reporter = [u8; REPORTER_LEN];
 
 // Why no state is made.

@@ -1,5 +1,5 @@
 // The octets of the state: control octets, then a ring of records. The open batch is the ring's first records, the waiting
-// ones follow.
+// ones follow. The ring of `collector` has other places and no open batch: what both share is `records`.
 ghost use Rattle.std.specs.Prelude.{◌≡◌, ◌<◌, ltb};
 ghost use Rattle.reporter.specs.Layout.{en_of, start_of, open_of, waiting_of, record_place, entry_in, raised_bytes, closed_bytes};
 ghost use Rattle.reporter.specs.Rules.{queue_length, is_raisable};

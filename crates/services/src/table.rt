@@ -7,6 +7,7 @@ use crate::STATUS_RESPONSE;
 
 pub const SERVICES_LEN: usize = 256;
 
+// Octets and no set of IDs: C lends them.
 pub type Services = [u8; SERVICES_LEN];
 
 // Whether a table holds a service.

@@ -3,18 +3,15 @@
 use Prim.Native.Nat.{ℕ, zero, suc, ◌+◌, ◌*◌, ◌-◌, ◌/◌, ◌%◌, ◌≤◌, ◌<◌}
 use mathlib.Core.Bool.{Bool, true, false}
 use mathlib.Core.Path.{◌≡◌, refl, sym, ap, ◌∙◌}
-use mathlib.Core.Logic.{◌⊎◌, inl, inr}
-use mathlib.Core.List.{List, [], ◌++◌, append-nil}
+use mathlib.Core.List.{List}
 use native.Mathlib.Nat.{zero-add}
 use native.Mathlib.Omega.{arith}
-use lib.ListN.{length, get_or, take, drop, replicate, length-append, length-drop, drop_of_length-le}
+use lib.ListN.{length, get_or, take, drop, replicate, length-append, length-drop}
 use lib.Dec.{eqb, leb}
-use lib.Seq.{sets, length-sets, take-add, take_all, take_at, drop_at, drop-drop, get_or-drop, length-take-le}
+use lib.Seq.{sets, length-sets, take-add, take_all, get_or-drop, length-take-le}
 use borrow.Author.Tests.{le-leb, eq-eqb, eqb-true, leb-true, leb-false}
 use borrow.Rule.Slice.PartMut.{mid_of, put_mid}
-use Rattle.std.specs.Prelude.{min, Ok, Err}
-use Rattle.std.proofs.lemmas.List.{nil_from_length}
-use Rattle.octets.proofs.Order.{le_or_lt}
+use Rattle.std.specs.Prelude.{Ok, Err}
 use Rattle.octets.proofs.Sets.{sets_append}
 use Rattle.section.proofs.Sections.{refuses, writes}
 use Rattle.types.specs.Codes.{need}
@@ -30,6 +27,7 @@ use Rattle.status_response.specs.Parts.{batch_of, entries_put}
 use Rattle.status_response.specs.Steps.{entries_bytes, status_bytes, status_length}
 use Rattle.status_response.specs.declared.bit_field.StaticErrorBitField.{StaticErrorBitField}
 use Rattle.status_response.specs.declared.fields.StatusFields.{StatusFields}
+use Rattle.status_response.proofs.Places.{part_length}
 use Rattle.status_response.proofs.WriteLaws.{put_is, status_length_lem}
 
 entries_count : (n : ℕ) (s : List ℕ) → length (entries_of n s) ≡ n
@@ -71,45 +69,49 @@ group_put s t u batch few whole o eb eu =
     ∙ ap (λ (es : List ErrorEntry). sets t front_length (entries_bytes es)) (take_all (length (take n batch)) (take n batch) (omega arith) ∙ is)
     ∙ ap (sets t front_length) (entries_octets n s (omega arith) o ∙ take_all (entry_length * n) s (omega arith))
 
--- up to k octets of a list, and those behind them
-parted : (k : ℕ) (l x rest : List ℕ) → l ≡ x ++ rest → length x ≡ min k (length l) → (x ≡ take k l) × (rest ≡ drop k l)
-parted k l x rest e n = split (le_or_lt k (length l))
-  where
-    whole : length l ≡ length x + length rest
-    whole = ap length e ∙ length-append x rest
+-- and four of them, which are the batch
+pub whole_put : (s t u : List ℕ) (batch : List ErrorEntry) → length s ≡ 80 → Octets s → batch ≡ batch_of 4 s
+    → u ≡ entries_put batch t (length batch) → u ≡ sets t front_length s
+whole_put s t u batch n o eb eu =
+    let count : length batch ≡ 4 = ap length eb in
+    let four : length s / 20 ≡ 4 = omega arith in
+    let all : take (length s / 20) batch ≡ batch = take_all (length s / 20) batch (omega arith) in
+    group_put s t u batch (omega arith) (omega arith) o eb (eu ∙ ap (λ (es : List ErrorEntry). entries_put es t (length es)) (sym all))
 
-    split : (k ≤ length l) ⊎ (length l < k) → (x ≡ take k l) × (rest ≡ drop k l)
-    split (inl h) =
-        let m : length x ≡ k = omega arith in
-        (sym (ap (take k) e ∙ take_at x rest k m), sym (ap (drop k) e ∙ drop_at x rest k m))
-    split (inr h) =
-        let none : rest ≡ [] = nil_from_length rest (omega (arith, n, whole)) in
-        let all : x ≡ l = sym (e ∙ ap (λ (r : List ℕ). x ++ r) none ∙ append-nil x) in
-        (all ∙ sym (take_all k l (omega arith)), none ∙ sym (drop_of_length-le l (omega arith)))
+-- a group of k octets behind the first `at`, which are put already
+module _ (at k : ℕ) (s t t₀ : List ℕ) (there : at + k ≤ length s) (fits : front_length + length s + entry_length ≤ length t₀)
+    (put : t ≡ sets t₀ front_length (take at s)) where
+  same : length t ≡ length t₀
+  same = ap length put ∙ length-sets t₀ front_length (take at s)
 
--- a group is put behind those before it
-pub group_step : (i n m : ℕ) (s t t₀ x rest behind u : List ℕ) → i ≡ n → m ≡ n + 1 → front_length + length s + entry_length ≤ length t₀
-    → t ≡ sets t₀ front_length (take (80 * n) s) → rest ≡ drop (80 * n) s
-    → rest ≡ x ++ behind → length x ≡ min 80 (length rest) → 0 < length rest → u ≡ sets (mid_of (80 * i) (length t - 80 * i) t) front_length x
-    → (put_mid (80 * i) (length t - 80 * i) t u ≡ sets t₀ front_length (take (80 * m) s)) × (behind ≡ drop (80 * m) s)
-group_step i n m s t t₀ x rest behind u ei em fits put er ex lx some eu =
-    let at : ℕ = 80 * i in
-    let p = parted 80 rest x behind ex lx in
-    let there : at ≤ length s = omega (arith, ap length er ∙ length-drop (80 * n) s) in
-    let same : length t ≡ length t₀ = ap length put ∙ length-sets t₀ front_length (take (80 * n) s) in
-    let l : length (take at s) ≡ at = length-take-le at s there in
-    let place : at + front_length ≡ front_length + length (take at s) = omega (arith, l) in
-    let next : 80 * m ≡ at + 80 = omega arith in
-    let e : 80 * n ≡ at = omega arith in
-    let is : x ≡ take 80 (drop at s) = p.0 ∙ ap (take 80) (er ∙ ap (λ (k : ℕ). drop k s) e) in (
+  pub group_fits : k % entry_length ≡ 0 → k ≤ 80
+      → (length (take k (drop at s)) % entry_length ≡ 0) × ((length (take k (drop at s)) ≤ 80) × (front_length + length (take k (drop at s)) + entry_length ≤ length (mid_of at (length t - at) t)))
+  group_fits e few =
+      let l : length (take k (drop at s)) ≡ k = length-take-le k (drop at s) (simp length-drop (omega arith)) in
+      let m : length (mid_of at (length t - at) t) ≡ length t - at = part_length at (length t - at) t (omega (arith, same)) in
+      (rw l e, (omega arith, omega (arith, same)))
+
+  pub four_fits : k ≡ 80 → (length (take k (drop at s)) ≡ 80) × (34 + 20 * 4 ≤ length (mid_of at (length t - at) t))
+  four_fits e =
+      let l : length (take k (drop at s)) ≡ k = length-take-le k (drop at s) (simp length-drop (omega arith)) in
+      let m : length (mid_of at (length t - at) t) ≡ length t - at = part_length at (length t - at) t (omega (arith, same)) in
+      (l ∙ e, omega (arith, same))
+
+  pub group_behind : (n : ℕ) (u : List ℕ) → n ≡ at + k → u ≡ sets (mid_of at (length t - at) t) front_length (take k (drop at s))
+      → put_mid at (length t - at) t u ≡ sets t₀ front_length (take n s)
+  group_behind n u en eu =
+      let l : length (take at s) ≡ at = length-take-le at s (omega arith) in
+      let place : at + front_length ≡ front_length + length (take at s) = omega (arith, l) in
       ap (put_mid at (length t - at) t) eu
-          ∙ sets_rest at front_length t x (omega (arith, same))
-          ∙ ap (λ (v : List ℕ). sets v (at + front_length) x) (put ∙ ap (λ (k : ℕ). sets t₀ front_length (take k s)) e)
-          ∙ ap (λ (k : ℕ). sets (sets t₀ front_length (take at s)) k x) place
-          ∙ sym (sets_append t₀ front_length (take at s) x)
-          ∙ ap (sets t₀ front_length) (ap (λ (v : List ℕ). take at s ++ v) is ∙ sym (take-add at 80 s) ∙ ap (λ (k : ℕ). take k s) (sym next)),
-      p.1 ∙ ap (drop 80) (er ∙ ap (λ (k : ℕ). drop k s) e) ∙ drop-drop 80 at s ∙ ap (λ (k : ℕ). drop k s) (sym next),
-    )
+      ∙ sets_rest at front_length t (take k (drop at s)) (omega (arith, same))
+      ∙ ap (λ (v : List ℕ). sets v (at + front_length) (take k (drop at s))) put
+      ∙ ap (λ (i : ℕ). sets (sets t₀ front_length (take at s)) i (take k (drop at s))) place
+      ∙ sym (sets_append t₀ front_length (take at s) (take k (drop at s)))
+      ∙ ap (sets t₀ front_length) (sym (take-add at k s) ∙ ap (λ (i : ℕ). take i s) (sym en))
+
+-- all octets are put
+pub all_put : (at : ℕ) (s t t₀ : List ℕ) → length s ≤ at → t ≡ sets t₀ front_length (take at s) → t ≡ sets t₀ front_length s
+all_put at s t t₀ h e = e ∙ ap (sets t₀ front_length) (take_all at s h)
 
 -- ---- the whole
 

@@ -69,13 +69,16 @@ fn finish(n: usize, target: &mut [u8]) -> Result<usize, PowerlinkError>
     Err(PowerlinkError::BufferTooShort)
 }
 
-// Writes each entry at its place.
+// Writes each entry at its place. With `for` the writing of a group is slower (`given::put_groups`).
 pub(crate) fn write_entries(entries: &[ErrorEntry], target: &mut [u8])
     requires { status_length (length entries.now) ≤ length target.old }
     ensures { target.new ≡ entries_put entries.now target.old (length entries.now) }
 {
-    for (i, entry) in entries.iter().enumerate() {
-        put_entry(*entry, i, target);
+    let n = entries.len();
+    let mut i = 0usize;
+    while i < n {
+        put_entry(entries[i], i, target);
+        i += 1;
     }
 }
 

@@ -40,8 +40,17 @@ fn four(s: &[u8]) -> [ErrorEntry; 4]
     ]
 }
 
-// Writes the entries that `s` is, up to four, behind the front of `target`, which stays.
-fn put_group(s: &[u8], target: &mut [u8])
+// Writes the four entries that `s` is behind the front of `target`, which stays. A number that the compiler knows spares it
+// the loop over them.
+fn put_four(s: &[u8], target: &mut [u8])
+    requires { (length s.now ≡ 80) × (status_length 4 ≤ length target.old) }
+    ensures { target.new ≡ sets target.old front_length s.now }
+{
+    write_entries(&four(s), target);
+}
+
+// The same of the up to three that are left.
+fn put_rest(s: &[u8], target: &mut [u8])
     requires { (length s.now % entry_length ≡ 0) × ((length s.now ≤ 80) × (front_length + length s.now + entry_length ≤ length target.old)) }
     ensures { target.new ≡ sets target.old front_length s.now }
 {
@@ -49,13 +58,19 @@ fn put_group(s: &[u8], target: &mut [u8])
     write_entries(&batch[..s.len() / ENTRY_LEN], target);
 }
 
-// Writes all entries there, four at a time.
+// Writes all entries there, four at a time. With `for` over `chunks`, here and in `write_entries`, 60 entries took 1.6 of the Rust's time, and not 0.55.
 fn put_groups(entries: &[u8], target: &mut [u8])
     requires { (length entries.now % entry_length ≡ 0) × (front_length + length entries.now + entry_length ≤ length target.old) }
     ensures { target.new ≡ sets target.old front_length entries.now }
 {
-    for (i, group) in entries.chunks(GROUP_LEN).enumerate() {
-        put_group(group, &mut target[GROUP_LEN * i..]);
+    let len = entries.len();
+    let mut at = 0;
+    while GROUP_LEN <= len - at {
+        put_four(&entries[at..at + GROUP_LEN], &mut target[at..]);
+        at += GROUP_LEN;
+    }
+    if at < len {
+        put_rest(&entries[at..], &mut target[at..]);
     }
 }
 

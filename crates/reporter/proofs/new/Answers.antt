@@ -1,13 +1,8 @@
 -- `new` meets its contract.
 -- Assumes nothing.
 use mathlib.Core.Path.{sym, ◌∙◌}
-use Rattle.reporter.proofs.CallLaws.{makes_not, makes, id_bad, id_good}
+use Rattle.reporter.proofs.CallLaws.{makes, id_good}
 use Rattle.reporter.proofs.new.Goals as goal
-
-pub returns-then-not-is_cn : goal.returns-then-not-is_cn
-returns-then-not-is_cn c =
-    let a = c.args in
-    makes_not a.id a.state.now (id_bad a.id a.state.now (sym c.is_cn.ensures ∙ c.if-not-is_cn.true))
 
 pub returns : goal.returns
 returns c =

@@ -2,7 +2,6 @@
 -- Assumes nothing.
 use borrow.Author.Rules.{rules}
 use mathlib.Core.Path.{sym, ◌∙◌}
-use borrow.Author.Tests.{ltb-true}
 use Rattle.reporter.proofs.CallLaws.{raise_invalid, raise_status, raise_full, raise_good, not_raised, raised}
 use Rattle.reporter.proofs.raise.Goals as goal
 
@@ -24,9 +23,6 @@ returns-then-not-has_room c =
     let s = a.state.now in
     not_raised a.entry s (search rules) _
     (raise_full a.entry s _ c.raisable.ensures c.if-not-raisable.false (rw c.if-entry.false) (sym c.has_room.ensures ∙ c.if-not-has_room.true))
-
-pub push-requires : goal.push-requires
-push-requires c = ltb-true _ _ (sym c.has_room.ensures ∙ c.if-not-has_room.false)
 
 pub returns : goal.returns
 returns c =

@@ -20,10 +20,8 @@ returns-in-Ok-request c =
 
 pub returns-in-Err-NotRegistered : goal.returns-in-Err-NotRegistered
 returns-in-Err-NotRegistered c =
-    let q = c.in-Err-NotRegistered.is in
-    asks_told _ _ _ _ (sym c.try_from.ensures.answer ∙ c.in-Ok.is) _ _ _ _ _ _ _ _ c.request.ensures (rw q) (rw q)
+    asks_told _ _ _ _ (sym c.try_from.ensures.answer ∙ c.in-Ok.is) _ _ _ _ _ _ _ _ c.request.ensures (rw (c.in-Err-NotRegistered.is, c.in-Err-NotRegistered.field-0-is)) (rw (c.in-Err-NotRegistered.is, c.in-Err-NotRegistered.field-0-is))
 
 pub returns-in-Err-Frame : goal.returns-in-Err-Frame
 returns-in-Err-Frame c =
-    let q = c.in-Err-Frame.is in
-    asks_told _ _ _ _ (sym c.try_from.ensures.answer ∙ c.in-Ok.is) _ _ _ _ _ _ _ _ c.request.ensures (c.number.ensures ∙ rw q) (rw q (sym (not_0 c.in-Err-Frame.e _ _)))
+    asks_told _ _ _ _ (sym c.try_from.ensures.answer ∙ c.in-Ok.is) _ _ _ _ _ _ _ _ c.request.ensures (c.number.ensures ∙ rw (c.in-Err-Frame.is, c.in-Err-Frame.field-0-is)) (rw (c.in-Err-Frame.is, c.in-Err-Frame.field-0-is) (sym (not_0 c.in-Err-Frame.e _ _)))

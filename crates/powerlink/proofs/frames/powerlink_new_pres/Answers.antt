@@ -20,4 +20,4 @@ unfolding frame_bytes pres_section
 returns-in-Ok c =
     let known = sym c.try_from.ensures.answer ∙ c.in-Ok.is in
     let code = state_code_lem _ _ known in
-    writes_named _ _ _ _ _ _ _ _ (rw (known, c.from-in-Ok.ensures, code)) (rw (c.to_bytes-fields.ensures, c.new-new.ensures) at c.put_frame.ensures)
+    writes_named _ _ _ _ _ _ _ _ (rw (known, c.from.ensures, code)) (rw (c.to_bytes-fields.ensures, c.new-new.ensures) at c.put_frame.ensures)

@@ -6,8 +6,8 @@ use Rattle.powerlink.proofs.headers.powerlink_deserialize_eth_header.Goals as go
 
 pub returns-in-Err : goal.returns-in-Err
 returns-in-Err c =
-    eth_refused _ _ _ _ _ _ (sym c.deserialize_eth_header.ensures.answer ∙ c.in-Err.is) c.number.ensures
+    eth_refused _ _ _ _ _ _ (sym c.deserialize_eth_header.ensures.read ∙ c.in-Err.is) c.number.ensures
 
 pub returns-in-Ok : goal.returns-in-Ok
 returns-in-Ok c =
-    eth_read _ _ _ _ _ (sym c.deserialize_eth_header.ensures.answer ∙ c.in-Ok.is)
+    eth_read _ _ _ _ _ (sym c.deserialize_eth_header.ensures.read ∙ c.in-Ok.is)

@@ -19,10 +19,8 @@ returns-in-Ok-write c =
 
 pub returns-in-Err-BufferTooShort : goal.returns-in-Err-BufferTooShort
 returns-in-Err-BufferTooShort c =
-    let q = c.in-Err-BufferTooShort.is in
-    records_told _ _ _ _ _ _ _ _ _ _ _ (sym c.try_from.ensures.answer ∙ c.in-Ok.is) c.entry_given-entry.ensures c.write.ensures (rw q) (rw q)
+    records_told _ _ _ _ _ _ _ _ _ _ _ (sym c.try_from.ensures.answer ∙ c.in-Ok.is) c.entry_given-entry.ensures c.write.ensures (rw (c.in-Err-BufferTooShort.is, c.in-Err-BufferTooShort.field-0-is)) (rw c.in-Err-BufferTooShort.is)
 
 pub returns-in-Err-RecordInvalid : goal.returns-in-Err-RecordInvalid
 returns-in-Err-RecordInvalid c =
-    let q = c.in-Err-RecordInvalid.is in
-    records_told _ _ _ _ _ _ _ _ _ _ _ (sym c.try_from.ensures.answer ∙ c.in-Ok.is) c.entry_given-entry.ensures c.write.ensures (rw q) (rw q)
+    records_told _ _ _ _ _ _ _ _ _ _ _ (sym c.try_from.ensures.answer ∙ c.in-Ok.is) c.entry_given-entry.ensures c.write.ensures (rw (c.in-Err-RecordInvalid.is, c.in-Err-RecordInvalid.field-0-is)) (rw c.in-Err-RecordInvalid.is)

@@ -10,10 +10,8 @@ returns-in-Ok c =
 
 pub returns-in-Err-TooShort : goal.returns-in-Err-TooShort
 returns-in-Err-TooShort c =
-    let q = c.in-Err-TooShort.is in
-    whole_told _ _ _ _ _ _ c.whole_len.ensures (rw q) (rw q)
+    whole_told _ _ _ _ _ _ c.whole_len.ensures (rw (c.in-Err-TooShort.is, c.in-Err-TooShort.field-0-is)) (rw c.in-Err-TooShort.is)
 
 pub returns-in-Err-UnknownVersion : goal.returns-in-Err-UnknownVersion
 returns-in-Err-UnknownVersion c =
-    let q = c.in-Err-UnknownVersion.is in
-    whole_told _ _ _ _ _ _ c.whole_len.ensures (rw q) (rw q)
+    whole_told _ _ _ _ _ _ c.whole_len.ensures (rw (c.in-Err-UnknownVersion.is, c.in-Err-UnknownVersion.field-0-is)) (rw c.in-Err-UnknownVersion.is)

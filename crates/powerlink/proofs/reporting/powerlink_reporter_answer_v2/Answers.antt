@@ -10,4 +10,4 @@ returns-in-Err c =
 
 pub returns-in-Ok : goal.returns-in-Ok
 returns-in-Ok c =
-    answers_told _ _ _ _ _ _ _ _ _ _ _ _ _ _ (sym c.try_from.ensures.answer ∙ c.in-Ok.is) (rw (c.from-in-Ok.ensures, c.from_bytes.ensures) at c.answer.ensures) (c.told.ensures.value, (c.told.ensures.written_after, c.told.ensures.octet_after))
+    answers_told _ _ _ _ _ _ _ _ _ _ _ _ _ _ (sym c.try_from.ensures.answer ∙ c.in-Ok.is) (rw (c.from.ensures, c.from_bytes.ensures) at c.answer.ensures) (c.told.ensures.value, (c.told.ensures.written_after, c.told.ensures.octet_after))

@@ -13,12 +13,12 @@ returns-in-Ok-raise c =
 
 pub returns-in-Err-EntryInvalid : goal.returns-in-Err-EntryInvalid
 returns-in-Err-EntryInvalid c =
-    raises_told _ _ _ _ _ _ _ _ (sym c.try_from.ensures.answer ∙ c.in-Ok.is) c.entry_given-entry.ensures c.raise.ensures (rw c.in-Err-EntryInvalid.is)
+    raises_told _ _ _ _ _ _ _ _ (sym c.try_from.ensures.answer ∙ c.in-Ok.is) c.entry_given-entry.ensures c.raise.ensures (rw (c.in-Err-EntryInvalid.is, c.in-Err-EntryInvalid.field-0-is))
 
 pub returns-in-Err-StatusEntry : goal.returns-in-Err-StatusEntry
 returns-in-Err-StatusEntry c =
-    raises_told _ _ _ _ _ _ _ _ (sym c.try_from.ensures.answer ∙ c.in-Ok.is) c.entry_given-entry.ensures c.raise.ensures (rw c.in-Err-StatusEntry.is)
+    raises_told _ _ _ _ _ _ _ _ (sym c.try_from.ensures.answer ∙ c.in-Ok.is) c.entry_given-entry.ensures c.raise.ensures (rw (c.in-Err-StatusEntry.is, c.in-Err-StatusEntry.field-0-is))
 
 pub returns-in-Err-QueueFull : goal.returns-in-Err-QueueFull
 returns-in-Err-QueueFull c =
-    raises_told _ _ _ _ _ _ _ _ (sym c.try_from.ensures.answer ∙ c.in-Ok.is) c.entry_given-entry.ensures c.raise.ensures (rw c.in-Err-QueueFull.is)
+    raises_told _ _ _ _ _ _ _ _ (sym c.try_from.ensures.answer ∙ c.in-Ok.is) c.entry_given-entry.ensures c.raise.ensures (rw (c.in-Err-QueueFull.is, c.in-Err-QueueFull.field-0-is))

@@ -12,15 +12,12 @@ returns-in-Err c =
 
 pub returns-in-Ok-Ignored : goal.returns-in-Ok-Ignored
 returns-in-Ok-Ignored c =
-    let q = c.in-Ok-Ignored.is in
-    reads_told _ _ _ _ _ _ _ _ _ _ c.read.ensures (rw q (record { cause = refl; value = refl; octet = refl }))
+    reads_told _ _ _ _ _ _ _ _ _ _ c.read.ensures (rw (c.in-Ok-Ignored.is, c.in-Ok-Ignored.field-0-is) (record { cause = refl; value = refl; octet = refl }))
 
 pub returns-in-Ok-Kept : goal.returns-in-Ok-Kept
 returns-in-Ok-Kept c =
-    let q = c.in-Ok-Kept.is in
-    reads_told _ _ _ _ _ _ _ _ _ _ c.read.ensures (rw q (record { cause = refl; value = refl; octet = refl }))
+    reads_told _ _ _ _ _ _ _ _ _ _ c.read.ensures (rw (c.in-Ok-Kept.is, c.in-Ok-Kept.field-0-is) (record { cause = refl; value = refl; octet = refl }))
 
 pub returns-in-Ok-Closed : goal.returns-in-Ok-Closed
 returns-in-Ok-Closed c =
-    let q = c.in-Ok-Closed.is in
-    reads_told _ _ _ _ _ _ _ _ _ _ c.read.ensures (rw q (record { cause = refl; value = refl; octet = refl }))
+    reads_told _ _ _ _ _ _ _ _ _ _ c.read.ensures (rw (c.in-Ok-Closed.is, c.in-Ok-Closed.field-0-is) (record { cause = refl; value = refl; octet = refl }))

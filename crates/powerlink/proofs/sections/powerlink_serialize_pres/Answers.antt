@@ -9,4 +9,4 @@ returns-in-Err c =
 
 pub returns-in-Ok : goal.returns-in-Ok
 returns-in-Ok c =
-    writes_coded _ _ _ _ _ _ _ _ _ (rw (← c.try_from.ensures.answer, c.in-Ok.is, c.from-in-Ok.ensures)) c.serialize-answer.ensures (c.written_or.ensures.value, c.written_or.ensures.written_after)
+    writes_coded _ _ _ _ _ _ _ _ _ (rw (← c.try_from.ensures.answer, c.in-Ok.is, c.from.ensures)) c.serialize-answer.ensures (c.written_or.ensures.value, c.written_or.ensures.written_after)

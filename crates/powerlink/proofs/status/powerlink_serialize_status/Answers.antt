@@ -16,4 +16,4 @@ returns-else-not-fits c =
 
 pub returns-in-Ok : goal.returns-in-Ok
 returns-in-Ok c =
-    given_told _ _ _ _ c.args.entries.now _ _ _ _ _ (rw (← c.try_from.ensures.answer, c.in-Ok.is, c.from-in-Ok.ensures, c.from_bytes-bits.ensures)) c.serialize-answer.ensures (c.written_or.ensures.value, c.written_or.ensures.written_after)
+    given_told _ _ _ _ c.args.entries.now _ _ _ _ _ (rw (← c.try_from.ensures.answer, c.in-Ok.is, c.from.ensures, c.from_bytes-bits.ensures)) c.serialize-answer.ensures (c.written_or.ensures.value, c.written_or.ensures.written_after)

@@ -1,8 +1,8 @@
--- `given::put_group` meets its contract: the entries that were read are written as their octets.
+-- `given::put_rest` meets its contract: the entries that were read are written as their octets.
 -- Assumes nothing.
 use native.Mathlib.Omega.{arith}
 use Rattle.status_response.proofs.GivenLaws.{group_put}
-use Rattle.status_response.proofs.given.put_group.Goals as goal
+use Rattle.status_response.proofs.given.put_rest.Goals as goal
 
 pub returns : goal.returns
 returns c =
