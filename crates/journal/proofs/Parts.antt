@@ -10,8 +10,8 @@ use lib.Seq.{drop_at, drop-drop, length-take-le, take-append_seam}
 use Rattle.std.specs.Prelude.{Option, Result, Ok, Err}
 use Rattle.journal_records.specs.Listing.{version1, listing}
 use Rattle.journal_records.specs.Parts.{Lists, text_from, crowded, due_after, needed}
-use Rattle.journal_records.specs.declared.listing.ListError.TheVariants as answerError
-use Rattle.journal_records.specs.declared.listing.Stop.TheVariants as answer
+use Rattle.journal_records.specs.declared.listing.ListError.TheVariants as refused
+use Rattle.journal_records.specs.declared.listing.Stop.TheVariants as stop
 use Rattle.journal_records.specs.declared.listing.Part.{Part}
 use Rattle.journal_records.specs.declared.listing.Phase.{Phase}
 use Rattle.journal_records.specs.declared.listing.Phase.TheVariants.{Header, Records}
@@ -143,7 +143,7 @@ module _ {p : Phase} {s : List ℕ} {at : ℕ} {before now : Streams} {t : List 
         then_by e rest = ap (λ (a : Result Stop ListError). due_after a r.phase (drop (at + r.consumed) s ++ rest)) e
 
         by_answer : (a : Result Stop ListError) → r.answer ≡ a → crowded a ≡ false → Listed s before told (Ok (rest_after a r.phase (at + r.consumed)))
-        by_answer (Ok answer.More) e c =
+        by_answer (Ok stop.More) e c =
             let m = lists_in_parts.more L e in
             record {
               stands = stands_told (then_by e);
@@ -153,23 +153,23 @@ module _ {p : Phase} {s : List ℕ} {at : ℕ} {before now : Streams} {t : List 
               ends = ends_same ∙ F.ends;
               got = got_same ∙ F.got;
             }
-        by_answer (Ok answer.Full) e c = not_both refl c
-        by_answer (Ok answer.End) e c = over (then_by e)
-        by_answer (Err answerError.BufferTooShort) e c = not_both refl c
-        by_answer (Err answerError.NotAJournal) e c = over (then_by e)
-        by_answer (Err answerError.UnknownVersion) e c = over (then_by e)
-        by_answer (Err answerError.RecordInvalid) e c = over (then_by e)
+        by_answer (Ok stop.Full) e c = not_both refl c
+        by_answer (Ok stop.End) e c = over (then_by e)
+        by_answer (Err refused.BufferTooShort) e c = not_both refl c
+        by_answer (Err refused.NotAJournal) e c = over (then_by e)
+        by_answer (Err refused.UnknownVersion) e c = over (then_by e)
+        by_answer (Err refused.RecordInvalid) e c = over (then_by e)
 
   -- where the room is used up, something was consumed
   module _ (c : crowded r.answer ≡ true) (room : buffer_len ≡ length out) where
     some : (a : Result Stop ListError) → r.answer ≡ a → crowded a ≡ true → (0 < r.consumed) × ((x : List ℕ) → due_after a r.phase x ≡ text_from r.phase x)
-    some (Ok answer.More) e d = not_both d refl
-    some (Ok answer.Full) e d = ((lists_in_parts.full L e).0, λ x. refl)
-    some (Ok answer.End) e d = not_both d refl
-    some (Err answerError.BufferTooShort) e d = let z : ⊥ = omega (arith, (lists_in_parts.short L e).0) in absurd z
-    some (Err answerError.NotAJournal) e d = not_both d refl
-    some (Err answerError.UnknownVersion) e d = not_both d refl
-    some (Err answerError.RecordInvalid) e d = not_both d refl
+    some (Ok stop.More) e d = not_both d refl
+    some (Ok stop.Full) e d = ((lists_in_parts.full L e).0, λ x. refl)
+    some (Ok stop.End) e d = not_both d refl
+    some (Err refused.BufferTooShort) e d = let z : ⊥ = omega (arith, (lists_in_parts.short L e).0) in absurd z
+    some (Err refused.NotAJournal) e d = not_both d refl
+    some (Err refused.UnknownVersion) e d = not_both d refl
+    some (Err refused.RecordInvalid) e d = not_both d refl
 
     pub less : length s - (at + r.consumed) < length s - at
     less = let k = (some r.answer refl c).0 in omega (arith, further)

@@ -3,8 +3,8 @@
 use Rattle.std.specs.Prelude.{ℕ, ◌+◌, ◌≤◌, ◌<◌, Bool, true, false, ◌≡◌, List, [], ◌++◌, length, take, drop, Option, Some, None, Result, Ok, Err}
 use Rattle.journal_records.specs.Listing.{listing}
 use Rattle.journal_records.specs.Parts.{text_from, needed}
-use Rattle.journal_records.specs.declared.listing.ListError.TheVariants as answerError
-use Rattle.journal_records.specs.declared.listing.Stop.TheVariants as answer
+use Rattle.journal_records.specs.declared.listing.ListError.TheVariants as refused
+use Rattle.journal_records.specs.declared.listing.Stop.TheVariants as stop
 use Rattle.journal_records.specs.declared.listing.Phase.{Phase}
 use Rattle.journal_records.specs.declared.listing.Phase.TheVariants.{Records}
 use Rattle.journal.specs.Streams.{has_room}
@@ -29,13 +29,13 @@ record_len = needed Records
 
 -- calls go on, or it is over
 abbrev pub rest_after : Result Stop ListError → Phase → ℕ → Option Rest
-rest_after (Ok answer.More) p n = Some (record { phase = p; at = n })
-rest_after (Ok answer.Full) p n = Some (record { phase = p; at = n })
-rest_after (Ok answer.End) p n = None
-rest_after (Err answerError.BufferTooShort) p n = Some (record { phase = p; at = n })
-rest_after (Err answerError.NotAJournal) p n = None
-rest_after (Err answerError.UnknownVersion) p n = None
-rest_after (Err answerError.RecordInvalid) p n = None
+rest_after (Ok stop.More) p n = Some (record { phase = p; at = n })
+rest_after (Ok stop.Full) p n = Some (record { phase = p; at = n })
+rest_after (Ok stop.End) p n = None
+rest_after (Err refused.BufferTooShort) p n = Some (record { phase = p; at = n })
+rest_after (Err refused.NotAJournal) p n = None
+rest_after (Err refused.UnknownVersion) p n = None
+rest_after (Err refused.RecordInvalid) p n = None
 
 -- what may follow the octets that were read: nothing, where the input has ended
 abbrev pub Follows : Bool → List ℕ → Type 0
