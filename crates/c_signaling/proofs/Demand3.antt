@@ -1,10 +1,11 @@
 -- No error lost, none twice: the calls of a host in C.
 -- Assumes nothing.
 use Prim.Native.Nat.{ℕ}
-use mathlib.Core.Path.{◌≡◌, refl, ap, ◌∙◌}
+use mathlib.Core.Path.{◌≡◌, refl, sym, ap, ◌∙◌}
+use mathlib.Core.Bool.{true≢false}
 use mathlib.Core.List.{List, []}
 use native.Mathlib.Omega.{arith}
-use Rattle.std.specs.Prelude.{Result, Ok, Err}
+use Rattle.std.specs.Prelude.{Result, Ok, Err, IsErr}
 use Rattle.error_entry.specs.Values.{entry_numbers, entry_told}
 use Rattle.error_entry.specs.declared.ErrorEntry.{ErrorEntry}
 use Rattle.error_entry.proofs.Values.{values_tell}
@@ -15,7 +16,7 @@ use Rattle.collector.specs.declared.TakeError.TheVariants.{NotRegistered, Nothin
 use Rattle.c_values.specs.Answers.{values_told}
 use Rattle.powerlink.specs.Collecting.{CollectorTakes}
 use Rattle.signaling.specs.Calls as signaling
-use Rattle.signaling.specs.Calls.{node, TakeRefused, Drained, TakenTimes, NoneLost}
+use Rattle.signaling.specs.Calls.{node, Drained, TakenTimes, NoneLost}
 use Rattle.signaling.proofs.Demand3.{demand_3}
 use Rattle.c_signaling.specs.Calls.{Site, world_of, seen_in, CDrained, over, more, CTakenTimes, start, next, CNoneLost, CDemand3}
 use Rattle.c_signaling.specs.Log.{seen, events}
@@ -26,10 +27,9 @@ use Rattle.collector.specs.declared.TakeError.{TakeError}
 -- ---- a Take in C is one of the box
 
 -- it is refused where the number is not 0
-refused : (a : Result ErrorEntry TakeError) → ((take_cause a).number ≡ 0 → ⊥) → TakeRefused a
+refused : (a : Result ErrorEntry TakeError) → ((take_cause a).number ≡ 0 → ⊥) → IsErr a
 refused (Ok e) h = absurd (h refl)
-refused (Err NotRegistered) h = tt
-refused (Err NothingBooked) h = tt
+refused (Err x) h = refl
 
 -- and where it is 0, hands out the entry that the values tell
 handed : (a : Result ErrorEntry TakeError) (v v' : List ℕ) → 0 ≡ (take_cause a).number → v' ≡ values_told (take_cause a) v → a ≡ Ok (entry_told v')
@@ -51,8 +51,8 @@ times {i} (next {s} after v v' c d) = signaling.next (entry_told v') after (take
 
 -- ---- and the other way round
 
-not_taken : (a : Result ErrorEntry TakeError) → TakeRefused a → (take_cause a).number ≡ 0 → ⊥
-not_taken (Ok e) y z = y
+not_taken : (a : Result ErrorEntry TakeError) → IsErr a → (take_cause a).number ≡ 0 → ⊥
+not_taken (Ok e) y z = true≢false (sym y)
 not_taken (Err NotRegistered) y z = omega arith
 not_taken (Err NothingBooked) y z = omega arith
 

@@ -26,13 +26,12 @@ use Rattle.collector.specs.declared.TakeError.TheVariants as taking
 use Rattle.powerlink.specs.Collecting.{request_by, request_fields}
 use Rattle.powerlink.specs.Reporting.{RaisesBy}
 use Rattle.powerlink.specs.Writing.{stated}
-use Rattle.signaling.specs.Calls.{accepted, handed_out, answers_sent, requests_sent, if_taken, if_answered, if_requested, Log}
+use Rattle.signaling.specs.Calls.{accepted, handed_out, answers_sent, requests_sent, if_taken, if_written, Log}
 use Rattle.c_signaling.specs.Calls as c
 use Rattle.c_signaling.specs.Calls.{Site, CStep, CRun, seen_in, CallsAreSteps}
 use Rattle.c_signaling.specs.Log.{Raising, Call, Seen, seen_with, seen, if_zero, raised_entries, raised_entry, raise_events, answer_events, request_events, events_of, events}
 use Rattle.c_signaling.proofs.Steps.{called, runs}
 use Rattle.c_signaling.proofs.Told.{unnamed_number, unasked_number}
-use Rattle.types.specs.declared.hal.PowerlinkError.TheVariants.{InvalidNmtState}
 use Rattle.types.specs.declared.error_mode.UnknownMode.{UnknownMode}
 use Rattle.types.specs.declared.error_mode.ErrorEntryMode.{ErrorEntryMode}
 
@@ -47,12 +46,12 @@ module _ {A : Type 0} (new old : A) where
   raised_if false false false = refl
 
 module _ (n : ℕ) (e : PowerlinkError) (bs : List ℕ) (fs : List (List ℕ)) where
-  answered_if : (zero : Bool) → if_answered (pick zero (Ok n) (Err e)) bs fs ≡ pick zero (fs ++ (take n bs ∷ [])) fs
+  answered_if : (zero : Bool) → if_written (pick zero (Ok n) (Err e)) bs fs ≡ pick zero (fs ++ (take n bs ∷ [])) fs
   answered_if true = refl
   answered_if false = refl
 
   requested_if : (zero low : Bool)
-      → if_requested (pick zero (Ok n) (pick low (Err (requesting.Frame e)) (Err requesting.NotRegistered))) bs fs ≡ pick zero (fs ++ (take n bs ∷ [])) fs
+      → if_written (pick zero (Ok n) (pick low (Err (requesting.Frame e)) (Err requesting.NotRegistered))) bs fs ≡ pick zero (fs ++ (take n bs ∷ [])) fs
   requested_if true low = refl
   requested_if false true = refl
   requested_if false false = refl

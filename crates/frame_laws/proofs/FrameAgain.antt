@@ -1,20 +1,15 @@
 -- A frame that was read is written back, header and section, and under the table that it was read under.
 -- Assumes nothing.
 use Prim.Native.Nat.{ℕ, ◌+◌, ◌/◌, ◌%◌, ◌≤◌}
-use mathlib.Core.Path.{◌≡◌, refl, ◌∙◌}
+use mathlib.Core.Path.{◌≡◌, refl, sym, ap, ◌∙◌}
 use mathlib.Core.List.{List}
 use native.Mathlib.Omega.{arith}
-use lib.Dec.{leb, ltb, eqb}
+use lib.Dec.{ltb, eqb}
 use lib.ListN.{length, get_or, take, drop, take-append-drop, length-drop}
 use lib.Seq.{get_or-drop, drop-drop}
-use borrow.Author.Tests.{leb-true}
-use mathlib.Core.Bool.{Bool, true}
-use Rattle.std.specs.Prelude.{Result, Ok, Err}
+use Rattle.std.specs.Prelude.{Ok}
 use Rattle.octets.specs.Numbers.{be, be_at, be_bytes}
 use Rattle.types.specs.Header.{eth_header_of, eth_bytes, ethertype_epl}
-use Rattle.types.specs.Codes.{need}
-use Rattle.types.specs.declared.hal.PowerlinkError.{PowerlinkError}
-use Rattle.types.specs.declared.message_type.MessageType.{MessageType}
 use Rattle.frame.specs.Write.{frame_bytes}
 use Rattle.frame.specs.declared.PowerlinkFrame.{PowerlinkFrame}
 use Rattle.frame.specs.declared.PowerlinkFrame.TheVariants.{Soc, PReq, PRes, SoA, ASnd}
@@ -23,9 +18,9 @@ use Rattle.codec.specs.declared.DeserializedFrame.{DeserializedFrame}
 use Rattle.frame_laws.specs.WriteBack.{Octets, Plain, payload_in}
 use Rattle.frame_laws.proofs.HeldUnder.{Held}
 use Rattle.frame_laws.proofs.Elements.{elements, elements_are, joined}
-use Rattle.frame_laws.proofs.Passed.{by_tests}
+use Rattle.frame_laws.proofs.Passed.{kind_found, by_tests}
 use Rattle.frame_laws.proofs.SectionAgain.{section_again}
-use Rattle.frame_laws.proofs.Tests.{no_value, passed_by}
+use Rattle.frame_laws.proofs.Tests.{passed, enough}
 use Rattle.frame_laws.proofs.Whole.{by_frame}
 
 -- octets from a place on
@@ -61,12 +56,11 @@ module _ (services bytes : List ℕ) (f : PowerlinkFrame) where
   section_read : read_frame services bytes ≡ Ok f → (14 ≤ length bytes) × (read_section services (drop 14 bytes) ≡ Ok f)
   unfolding kind_of read_frame read_section
   section_read e =
-      let kind : (t : Bool) (d : PowerlinkError) (next : Result MessageType PowerlinkError)
-      → kind_answer services (need t (Err d) next) (drop 14 bytes) ≡ Ok f → (t ≡ true) × (kind_answer services next (drop 14 bytes) ≡ Ok f)
-      = λ t d next. passed_by (λ k. kind_answer services k (drop 14 bytes) ≡ Ok f) t (Err d) next no_value in
-      let r = kind (leb 14 (length bytes)) _ _ e in
-      let t = kind (eqb (be_at 2 12 bytes) ethertype_epl) _ _ r.1 in
-      (leb-true 14 (length bytes) r.0, (kind (ltb 14 (length bytes)) _ _ t.1).1)
+      let k = kind_found services (kind_of bytes) (drop 14 bytes) f e in
+      let r = enough 14 (length bytes) _ _ k.1 in
+      let t = passed (eqb (be_at 2 12 bytes) ethertype_epl) _ _ r.1 in
+      let same = (passed (ltb 14 (length bytes)) _ _ t.1).1 ∙ sym k.1 in
+      (r.0, ap (λ k. kind_answer services k (drop 14 bytes)) same ∙ e)
 
   section_written : read_frame services bytes ≡ Ok f → Octets bytes → Plain f (drop 14 bytes)
       → frame_bytes (eth_header_of bytes) f (payload_of (place_in_frame f (drop 14 bytes)) bytes) ≡ bytes

@@ -28,6 +28,12 @@ use Rattle.codec.specs.SoC.{soc_of, read_soc}
 use Rattle.frame_laws.proofs.Named.{message_named, state_named, requested_named}
 use Rattle.frame_laws.proofs.Tests.{no_value, one_value, passed, enough}
 
+-- a section that is read has a kind
+pub kind_found : (services : List ℕ) (k : Result MessageType PowerlinkError) (s : List ℕ) (f : PowerlinkFrame) → kind_answer services k s ≡ Ok f
+    → (m : MessageType) × (k ≡ Ok m)
+kind_found services (Ok m) s f e = (m, refl)
+kind_found services (Err d) s f e = absurd (no_value e)
+
 module _ (services s : List ℕ) (P : PowerlinkFrame → Type 0) where
   -- P of each kind's frame, from the tests that the kind's section passed
   pub record Kinds : Type 0 where

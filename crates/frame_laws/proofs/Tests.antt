@@ -16,14 +16,10 @@ no_value q = true≢false (sym (ap is_ok q))
 pub one_value : {A E : Type 0} {x y : A} → ◌≡◌ {A = Result A E} (Ok x) (Ok y) → x ≡ y
 one_value e = cc
 
--- a test was passed where P, which holds of its outcome, holds of no refusal
-pub passed_by : {R : Type 0} (P : R → Type 0) (t : Bool) (refusal next : R) → (P refusal → ⊥) → P (need t refusal next) → (t ≡ true) × P next
-passed_by P true refusal next never p = (refl, p)
-passed_by P false refusal next never p = absurd (never p)
-
 -- a test in front of a value, and one of a length
 pub passed : {A E : Type 0} {x : A} (t : Bool) (e : E) (next : Result A E) → need t (Err e) next ≡ Ok x → (t ≡ true) × (next ≡ Ok x)
-passed {x = x} t e next = passed_by (λ r. r ≡ Ok x) t (Err e) next no_value
+passed true e next q = (refl, q)
+passed false e next q = absurd (no_value q)
 
 pub enough : {A E : Type 0} {x : A} (n m : ℕ) (e : E) (next : Result A E) → need (leb n m) (Err e) next ≡ Ok x → (n ≤ m) × (next ≡ Ok x)
 enough n m e next q = let r = passed (leb n m) e next q in (leb-true n m r.0, r.1)

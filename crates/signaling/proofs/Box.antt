@@ -4,18 +4,18 @@ use Prim.Native.Nat.{ℕ, ◌+◌, ◌≤◌}
 use mathlib.Core.Bool.{Bool, true, false, not, ◌||◌, beq}
 use mathlib.Core.Path.{◌≡◌, sym, ap, ◌∙◌}
 use mathlib.Core.List.{List, [], ◌∷◌, ◌++◌, append_assoc}
-use mathlib.Core.Option.{some}
 use native.Mathlib.Omega.{arith}
-use lib.ListN.{length, get_elem?, length-append}
+use lib.ListN.{length, length-append}
 use lib.Dec.{leb}
 use borrow.Author.Tests.{le-leb}
-use Rattle.std.specs.Prelude.{Ok}
+use Rattle.std.specs.Prelude.{Ok, Some, slice_get}
+use Rattle.std.proofs.lemmas.Option.{slice_get_within}
 use Rattle.error_entry.specs.declared.ErrorEntry.{ErrorEntry}
 use Rattle.reporter.specs.Rules.{Head}
 use Rattle.collector.specs.Rules.{book_length}
 use Rattle.collector.specs.declared.ReadOutcome.TheVariants as box
 use Rattle.signaling.specs.Calls.{sent, box_read, Tally, on_entries, on_answers, on_requests, sends, gives, hands, adds}
-use Rattle.signaling.proofs.Facts.{beq_same, beq_not, at_lt, join_book}
+use Rattle.signaling.proofs.Facts.{beq_same, beq_not, join_book}
 use Rattle.signaling.proofs.Invariant.{Carries, en_said, batch_said, Inv}
 use Rattle.signaling.proofs.Transit.{answers_later, answers_fresh, answers_booked, requests_send, requests_booked}
 
@@ -25,7 +25,7 @@ module _ {i : ℕ} {ea : Bool} {book : List ErrorEntry} {c : Tally} (t : Inv i e
 
   -- ---- reading
 
-  module _ (p : ℕ) (bs : List ℕ) (le : c.answers.at ≤ p) (at : get_elem? c.answers.frames p ≡ some bs) where
+  module _ (p : ℕ) (bs : List ℕ) (le : c.answers.at ≤ p) (at : slice_get c.answers.frames p ≡ Some bs) where
     -- a reading that changes nothing in the box
     pub box_passes : Inv i ea book (on_answers (gives (sent p)) c)
     box_passes =
@@ -34,7 +34,7 @@ module _ {i : ℕ} {ea : Bool} {book : List ErrorEntry} {c : Tally} (t : Inv i e
           batch = t.batch;
           waiting = t.waiting;
           source = t.source;
-          answers = answers_later t.answers p le (at_lt c.answers.frames bs p at);
+          answers = answers_later t.answers p le (slice_get_within c.answers.frames p bs at);
           turned = t.turned;
           requests = t.requests;
           idle = t.idle;
@@ -55,7 +55,7 @@ module _ {i : ℕ} {ea : Bool} {book : List ErrorEntry} {c : Tally} (t : Inv i e
           batch = t.batch;
           waiting = t.waiting;
           source = t.source;
-          answers = answers_booked t.answers p le (at_lt c.answers.frames bs p at) past (en_said bs);
+          answers = answers_booked t.answers p le (slice_get_within c.answers.frames p bs at) past (en_said bs);
           turned = length c.requests.frames;
           requests = rw bit (requests_booked t.requests differ open?);
           idle = λ e. bit;

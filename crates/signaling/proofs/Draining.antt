@@ -36,12 +36,12 @@ box_size (call r s) = step_size s ∙ box_size r
 module _ (i : ℕ) where
   draining_place : (es : List ErrorEntry) (p : Account) (b : List ℕ) → p.book ≡ es → length b ≡ collector_length → account_of b i ≡ Some p
       → Drained i b es
-  draining_place [] p b is size e = let r = rw (e, is) at (hands b i size) in over (Err taking.NothingBooked) b r.0 tt
+  draining_place [] p b is size e = let r = rw (e, is) at (hands b i size) in over (Err taking.NothingBooked) b r.0 refl
   draining_place (x ∷ es) p b is size e =
       let r = rw (e, is) at (hands b i size) in
       more x (take_bytes (Ok x) i b) es r.0
       (draining_place es (with_book es p) (take_bytes (Ok x) i b) refl r.1 (r.0.box.accounts i ∙ rw (eq-eqb i i refl, e, is)))
 
   pub draining : (o : Option Account) (b : List ℕ) → length b ≡ collector_length → account_of b i ≡ o → Drained i b (book_of o)
-  draining None b size e = let r = rw e at (hands b i size) in over (Err taking.NotRegistered) b r.0 tt
+  draining None b size e = let r = rw e at (hands b i size) in over (Err taking.NotRegistered) b r.0 refl
   draining (Some p) b size e = draining_place p.book p b refl size e

@@ -4,7 +4,6 @@ use Prim.Native.Nat.{ℕ, ◌^◌, ◌<◌}
 use mathlib.Core.Bool.{Bool, true, false}
 use mathlib.Core.Path.{◌≡◌, refl, sym, ap, ◌∙◌}
 use mathlib.Core.List.{List, [], ◌∷◌}
-use mathlib.Core.Option.{some}
 use native.Mathlib.Omega.{arith}
 use lib.ListN.{length, take, drop}
 use Rattle.std.specs.Prelude.{Result, Ok, Err, Some}
@@ -155,10 +154,10 @@ module _ {v : World} where
       (λ s b k. passing k ds301 foreign house_frame (Err (refusal.Frame (InvalidServiceId 0x20))) (house_far ds301) (rw house_refused) (λ A x y. refl)))
       (λ s b k.
       booking k with_two first (says_arrived two_arrive first_says) refl house 1
-      (answer_frame fields first, (omega arith, ap some (sent_whole (answer_frame fields first))), two_arrive) two_octets refl))
+      (answer_frame fields first, (omega arith, ap Some (sent_whole (answer_frame fields first))), two_arrive) two_octets refl))
       (λ s b k.
       knowing k with_other first (says_arrived other_arrives first_says) refl ds301 1
-      (answer_frame fields first, (omega arith, ap some (sent_whole (answer_frame fields first))), other_arrives) refl)
+      (answer_frame fields first, (omega arith, ap Some (sent_whole (answer_frame fields first))), other_arrives) refl)
 
   ask_twice : Reached v twice_read first (place true (take 4 five)) → Reached v asked_twice first (place true (take 4 five))
   unfolding asked
@@ -168,7 +167,7 @@ module _ {v : World} where
       (next
       (next r
       (λ s b k.
-      hearing k house (sent 0) (request_frame 9 asked false) (Ok Ignored) (omega arith, ap some (sent_whole (request_frame 9 asked false))) refl
+      hearing k house (sent 0) (request_frame 9 asked false) (Ok Ignored) (omega arith, ap Some (sent_whole (request_frame 9 asked false))) refl
       (rw (hears_not house false))))
       (λ s b k. hearing k ds301 foreign pres_frame (Ok Ignored) (pres_far ds301).1 refl (rw (pres_ignored ds301))))
       (λ s b k. asking k 7 _ k.place asked refl))
@@ -180,10 +179,10 @@ module _ {v : World} where
       next
       (next (ask_twice r)
       (λ s b k.
-      hearing k ds301 (sent 2) (request_frame 7 asked true) (Ok Closed) (omega arith, ap some (sent_whole (request_frame 7 asked true))) refl
+      hearing k ds301 (sent 2) (request_frame 7 asked true) (Ok Closed) (omega arith, ap Some (sent_whole (request_frame 7 asked true))) refl
       (rw (hears_ea ds301 true))))
       (λ s b k.
-      hearing k house (sent 2) (request_frame 7 asked true) (Ok Kept) (omega arith, ap some (sent_whole (request_frame 7 asked true))) refl
+      hearing k house (sent 2) (request_frame 7 asked true) (Ok Kept) (omega arith, ap Some (sent_whole (request_frame 7 asked true))) refl
       (rw (hears_ea house true)))
 
   pub answer_second : {p : Account} → Reached v first_closed between p → Reached v (answer_of second ∷ first_closed) second p
@@ -196,7 +195,7 @@ module _ {v : World} where
       next r
       (λ s b k.
       booking k (answer_frame fields second) second second_says refl ds301 2
-      (as_it_is k (answer_frame fields second) second second_says refl ds301 2 (omega arith, ap some (sent_whole (answer_frame fields second))))
+      (as_it_is k (answer_frame fields second) second second_says refl ds301 2 (omega arith, ap Some (sent_whole (answer_frame fields second))))
       answer_octets.1
       refl)
 
@@ -254,7 +253,7 @@ loss_and_repeat =
       held = refl;
       unheld = refl;
       answer = answer_frame fields first;
-      is_sent = ap some (sent_whole (answer_frame fields first));
+      is_sent = ap Some (sent_whole (answer_frame fields first));
       with_two = refl;
       with_other = refl;
       entries = refl;

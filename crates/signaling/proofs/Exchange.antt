@@ -5,11 +5,11 @@ use mathlib.Core.Bool.{Bool, beq}
 use mathlib.Core.Path.{◌≡◌, refl, sym, ap, ◌∙◌}
 use mathlib.Core.Logic.{◌⊎◌, inl, inr}
 use mathlib.Core.List.{List, ◌∷◌}
-use mathlib.Core.Option.{some}
 use native.Mathlib.Omega.{arith}
-use lib.ListN.{length, get_elem?}
+use lib.ListN.{length}
 use lib.Dec.{leb}
-use Rattle.std.specs.Prelude.{Result, Ok, Err, Some, Option, None}
+use Rattle.std.specs.Prelude.{IsSome, Result, Ok, Err, Some, Option, None, slice_get}
+use Rattle.std.proofs.lemmas.Option.{slice_get_within}
 use Rattle.types.specs.declared.hal.PowerlinkError.{PowerlinkError}
 use Rattle.status_response.specs.declared.fields.StatusFields.{StatusFields}
 use Rattle.reporter.specs.Rules.{Head, opened, ea_told}
@@ -24,12 +24,12 @@ use Rattle.collector.specs.declared.RequestError.{RequestError}
 use Rattle.signaling.specs.Calls.{answer, sent, Event, answered, head_read, box_read, requested, answers_sent, requests_sent, node, World, Step, head_reads, box_reads, ea_of}
 use Rattle.signaling.specs.Exchanges.{Quiet, AnswerAgain, NoRepeat, Quietly, Exchange}
 use Rattle.signaling.proofs.Calls.{read_here}
-use Rattle.signaling.proofs.Facts.{clash, either, beq_same, beq_true, at_lt}
+use Rattle.signaling.proofs.Facts.{clash, either, beq_same, beq_true}
 use Rattle.signaling.proofs.Frames.{Says}
 use Rattle.signaling.proofs.Invariant.{Carries, head_in, place_for}
 use Rattle.signaling.proofs.Pending.{opened_twice, opened_fewer, head_hears, closed, AtMost, at_most_stays}
 use Rattle.signaling.proofs.Steps.{read_as_sent}
-use Rattle.signaling.proofs.Quiet.{IsPlace, NoRaise, Ready, goes_on_lem, shut, Calm, calm, quiet_raises_not, quietly, no_repeat, requested_stays}
+use Rattle.signaling.proofs.Quiet.{NoRaise, Ready, goes_on_lem, shut, Calm, calm, quiet_raises_not, quietly, no_repeat, requested_stays}
 
 -- ---- both ends, while nothing changes
 
@@ -38,8 +38,8 @@ record Steady (i : ℕ) (h : Head) (ea : Bool) (n m : ℕ) (w : World) : Type 0 
   pub ready : Ready i w
   pub head : head_in w ≡ h
   pub bit : ea_of (place_for i w) ≡ ea
-  pub mine : (p : ℕ) (a : List ℕ) → n ≤ p → get_elem? (answers_sent i w.log) p ≡ some a → Says a h
-  pub its : (q : ℕ) (f : List ℕ) → m ≤ q → get_elem? (requests_sent i w.log) q ≡ some f → Carries i ea f
+  pub mine : (p : ℕ) (a : List ℕ) → n ≤ p → slice_get (answers_sent i w.log) p ≡ Some a → Says a h
+  pub its : (q : ℕ) (f : List ℕ) → m ≤ q → slice_get (requests_sent i w.log) q ≡ Some f → Carries i ea f
 
 -- places from here on
 steady_from : {i : ℕ} {h : Head} {ea : Bool} {w : World} → Ready i w → head_in w ≡ h → ea_of (place_for i w) ≡ ea
@@ -49,14 +49,14 @@ steady_from {i} {w} y eh eb =
       ready = y;
       head = eh;
       bit = eb;
-      mine = λ p a le e. absurd (omega (arith, at_lt (answers_sent i w.log) a p e));
-      its = λ q f le e. absurd (omega (arith, at_lt (requests_sent i w.log) f q e));
+      mine = λ p a le e. absurd (omega (arith, slice_get_within (answers_sent i w.log) p a e));
+      its = λ q f le e. absurd (omega (arith, slice_get_within (requests_sent i w.log) q f e));
     }
 
 module _ {i : ℕ} {h : Head} {ea : Bool} {n m : ℕ} where
   steady_by : {w v : World} → Ready i v → Calm i w v → head_in v ≡ h → ea_of (place_for i w) ≡ ea
-      → ((p : ℕ) (a : List ℕ) → n ≤ p → get_elem? (answers_sent i w.log) p ≡ some a → Says a h)
-      → ((q : ℕ) (f : List ℕ) → m ≤ q → get_elem? (requests_sent i w.log) q ≡ some f → Carries i ea f)
+      → ((p : ℕ) (a : List ℕ) → n ≤ p → slice_get (answers_sent i w.log) p ≡ Some a → Says a h)
+      → ((q : ℕ) (f : List ℕ) → m ≤ q → slice_get (requests_sent i w.log) q ≡ Some f → Carries i ea f)
       → Steady i h ea n m v
   steady_by y z head eb mine its =
       record {
@@ -74,17 +74,17 @@ first_steady {i} {w} {n} {bs} (answer services f r after target written c) y =
     let s : Step i w (answered (Ok n) bs) (record { head = after; box = w.box; log = answered (Ok n) bs ∷ w.log }) =
     answer services f (Ok n) after target bs c in
     steady_by (goes_on_lem s y) (calm y.held s tt) c.head refl
-    (λ p a le e. absurd (omega (arith, at_lt (answers_sent i w.log) a p e)))
-    (λ q f le e. absurd (omega (arith, at_lt (requests_sent i w.log) f q e)))
+    (λ p a le e. absurd (omega (arith, slice_get_within (answers_sent i w.log) p a e)))
+    (λ q f le e. absurd (omega (arith, slice_get_within (requests_sent i w.log) q f e)))
 
 -- ---- the box reads
 
 module _ (said : Said) (f : StatusFields) (e : said.fields ≡ Ok f) where
   -- an answer that is not refused with 12 is known or booked
-  outcome : (o : Option Account) → IsPlace o → (account_answer said o ≡ Err refusal.BookFull → ⊥)
+  outcome : (o : Option Account) → IsSome o → (account_answer said o ≡ Err refusal.BookFull → ⊥)
       → ((account_answer said o ≡ Ok box.Known) × (ea_of o ≡ f.en_flag)) ⊎ (account_answer said o ≡ Ok box.Booked)
   unfolding book_answer
-  outcome None is found = absurd is
+  outcome None is found = clash cc
   outcome (Some p) is found =
       either (beq f.en_flag p.ea)
       (λ same. inl (rw (e, same), sym (beq_true f.en_flag p.ea same)))
@@ -94,13 +94,13 @@ module _ (said : Said) (f : StatusFields) (e : said.fields ≡ Ok f) where
       (λ full. absurd (found (rw (e, new, full)))))
 
   -- one that carries EA is known
-  known : (o : Option Account) → IsPlace o → ea_of o ≡ f.en_flag → account_answer said o ≡ Ok box.Known
+  known : (o : Option Account) → IsSome o → ea_of o ≡ f.en_flag → account_answer said o ≡ Ok box.Known
   unfolding book_answer
-  known None is same = absurd is
+  known None is same = clash cc
   known (Some p) is same = rw (e, same, beq_same f.en_flag)
 
-  booked_bit : (o : Option Account) → IsPlace o → (booked_account said o).ea ≡ f.en_flag
-  booked_bit None is = absurd is
+  booked_bit : (o : Option Account) → IsSome o → (booked_account said o).ea ≡ f.en_flag
+  booked_bit None is = clash cc
   booked_bit (Some p) is = rw e
 
 module _ (services : List ℕ) (i : ℕ) (h : Head) (bs : List ℕ) (b : Box) (says : Says bs h) (id : h.id ≡ i) where
@@ -112,7 +112,7 @@ module _ (services : List ℕ) (i : ℕ) (h : Head) (bs : List ℕ) (b : Box) (s
   box_says_lem = rw hears_me
 
   -- then its bit is EA
-  box_agrees : IsPlace (b.accounts i) → (read_answer services bs b ≡ Err refusal.BookFull → ⊥)
+  box_agrees : IsSome (b.accounts i) → (read_answer services bs b ≡ Err refusal.BookFull → ⊥)
       → ea_of ((after_response services (read_answer services bs b) bs b).accounts i) ≡ h.en
   box_agrees is found =
       let said = status_in bs in
@@ -142,7 +142,7 @@ module _ {i : ℕ} {h : Head} {ea : Bool} {n m : ℕ} {w : World} (y : Steady i 
             rw (sent-read.box.accounts i, sent-read.answer)
             (box_agrees services i h d.0 (box_of w.box) (y.mine p d.0 le d.1.1) its_id y.ready.place (λ full. found (sent-read.answer ∙ full)));
         mine = y.mine;
-        its = λ q f le e. absurd (omega (arith, at_lt (requests_sent i w.log) f q e));
+        its = λ q f le e. absurd (omega (arith, slice_get_within (requests_sent i w.log) q f e));
       }
 
   -- what carries EA is not refused

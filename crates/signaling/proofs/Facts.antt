@@ -5,10 +5,10 @@ use mathlib.Core.Path.{◌≡◌, refl}
 use mathlib.Core.Logic.{◌⊎◌, inl, inr}
 use mathlib.Core.Bool.{Bool, true, false, not, beq}
 use mathlib.Core.List.{List, [], ◌∷◌, ◌++◌, append_assoc}
-use mathlib.Core.Option.{some}
 use native.Mathlib.Omega.{arith}
-use lib.ListN.{length, get_elem?}
+use lib.ListN.{length}
 pub use Rattle.octets.proofs.Cases.{either, both}
+use Rattle.std.specs.Prelude.{Some, slice_get}
 use Rattle.types.specs.Codes.{pick}
 
 -- what would make 0 equal to 1 cannot be
@@ -55,18 +55,13 @@ beq_false false false e = cc
 -- ---- places
 
 -- an element of a longer list stands in the list, or is the last
-pub at_snoc : {A : Type 0} (l : List A) (x a : A) (p : ℕ) → get_elem? (l ++ (x ∷ [])) p ≡ some a
-    → ((p < length l) × (get_elem? l p ≡ some a)) ⊎ ((p ≡ length l) × (x ≡ a))
+pub at_snoc : {A : Type 0} (l : List A) (x a : A) (p : ℕ) → slice_get (l ++ (x ∷ [])) p ≡ Some a
+    → ((p < length l) × (slice_get l p ≡ Some a)) ⊎ ((p ≡ length l) × (x ≡ a))
 at_snoc [] x a zero e = inr (refl, cc)
 at_snoc [] x a (suc p) e = clash cc
 at_snoc (y ∷ l) x a zero e = inl (omega arith, e)
 at_snoc (y ∷ l) x a (suc p) e =
     elim (at_snoc l x a p e) [ inl h ↦ inl (omega (arith, h.0), h.1) | inr h ↦ inr (omega (arith, h.0), h.1) ]
-
-pub at_lt : {A : Type 0} (l : List A) (a : A) (p : ℕ) → get_elem? l p ≡ some a → p < length l
-at_lt [] a p e = clash cc
-at_lt (y ∷ l) a zero e = omega arith
-at_lt (y ∷ l) a (suc p) e = omega (arith, at_lt l a p e)
 
 -- ---- lists joined
 

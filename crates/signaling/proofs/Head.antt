@@ -5,10 +5,10 @@ use mathlib.Core.Bool.{Bool, true, false, not, ◌&&◌, beq}
 use mathlib.Core.Path.{◌≡◌, refl, sym, ap, ◌∙◌}
 use mathlib.Core.Logic.{inl, inr}
 use mathlib.Core.List.{List, [], ◌∷◌, ◌++◌}
-use mathlib.Core.Option.{some}
-use lib.ListN.{length, take, drop, get_elem?, take-append-drop}
+use lib.ListN.{length, take, drop, take-append-drop}
 use lib.Dec.{ltb}
-use Rattle.std.specs.Prelude.{Result, Ok, Err, Option, Some, None}
+use Rattle.std.specs.Prelude.{Result, Ok, Err, Option, Some, None, slice_get}
+use Rattle.std.proofs.lemmas.Option.{slice_get_within}
 use Rattle.types.specs.Codes.{pick}
 use Rattle.types.specs.declared.hal.PowerlinkError.{PowerlinkError}
 use Rattle.error_entry.specs.declared.ErrorEntry.{ErrorEntry}
@@ -18,7 +18,7 @@ use Rattle.reporter.specs.declared.RaiseError.{RaiseError}
 use Rattle.reporter.specs.declared.ReadOutcome.TheVariants.{Closed, Kept}
 use Rattle.collector.specs.Rules.{en_in}
 use Rattle.signaling.specs.Calls.{sent, raised, answered, Tally, on_entries, on_answers, on_requests, on_ruled, accepts, sends, gives, becomes, answers, adds}
-use Rattle.signaling.proofs.Facts.{clash, beq_same, beq_other, beq_true, both, at_snoc, at_lt, join_more, no_batch, is_cons}
+use Rattle.signaling.proofs.Facts.{clash, beq_same, beq_other, beq_true, both, at_snoc, join_more, no_batch, is_cons}
 use Rattle.signaling.proofs.Frames.{Good, Says}
 use Rattle.signaling.proofs.Invariant.{en_said, batch_said, Inv}
 use Rattle.signaling.proofs.Transit.{answers_open, answers_send, answers_closed, requests_open, requests_later, requests_fresh, requests_closed}
@@ -137,7 +137,7 @@ module _ {i : ℕ} {ea : Bool} {book : List ErrorEntry} {c : Tally} (t : Inv i e
 
   -- ---- the head reads
 
-  module _ (services : List ℕ) (q : ℕ) (bs : List ℕ) (le : c.requests.at ≤ q) (at : get_elem? c.requests.frames q ≡ some bs) where
+  module _ (services : List ℕ) (q : ℕ) (bs : List ℕ) (le : c.requests.at ≤ q) (at : slice_get c.requests.frames q ≡ Some bs) where
     head_passes : Inv i ea book (on_requests (gives (sent q)) c)
     head_passes =
         record {
@@ -147,7 +147,7 @@ module _ {i : ℕ} {ea : Bool} {book : List ErrorEntry} {c : Tally} (t : Inv i e
           source = t.source;
           answers = t.answers;
           turned = t.turned;
-          requests = requests_later t.requests q le (at_lt c.requests.frames bs q at);
+          requests = requests_later t.requests q le (slice_get_within c.requests.frames q bs at);
           idle = t.idle;
           since = t.since;
           total = t.total;
@@ -166,7 +166,7 @@ module _ {i : ℕ} {ea : Bool} {book : List ErrorEntry} {c : Tally} (t : Inv i e
           source = t.source;
           answers = answers_closed t.answers;
           turned = t.turned;
-          requests = requests_closed t.requests q le (at_lt c.requests.frames bs q at) past;
+          requests = requests_closed t.requests q le (slice_get_within c.requests.frames q bs at) past;
           idle = λ e. same;
           since = t.since;
           total = rw was (rw was at t.total);

@@ -4,9 +4,8 @@ use Prim.Native.Nat.{ℕ, ◌≤◌, ◌<◌}
 use mathlib.Core.Bool.{Bool, not, beq}
 use mathlib.Core.Path.{◌≡◌}
 use mathlib.Core.List.{List, [], ◌++◌}
-use mathlib.Core.Option.{some}
-use lib.ListN.{length, get_elem?}
-use Rattle.std.specs.Prelude.{Ok, Some, Option, None}
+use lib.ListN.{length}
+use Rattle.std.specs.Prelude.{Ok, Some, Option, None, slice_get}
 use Rattle.types.specs.Codes.{pick}
 use Rattle.error_entry.specs.declared.ErrorEntry.{ErrorEntry}
 use Rattle.reporter.specs.Layout.{head_of}
@@ -31,9 +30,9 @@ batch_said bs = (status_in bs).entries
 -- The answers that can still be given to the box. Those sent since the last opening carry EN, and the open batch; those sent
 -- before carry the opposite bit. Where the last batch is booked, EA is EN, and no answer from before it can still be given to the box.
 pub record Answers (en ea : Bool) (batch : List ErrorEntry) (sent : List (List ℕ)) (at opened : ℕ) : Type 0 where
-  pub old : (p : ℕ) (a : List ℕ) → at ≤ p → get_elem? sent p ≡ some a → p < opened → en_said a ≡ not en
-  pub new : (p : ℕ) (a : List ℕ) → at ≤ p → get_elem? sent p ≡ some a → opened ≤ p → en_said a ≡ en
-  pub carry : (p : ℕ) (a : List ℕ) → at ≤ p → get_elem? sent p ≡ some a → opened ≤ p → (batch ≡ [] → ⊥) → batch_said a ≡ batch
+  pub old : (p : ℕ) (a : List ℕ) → at ≤ p → slice_get sent p ≡ Some a → p < opened → en_said a ≡ not en
+  pub new : (p : ℕ) (a : List ℕ) → at ≤ p → slice_get sent p ≡ Some a → opened ≤ p → en_said a ≡ en
+  pub carry : (p : ℕ) (a : List ℕ) → at ≤ p → slice_get sent p ≡ Some a → opened ≤ p → (batch ≡ [] → ⊥) → batch_said a ≡ batch
   pub past : ea ≡ en → opened ≤ at
   pub range : opened ≤ length sent
   pub given : at ≤ length sent
@@ -41,8 +40,8 @@ pub record Answers (en ea : Bool) (batch : List ErrorEntry) (sent : List (List �
 -- The requests to this head that can still be given to it. Those sent since EA last changed carry EA, those sent before the
 -- opposite bit. Where no batch is open or the open one is not booked, none from before that change can still be given to the head.
 pub record Requests (i : ℕ) (en ea : Bool) (batch : List ErrorEntry) (sent : List (List ℕ)) (at turned : ℕ) : Type 0 where
-  pub old : (q : ℕ) (f : List ℕ) → at ≤ q → get_elem? sent q ≡ some f → q < turned → Carries i (not ea) f
-  pub new : (q : ℕ) (f : List ℕ) → at ≤ q → get_elem? sent q ≡ some f → turned ≤ q → Carries i ea f
+  pub old : (q : ℕ) (f : List ℕ) → at ≤ q → slice_get sent q ≡ Some f → q < turned → Carries i (not ea) f
+  pub new : (q : ℕ) (f : List ℕ) → at ≤ q → slice_get sent q ≡ Some f → turned ≤ q → Carries i ea f
   pub closed : batch ≡ [] → turned ≤ at
   pub unread : ea ≡ not en → turned ≤ at
   pub range : turned ≤ length sent
@@ -59,7 +58,7 @@ pub record Inv (i : ℕ) (ea : Bool) (book : List ErrorEntry) (c : Tally) : Type
   pub id : c.ruled.head.id ≡ i
   pub batch : Good c.ruled.head.batch
   pub waiting : Good c.ruled.head.waiting
-  pub source : (p : ℕ) (bs : List ℕ) → get_elem? c.answers.frames p ≡ some bs → IsAnswer i bs
+  pub source : (p : ℕ) (bs : List ℕ) → slice_get c.answers.frames p ≡ Some bs → IsAnswer i bs
   pub answers : Answers c.ruled.head.en ea c.ruled.head.batch c.answers.frames c.answers.at c.ruled.opened_at
   pub turned : ℕ
   pub requests : Requests i c.ruled.head.en ea c.ruled.head.batch c.requests.frames c.requests.at turned

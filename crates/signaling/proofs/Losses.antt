@@ -4,10 +4,9 @@ use Prim.Native.Nat.{ℕ, zero, suc}
 use mathlib.Core.Bool.{true, false}
 use mathlib.Core.Path.{◌≡◌, refl, ap, ◌∙◌}
 use mathlib.Core.List.{List, [], ◌∷◌}
-use mathlib.Core.Option.{some}
 use native.Mathlib.Omega.{arith}
-use lib.ListN.{take, get_elem?}
-use Rattle.std.specs.Prelude.{Ok}
+use lib.ListN.{take}
+use Rattle.std.specs.Prelude.{Ok, Some, slice_get}
 use Rattle.services.specs.Table.{ds301}
 use Rattle.reporter.specs.Calls as reporter
 use Rattle.reporter.specs.Layout.{head_of, acknowledge_bytes}
@@ -83,7 +82,7 @@ built_ahead_loses =
 
 -- ---- a StatusResponse that the head did not send
 
-twice_same : (a bs : List ℕ) (p : ℕ) → get_elem? (a ∷ a ∷ []) p ≡ some bs → bs ≡ a
+twice_same : (a bs : List ℕ) (p : ℕ) → slice_get (a ∷ a ∷ []) p ≡ Some bs → bs ≡ a
 twice_same a bs zero e = cc
 twice_same a bs (suc zero) e = cc
 twice_same a bs (suc (suc p)) e = clash cc
@@ -110,10 +109,10 @@ lose_second r =
     (next (answer_second r)
     (λ s b k.
     knowing k (answer_frame fields second) second second_says refl house 2
-    (as_it_is k (answer_frame fields second) second second_says refl house 2 (omega arith, ap some (sent_whole (answer_frame fields second)))) refl))
+    (as_it_is k (answer_frame fields second) second second_says refl house 2 (omega arith, ap Some (sent_whole (answer_frame fields second)))) refl))
     (λ s b k. asking k 7 _ k.place asked refl))
     (λ s b k.
-    hearing k ds301 (sent 3) (request_frame 7 asked false) (Ok Closed) (omega arith, ap some (sent_whole (request_frame 7 asked false))) refl
+    hearing k ds301 (sent 3) (request_frame 7 asked false) (Ok Closed) (omega arith, ap Some (sent_whole (request_frame 7 asked false))) refl
     (rw (hears_ea ds301 false)))
 
 pub made_status_loses : MadeStatusLoses

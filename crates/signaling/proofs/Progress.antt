@@ -46,7 +46,7 @@ all_found {i} y (more l x xs) =
     (room_found z.0 z.1 x.box_reads, all_found (exchange_stays (Places i) places_stay x here) xs)
 
 ready : {i : ℕ} {w : World} → Run i w → IsRegistered i w → Ready i w
-ready run is = record { held = held run; place = rw is.1 tt }
+ready run is = record { held = held run; place = rw is.1 }
 
 -- free places for what is not booked
 roomy : {i : ℕ} {w : World} → Held i w → Room i w → Roomy i w

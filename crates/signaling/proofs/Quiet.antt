@@ -5,12 +5,11 @@ use mathlib.Core.Bool.{Bool, true, false}
 use mathlib.Core.Path.{◌≡◌, refl, ◌∙◌}
 use mathlib.Core.Logic.{◌⊎◌, inl, inr}
 use mathlib.Core.List.{List, [], ◌∷◌}
-use mathlib.Core.Option.{some}
 use native.Mathlib.Omega.{arith}
-use lib.ListN.{length, take, get_elem?, length-append}
+use lib.ListN.{length, take, length-append}
 use lib.Dec.{eqb}
 use borrow.Author.Tests.{eqb-true}
-use Rattle.std.specs.Prelude.{Result, Ok, Err, Some, None, Option}
+use Rattle.std.specs.Prelude.{IsSome, Result, Ok, Err, Some, None, Option, slice_get}
 use Rattle.types.specs.Codes.{pick}
 use Rattle.types.specs.declared.NodeId.{NodeId}
 use Rattle.types.specs.declared.hal.PowerlinkError.{PowerlinkError}
@@ -37,33 +36,29 @@ use Rattle.signaling.proofs.Steps.{answer_says, request_says, keeps}
 
 -- ---- every call: a place stays
 
-abbrev pub IsPlace : Option Account → Type 0
-IsPlace None = ⊥
-IsPlace (Some p) = Unit {0}
+module _ (i : ℕ) (b : Box) (is : IsSome (b.accounts i)) where
+  with_stays : (j : ℕ) (p : Account) → IsSome ((with_account j p b).accounts i)
+  with_stays j p = either (eqb i j) (λ here. rw here refl) (λ away. rw away is)
 
-module _ (i : ℕ) (b : Box) (is : IsPlace (b.accounts i)) where
-  with_stays : (j : ℕ) (p : Account) → IsPlace ((with_account j p b).accounts i)
-  with_stays j p = either (eqb i j) (λ here. rw here tt) (λ away. rw away is)
-
-  register_stays : (j : ℕ) (r : Result Unit RegisterError) → IsPlace ((after_register r j b).accounts i)
+  register_stays : (j : ℕ) (r : Result Unit RegisterError) → IsSome ((after_register r j b).accounts i)
   register_stays j (Ok _) = with_stays j _
   register_stays j (Err x) = is
 
-  booking_stays : (s : Result (Option NodeId) PowerlinkError) (said : Said) → IsPlace ((after_booking s said b).accounts i)
+  booking_stays : (s : Result (Option NodeId) PowerlinkError) (said : Said) → IsSome ((after_booking s said b).accounts i)
   booking_stays (Err e) said = is
   booking_stays (Ok None) said = is
   booking_stays (Ok (Some source)) said = with_stays source.0 _
 
-  read_stays : (services bs : List ℕ) (r : Result BoxOutcome ReadError) → IsPlace ((after_response services r bs b).accounts i)
+  read_stays : (services bs : List ℕ) (r : Result BoxOutcome ReadError) → IsSome ((after_response services r bs b).accounts i)
   read_stays services bs (Ok box.Booked) = booking_stays (response_in services bs) (status_in bs)
   read_stays services bs (Ok box.Known) = is
   read_stays services bs (Err e) = is
 
-  take_stays : (j : ℕ) (r : Result ErrorEntry TakeError) → IsPlace ((after_take r j b).accounts i)
+  take_stays : (j : ℕ) (r : Result ErrorEntry TakeError) → IsSome ((after_take r j b).accounts i)
   take_stays j (Ok e) = with_stays j _
   take_stays j (Err x) = is
 
-place_stays : {i : ℕ} {w v : World} {x : Event} → Step i w x v → IsPlace (place_for i w) → IsPlace (place_for i v)
+place_stays : {i : ℕ} {w v : World} {x : Event} → Step i w x v → IsSome (place_for i w) → IsSome (place_for i v)
 place_stays (raise e r after c) y = y
 place_stays (answer services f r after target written c) y = y
 place_stays (head_reads services o bs r after d c) y = y
@@ -76,7 +71,7 @@ place_stays (hosts bs told) y = y
 -- the head is registered
 pub record Ready (i : ℕ) (w : World) : Type 0 where
   pub held : Held i w
-  pub place : IsPlace (place_for i w)
+  pub place : IsSome (place_for i w)
 
 pub goes_on_lem : {i : ℕ} {w v : World} {x : Event} → Step i w x v → Ready i w → Ready i v
 goes_on_lem s y = record { held = keeps y.held s; place = place_stays s y.place }
@@ -128,10 +123,10 @@ shut h = with_batch [] h
 pub record Calm (i : ℕ) (w v : World) : Type 0 where
   pub head : ((head_in v ≡ head_in w) ⊎ (head_in v ≡ shut (head_in w))) ⊎ (head_in v ≡ opened (head_in w))
   pub bit : ea_of (place_for i v) ≡ ea_of (place_for i w)
-  pub answers : (p : ℕ) (a : List ℕ) → get_elem? (answers_sent i v.log) p ≡ some a
-      → (get_elem? (answers_sent i w.log) p ≡ some a) ⊎ Says a (head_in v)
-  pub requests : (q : ℕ) (f : List ℕ) → get_elem? (requests_sent i v.log) q ≡ some f
-      → (get_elem? (requests_sent i w.log) q ≡ some f) ⊎ Tells i w.box f
+  pub answers : (p : ℕ) (a : List ℕ) → slice_get (answers_sent i v.log) p ≡ Some a
+      → (slice_get (answers_sent i w.log) p ≡ Some a) ⊎ Says a (head_in v)
+  pub requests : (q : ℕ) (f : List ℕ) → slice_get (requests_sent i v.log) q ≡ Some f
+      → (slice_get (requests_sent i w.log) q ≡ Some f) ⊎ Tells i w.box f
 
 -- a Take leaves EA
 with_bit : (i j : ℕ) (p : Account) (b : Box) → p.ea ≡ ea_of (b.accounts j) → ea_of ((with_account j p b).accounts i) ≡ ea_of (b.accounts i)

@@ -8,6 +8,7 @@ use lib.ListN.{take, drop}
 use lib.Dec.{eqb}
 use borrow.Author.Tests.{eqb-true, eqb-false, eq-eqb}
 use Rattle.std.specs.Prelude.{Result, Ok, Err, Some, Option, None}
+use Rattle.std.proofs.lemmas.Option.{slice_get_within}
 use Rattle.types.specs.declared.hal.PowerlinkError.{PowerlinkError}
 use Rattle.codec.specs.Frame.{read_frame}
 use Rattle.error_entry.specs.declared.ErrorEntry.{ErrorEntry}
@@ -28,7 +29,7 @@ use Rattle.collector.specs.declared.RequestFields.{RequestFields}
 use Rattle.collector.specs.declared.TakeError.{TakeError}
 use Rattle.signaling.specs.Calls.{Origin, sent, foreign, Event, answered, head_read, box_read, requested, taken, tally, ruled, hears, Delivered, Reaches, Tells, node, World, Step, raise, answer, head_reads, register, box_reads, request, takes, hosts, Run, fresh, call, ea_of}
 use Rattle.signaling.proofs.Arriving.{reads_sent}
-use Rattle.signaling.proofs.Facts.{either, beq_false, at_lt}
+use Rattle.signaling.proofs.Facts.{either, beq_false}
 use Rattle.signaling.proofs.Frames.{Says, answer_reads}
 use Rattle.signaling.proofs.Invariant.{en_said, batch_said, book_of, Inv, head_in, place_for, Held}
 use Rattle.signaling.proofs.Head.{raise_keeps, opened_keeps, answer_written, head_reads_lem}
@@ -182,19 +183,19 @@ starts {i} eh eb =
             id = refl;
             batch = tt;
             waiting = tt;
-            source = λ p a e. absurd (omega (arith, at_lt [] a p e));
+            source = λ p a e. absurd (omega (arith, slice_get_within [] p a e));
             answers = record {
-              old = λ p a hp e lt. absurd (omega (arith, at_lt [] a p e));
-              new = λ p a hp e le. absurd (omega (arith, at_lt [] a p e));
-              carry = λ p a hp e le ne. absurd (omega (arith, at_lt [] a p e));
+              old = λ p a hp e lt. absurd (omega (arith, slice_get_within [] p a e));
+              new = λ p a hp e le. absurd (omega (arith, slice_get_within [] p a e));
+              carry = λ p a hp e le ne. absurd (omega (arith, slice_get_within [] p a e));
               past = λ e. omega arith;
               range = omega arith;
               given = omega arith;
             };
             turned = 0;
             requests = record {
-              old = λ q f hq e lt. absurd (omega (arith, at_lt [] f q e));
-              new = λ q f hq e le. absurd (omega (arith, at_lt [] f q e));
+              old = λ q f hq e lt. absurd (omega (arith, slice_get_within [] q f e));
+              new = λ q f hq e le. absurd (omega (arith, slice_get_within [] q f e));
               closed = λ e. omega arith;
               unread = λ e. omega arith;
               range = omega arith;

@@ -5,14 +5,14 @@ use mathlib.Core.Bool.{Bool, not, not-not}
 use mathlib.Core.Path.{◌≡◌, refl, sym, ap, ◌∙◌}
 use mathlib.Core.Logic.{inl, inr}
 use mathlib.Core.List.{List, [], ◌∷◌, ◌++◌}
-use mathlib.Core.Option.{some}
 use native.Mathlib.Omega.{arith}
-use lib.ListN.{length, get_elem?, length-append}
-use Rattle.std.specs.Prelude.{Ok, Some}
+use lib.ListN.{length, length-append}
+use Rattle.std.specs.Prelude.{Ok, Some, slice_get}
+use Rattle.std.proofs.lemmas.Option.{slice_get_within}
 use Rattle.octets.proofs.Order.{le_or_lt}
 use Rattle.error_entry.specs.declared.ErrorEntry.{ErrorEntry}
 use Rattle.reporter.specs.Rules.{ea_told}
-use Rattle.signaling.proofs.Facts.{same_or_not, opposite, at_snoc, at_lt}
+use Rattle.signaling.proofs.Facts.{same_or_not, opposite, at_snoc}
 use Rattle.signaling.proofs.Invariant.{Carries, en_said, batch_said, Answers, Requests}
 
 -- ---- answers
@@ -24,8 +24,8 @@ module _ {en ea : Bool} {batch : List ErrorEntry} {sent : List (List ℕ)} {at o
       let past : opened ≤ at = t.past same in
       record {
         old = λ p a hp e lt. t.new p a hp e (omega arith) ∙ sym (not-not en);
-        new = λ p a hp e le. absurd (omega (arith, at_lt sent a p e));
-        carry = λ p a hp e le ne. absurd (omega (arith, at_lt sent a p e));
+        new = λ p a hp e le. absurd (omega (arith, slice_get_within sent p a e));
+        carry = λ p a hp e le ne. absurd (omega (arith, slice_get_within sent p a e));
         past = λ e. opposite en (sym same ∙ e);
         range = omega arith;
         given = t.given;
@@ -58,7 +58,7 @@ module _ {en ea : Bool} {batch : List ErrorEntry} {sent : List (List ℕ)} {at o
       }
 
   -- an answer whose bit is not EA is one of the open batch, and that is not booked
-  pub answers_fresh : (batch ≡ [] → ea ≡ en) → (p : ℕ) (a : List ℕ) → at ≤ p → get_elem? sent p ≡ some a → en_said a ≡ not ea
+  pub answers_fresh : (batch ≡ [] → ea ≡ en) → (p : ℕ) (a : List ℕ) → at ≤ p → slice_get sent p ≡ Some a → en_said a ≡ not ea
       → (ea ≡ not en) × (opened ≤ p) × (en_said a ≡ en) × (batch_said a ≡ batch) × (batch ≡ [] → ⊥)
   answers_fresh idle p a hp e fresh =
       elim (same_or_not ea en) [
@@ -135,7 +135,7 @@ module _ {i : ℕ} {en ea : Bool} {batch : List ErrorEntry} {sent : List (List �
       }
 
   -- a request to this head whose bit is EN was sent after the batch was booked
-  pub requests_fresh : (q : ℕ) (f : List ℕ) → at ≤ q → get_elem? sent q ≡ some f → (services : List ℕ) → ea_told services i f ≡ Ok (Some en)
+  pub requests_fresh : (q : ℕ) (f : List ℕ) → at ≤ q → slice_get sent q ≡ Some f → (services : List ℕ) → ea_told services i f ≡ Ok (Some en)
       → (ea ≡ en) × (turned ≤ q)
   requests_fresh q f hq e services me =
       elim (same_or_not ea en) [
@@ -161,7 +161,7 @@ module _ {i : ℕ} {en ea : Bool} {batch : List ErrorEntry} {sent : List (List �
       let past : turned ≤ at = t.unread differ in
       record {
         old = λ q f hq e lt. rw differ at (t.new q f hq e (omega arith));
-        new = λ q f hq e le. absurd (omega (arith, at_lt sent f q e));
+        new = λ q f hq e le. absurd (omega (arith, slice_get_within sent q f e));
         closed = λ e. absurd (open? e);
         unread = λ e. opposite en e;
         range = omega arith;

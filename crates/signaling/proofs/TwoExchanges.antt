@@ -4,10 +4,9 @@ use Prim.Native.Nat.{ℕ}
 use mathlib.Core.Bool.{true, false}
 use mathlib.Core.Path.{refl, ap}
 use mathlib.Core.List.{List, [], ◌∷◌}
-use mathlib.Core.Option.{some}
 use native.Mathlib.Omega.{arith}
 use lib.ListN.{take}
-use Rattle.std.specs.Prelude.{Ok}
+use Rattle.std.specs.Prelude.{Ok, Some}
 use Rattle.services.specs.Table.{ds301}
 use Rattle.reporter.specs.Rules.{Head, opened, answer_frame, ea_answer}
 use Rattle.reporter.specs.declared.ReadOutcome.TheVariants.{Closed}
@@ -43,9 +42,9 @@ module _ {s b : List ℕ} where
   unfolding opened asked book_answer ea_answer
   exchange₁ k =
       exchanging ds301 house 7 fields asked sizes refl all_raised (waits five) fresh_account with_two 0 1 k (omega arith) first_says two_arrive refl two_octets refl
-      (omega arith, ap some (sent_whole (answer_frame fields first)))
+      (omega arith, ap Some (sent_whole (answer_frame fields first)))
       (omega arith)
-      (omega arith, ap some (sent_whole (request_frame 7 asked true)))
+      (omega arith, ap Some (sent_whole (request_frame 7 asked true)))
       (omega arith)
       (hears_ea ds301 true)
       refl
@@ -58,9 +57,9 @@ module _ {s b : List ℕ} where
       refl
       answer_octets.1
       refl
-      (omega arith, ap some (sent_whole (answer_frame fields second)))
+      (omega arith, ap Some (sent_whole (answer_frame fields second)))
       (omega arith)
-      (omega arith, ap some (sent_whole (request_frame 7 asked false)))
+      (omega arith, ap Some (sent_whole (request_frame 7 asked false)))
       (omega arith)
       (hears_ea house false)
       refl
@@ -78,7 +77,7 @@ two_exchanges =
       waiting = rw r.knows.rules;
       exchanges = more still x.exchange (more still y.exchange (done still));
       answer = answer_frame fields first;
-      is_sent = ap some (sent_whole (answer_frame fields first));
+      is_sent = ap Some (sent_whole (answer_frame fields first));
       given = ap (λ (bs : List ℕ). bs ∷ []) x.read;
       closed = rw y.knows.rules;
     }

@@ -6,9 +6,7 @@
 -- each reading has a table of services of its own (02, CR 1: "An error exchange under any loaded table books as before"): any octets, more
 -- than the 256 that a call can be lent, and others from call to call.
 -- Assumes nothing.
-use Rattle.std.specs.Prelude.{ℕ, suc, ◌≤◌, Bool, true, false, ◌||◌, ◌≡◌, List, [], ◌∷◌, ◌++◌, length, take, leb, eqb, Result, Ok, Err, Some, None, Option}
-use Rattle.std.proofs.Math.Option.{some}
-use Rattle.std.proofs.Math.ListN.{get_elem?}
+use Rattle.std.specs.Prelude.{ℕ, suc, ◌≤◌, Bool, true, false, ◌||◌, ◌≡◌, List, [], ◌∷◌, ◌++◌, length, take, leb, eqb, Result, Ok, Err, IsErr, Some, None, Option, slice_get}
 use Rattle.types.specs.Codes.{pick}
 use Rattle.types.specs.Nodes.{managing_node}
 pub use Rattle.types.specs.Nodes.{node}
@@ -38,6 +36,7 @@ use Rattle.signaling.specs.Arrival.{Arrives}
 -- ---- the log of calls, their answers, and the octets that were given or written
 
 -- a frame that is read: the one sent at this place, counted from 0, by the other of the two, or octets from elsewhere
+-- (no Option: in a list of calls `sent 2` and `foreign` say more than `Some 2` and `None`)
 pub data Origin : Type 0 where
   sent : ℕ → Origin
   foreign : Origin
@@ -127,13 +126,9 @@ hands mine r es = record { accepted = es.accepted; handed_out = pick mine (if_ta
 
 -- the line: "not refused sends a copy of the bytes it wrote, as many as the returned length"; and a frame is given to the other end
 
-abbrev pub if_answered : Result ℕ PowerlinkError → List ℕ → List (List ℕ) → List (List ℕ)
-if_answered (Ok n) bs fs = fs ++ (take n bs ∷ [])
-if_answered (Err e) bs fs = fs
-
-abbrev pub if_requested : Result ℕ RequestError → List ℕ → List (List ℕ) → List (List ℕ)
-if_requested (Ok n) bs fs = fs ++ (take n bs ∷ [])
-if_requested (Err e) bs fs = fs
+abbrev pub if_written : {E : Type 0} → Result ℕ E → List ℕ → List (List ℕ) → List (List ℕ)
+if_written (Ok n) bs fs = fs ++ (take n bs ∷ [])
+if_written (Err e) bs fs = fs
 
 abbrev pub sends : (List (List ℕ) → List (List ℕ)) → Line → Line
 sends f l = record { frames = f l.frames; at = l.at }
@@ -172,11 +167,11 @@ books o r s = record { head = s.head; opened_at = s.opened_at; is_booked = books
 -- THE TABLE: what each call adds, for the head with ID i. A call that is not named in a part changes nothing there; a new call is one row.
 abbrev pub adds : ℕ → Event → Tally → Tally
 adds i (raised e r) t = on_entries (accepts r e) (on_ruled (becomes (raises e)) t)
-adds i (answered r bs) t = on_answers (sends (if_answered r bs)) (on_ruled (answers r (length t.answers.frames)) t)
+adds i (answered r bs) t = on_answers (sends (if_written r bs)) (on_ruled (answers r (length t.answers.frames)) t)
 adds i (head_read services o bs r) t = on_requests (gives o) (on_ruled (becomes (hears services i bs)) t)
 adds i (registered j r) t = t
 adds i (box_read services o bs r) t = on_answers (gives o) (on_ruled (books o r) t)
-adds i (requested j r bs) t = on_requests (sends (if_requested r bs)) t
+adds i (requested j r bs) t = on_requests (sends (if_written r bs)) t
 adds i (taken j r) t = on_entries (hands (eqb j i) r) t
 adds i (hosted bs) t = on_requests (sends (λ fs. fs ++ (bs ∷ []))) t
 
@@ -230,7 +225,7 @@ NotFrom i (Ok f) = source_of f ≡ i → ⊥
 
 -- what 01's line does to a frame: it neither alters nor reorders, so what is given is what was sent, at or behind the last place given
 abbrev pub Delivered : List ℕ → ℕ → Origin → List ℕ → Line → Type 0
-Delivered services i (sent p) bs l = (l.at ≤ p) × (get_elem? l.frames p ≡ some bs)
+Delivered services i (sent p) bs l = (l.at ≤ p) × (slice_get l.frames p ≡ Some bs)
 Delivered services i foreign bs l = NotFrom i (read_frame services bs)
 
 -- What reaches the box is what the line delivers, an answer with status entries put in (02, CR 2), at each repeat with others; none of them is
@@ -284,12 +279,8 @@ pub data Run (i : ℕ) : World → Type 0 where
 -- ---- what holds after it
 
 -- "what further Takes for it hand out until one is refused"
-abbrev pub TakeRefused : Result ErrorEntry TakeError → Type 0
-TakeRefused (Ok e) = ⊥
-TakeRefused (Err x) = Unit {0}
-
 pub data Drained (i : ℕ) : List ℕ → List ErrorEntry → Type 0 where
-  over : {s : List ℕ} (r : Result ErrorEntry TakeError) (after : List ℕ) → collector.Takes (node i) r s after → TakeRefused r → Drained i s []
+  over : {s : List ℕ} (r : Result ErrorEntry TakeError) (after : List ℕ) → collector.Takes (node i) r s after → IsErr r → Drained i s []
   more : {s : List ℕ} (e : ErrorEntry) (after : List ℕ) (es : List ErrorEntry) → collector.Takes (node i) (Ok e) s after
       → Drained i after es → Drained i s (e ∷ es)
 

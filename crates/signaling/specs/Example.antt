@@ -2,9 +2,7 @@
 -- exchanges. And what they leave out has to be left out, three lists that lose entries: of a frame of the box's host with any EA, of one
 -- that was built before a newer request, and of a StatusResponse under the head's ID that the head did not send.
 -- Assumes nothing.
-use Rattle.std.specs.Prelude.{ℕ, Bool, true, false, ◌≡◌, List, [], ◌∷◌, ◌++◌, take, drop, Result, Ok, Err, Some}
-use Rattle.std.proofs.Math.Option.{some}
-use Rattle.std.proofs.Math.ListN.{get_elem?}
+use Rattle.std.specs.Prelude.{ℕ, Bool, true, false, ◌≡◌, List, [], ◌∷◌, ◌++◌, take, drop, Result, Ok, Err, Some, slice_get}
 use Rattle.types.specs.declared.error_mode.ErrorEntryMode.{ErrorEntryMode}
 use Rattle.types.specs.declared.error_mode.ErrorEntryMode.TheVariants.{Terminator, ErrorActive, ErrorCleared, EventOccurred}
 use Rattle.types.specs.declared.hal.PowerlinkError.TheVariants.{InvalidServiceId}
@@ -148,13 +146,13 @@ pub record LossAndRepeat : Type 0 where
   pub made : calls w.log ≡ at_start ++ (five_raised ++ (answered_twice ++ (read_twice ++ (first_closed ++ (second_closed ++ one_taken)))))
   -- the ASnd of service 20h: under both tables it is the same frame
   pub asnd : List ℕ
-  pub held : get_elem? w.log 14 ≡ some (box_read house foreign asnd (Err refusal.NotStatusResponse))
-  pub unheld : get_elem? w.log 13 ≡ some (box_read ds301 foreign asnd (Err (refusal.Frame (InvalidServiceId 0x20))))
+  pub held : slice_get w.log 14 ≡ Some (box_read house foreign asnd (Err refusal.NotStatusResponse))
+  pub unheld : slice_get w.log 13 ≡ Some (box_read ds301 foreign asnd (Err (refusal.Frame (InvalidServiceId 0x20))))
   -- answer 1: when the box books it, status entries stand before its first and behind its second entry; in its repeat another one behind the last
   pub answer : List ℕ
-  pub is_sent : get_elem? (answers_sent 7 w.log) 1 ≡ some answer
-  pub with_two : get_elem? w.log 12 ≡ some (box_read house (sent 1) (two_put_in answer) (Ok box.Booked))
-  pub with_other : get_elem? w.log 11 ≡ some (box_read ds301 (sent 1) (put_in 4 (entry_bytes (shown EventOccurred 0x8172)) answer) (Ok box.Known))
+  pub is_sent : slice_get (answers_sent 7 w.log) 1 ≡ Some answer
+  pub with_two : slice_get w.log 12 ≡ Some (box_read house (sent 1) (two_put_in answer) (Ok box.Booked))
+  pub with_other : slice_get w.log 11 ≡ Some (box_read ds301 (sent 1) (put_in 4 (entry_bytes (shown EventOccurred 0x8172)) answer) (Ok box.Known))
   pub entries : accepted 7 w.log ≡ five
   pub handed : handed_out 7 w.log ≡ take 1 five
   -- the others are booked, and nothing is left at the head
@@ -179,7 +177,7 @@ pub record TwoExchanges : Type 0 where
   pub waiting : pending 7 w ≡ five
   pub exchanges : Exchanges 7 2 w v
   pub answer : List ℕ
-  pub is_sent : get_elem? (answers_sent 7 v.log) 0 ≡ some answer
+  pub is_sent : slice_get (answers_sent 7 v.log) 0 ≡ Some answer
   pub given : take 1 (answers_read exchanges) ≡ two_put_in answer ∷ []
   pub closed : pending 7 v ≡ []
 
