@@ -8,7 +8,10 @@ use types::basic::MacAddress;
 use types::poll_flags::{PRFlag, RSFlag};
 use types::states::NmtState;
 
-pub const EPL_VERSION: u8 = 32;
+pub const EPL_VERSION: EPLVersion = EPLVersion(32);
+
+// The managing node.
+pub const MANAGING_NODE_ID: u8 = 240;
 
 // The address of a node.
 pub fn station(id: u8) -> MacAddress {
@@ -37,8 +40,8 @@ pub fn answer_fields(id: u8, some: u8) -> AnswerFields {
 
 pub fn request_fields() -> RequestFields {
     RequestFields {
-        source_mac: station(240),
+        source_mac: station(MANAGING_NODE_ID),
         nmt_state: NmtState::NmtOperational,
-        epl_version: EPLVersion(EPL_VERSION),
+        epl_version: EPL_VERSION,
     }
 }
