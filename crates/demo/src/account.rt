@@ -87,13 +87,8 @@ impl Head {
     // Accepted entries that the box has not booked.
     pub fn unbooked(&self) -> u64 {
         match self.open {
-            Some(
-                Batch {
-                    told_from: Some(_),
-                    ..
-                },
-            ) => self.waiting,
-            _ => self.held(),
+            Some(batch) if batch.told_from.is_none() => self.held(),
+            _ => self.waiting,
         }
     }
 

@@ -1,12 +1,13 @@
 // Demand 3, by answers alone: a copy of the box is emptied, so the box itself is left as it is.
 use crate::account::Head;
 use crate::entries::entry;
+use crate::expected::BOOK_LEN;
 use crate::world::{Scene, World};
 use collector::Collector;
 use types::NodeId;
 
 // More than a book holds.
-const TAKES: u64 = 65;
+const TAKES: u64 = BOOK_LEN + 1;
 
 // How many entries of a head are booked: what was handed out, then what a copy of the box hands out until it refuses. They have to be
 // entries 0, 1, 2, .. of the head.

@@ -1,5 +1,5 @@
 // What 01 has a call come to, by the calls before it as they are counted.
-use crate::account::{Batch, Head};
+use crate::account::Head;
 use crate::cause::Cause;
 use crate::entries::Kind;
 use crate::outcome::{DONE, IGNORED, KEPT, KNOWN, Outcome, Success};
@@ -82,13 +82,8 @@ pub fn hearing(head: Head, number: u64, node: u8) -> Outcome {
     if node != head.id {
         return IGNORED;
     }
-    match head.open {
-        Some(
-            Batch {
-                told_from: Some(first),
-                ..
-            },
-        ) if first <= number => DONE,
+    match head.open.and_then(|batch| batch.told_from) {
+        Some(first) if first <= number => DONE,
         _ => KEPT,
     }
 }

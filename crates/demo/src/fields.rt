@@ -18,10 +18,14 @@ pub fn station(id: u8) -> MacAddress {
     MacAddress([0x02, 0, 0, 0, 0, id])
 }
 
-// An answer's fields; with 0, all of its octets behind the service are 0.
+// What goes into an answer's fields; with zeros, all of its octets behind the service are 0.
+pub const FILLED: u8 = 9;
+
+pub const ZEROS: u8 = 0;
+
 pub fn answer_fields(id: u8, some: u8) -> AnswerFields {
     let nmt_state = match some {
-        0 => NmtState::NmtGsOff,
+        ZEROS => NmtState::NmtGsOff,
         _ => NmtState::NmtOperational,
     };
     AnswerFields {

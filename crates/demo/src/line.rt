@@ -1,11 +1,12 @@
 // The line: what each sender has sent last, and which of it an end is given. It drops, delays and repeats, and never
 // turns an order round.
 use crate::target::Frame;
+use crate::world::HEADS;
 
-// Five heads, then the managing node.
-pub const MANAGING_NODE: usize = 5;
+// The managing node as a sender, behind the heads.
+pub const MANAGING_NODE: usize = HEADS;
 
-const SENDERS: usize = 6;
+const SENDERS: usize = HEADS + 1;
 
 // The last frames that are kept of a sender; older ones are lost.
 const KEPT: usize = 8;

@@ -8,7 +8,7 @@ use crate::world::World;
 // Plays them all in a fresh world, and answers it.
 pub fn play(rt: &impl Print) -> World {
     let mut script = Script::new();
-    for lines in [
+    for steps in [
         of_01::OF_HEAD,
         of_01::OF_BOX,
         of_01::OF_READING,
@@ -18,7 +18,7 @@ pub fn play(rt: &impl Print) -> World {
         of_02::OF_STATUS_ALONE,
         of_02::OF_FULL_BOOK,
     ] {
-        script.play(rt, lines);
+        script.play(rt, steps);
     }
     script.world
 }

@@ -41,15 +41,18 @@ use std::env::{Env, FillError};
 use std::fs::File;
 use std::rt::Files;
 use std::str::from_utf8;
-use world::Scene;
+use world::{HEADS, Scene};
 
-// Before the fourth head is registered, and after.
+// The longest name of a file that the system takes, with the zero behind it.
+const PATH_MAX: usize = 4096;
+
+// Calls before the fourth head is registered, and after.
 const FIRST_PART: u64 = 20000;
 
 const SECOND_PART: u64 = 60000;
 
 fn register(scene: &mut Scene, number: usize, expected: Outcome) {
-    let node = &mut scene.nodes[number % 5];
+    let node = &mut scene.nodes[number % HEADS];
     let got = scene.world.register(node.head.id);
     scene.world.comes_to(got, expected);
     node.head.registered = got == DONE;
@@ -98,7 +101,7 @@ fn demo_to(rt: &(impl Files<File = File> + Print + Eprint + Alloc), path: &str) 
 
 // The same with the journal that the argument names.
 fn demo_to_file(rt: &(impl Files<File = File> + Env + Print + Eprint + Alloc)) {
-    let mut path = [0u8; 4096];
+    let mut path = [0u8; PATH_MAX];
     match rt.arg(1, &mut path) {
         Ok(n) => match from_utf8(front(&path, n)) {
             Ok(path) => demo_to(rt, path),

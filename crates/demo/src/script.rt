@@ -1,6 +1,7 @@
 // Plays lines to check, a call to each of them.
 use crate::cause::Cause;
 use crate::entries::{Kind, entry};
+use crate::fields::{FILLED, ZEROS};
 use crate::odd::Odd;
 use crate::outcome::{DONE, Outcome, outcome};
 use crate::status::put_in;
@@ -8,9 +9,9 @@ use crate::target::{Frame, ROOM};
 use crate::world::{Node, World};
 use octets::slices::front;
 
-// A line: a call, and where it is shown, what it has to come to and what it is.
+// A call, and where it is shown, what it has to come to and what it is.
 #[derive(Clone, Copy)]
-pub enum Line {
+pub enum Step {
     Quiet(Call),
     Shown(Call, Outcome, &'static str),
 }
@@ -122,9 +123,9 @@ impl Script {
     // Four entries are raised, booked and closed.
     fn exchange(&mut self) -> Outcome {
         self.raise(4)?;
-        self.answer(ROOM, 9)?;
+        self.answer(ROOM, FILLED)?;
         self.box_reads(ROOM)?;
-        self.request(7, ROOM)?;
+        self.request(self.node.head.id, ROOM)?;
         self.head_reads()
     }
 
@@ -151,8 +152,8 @@ impl Script {
             Call::Load(file) => self.node.load(file),
             Call::Raise(n) => self.raise(n),
             Call::RaiseOne(kind) => self.node.raise(kind.entry(0, 0)),
-            Call::Answer(room) => self.answer(room, 9),
-            Call::AnswerZeros(room) => self.answer(room, 0),
+            Call::Answer(room) => self.answer(room, FILLED),
+            Call::AnswerZeros(room) => self.answer(room, ZEROS),
             Call::Spoil(odd) => self.spoil(odd),
             Call::PutIn(place, kind) => self.put_in(place, kind),
             Call::HeadReads => self.head_reads(),
@@ -167,14 +168,14 @@ impl Script {
         }
     }
 
-    // Plays lines, and shows those that say what their call has to come to.
-    pub fn play(&mut self, rt: &impl Print, lines: &[Line]) {
-        for line in lines {
-            match *line {
-                Line::Quiet(call) => {
+    // Plays steps, and shows those that say what their call has to come to.
+    pub fn play(&mut self, rt: &impl Print, steps: &[Step]) {
+        for step in steps {
+            match *step {
+                Step::Quiet(call) => {
                     let _ = self.plays(call);
                 }
-                Line::Shown(call, expected, text) => {
+                Step::Shown(call, expected, text) => {
                     let got = self.plays(call);
                     show(rt, got, expected, text);
                     self.world.demands(got == expected);

@@ -1,7 +1,7 @@
 // The simulation: one call after another, by a fixed rule in place of chance.
 use crate::journal::Out;
 use crate::target::ROOM;
-use crate::world::{Node, Scene, World};
+use crate::world::{HEADS, Node, Scene, World};
 use crate::{check, turns};
 
 // The largest prime below 2^31.
@@ -27,7 +27,7 @@ fn take(out: &mut Out<'_, impl Eprint>, w: &mut World, node: &mut Node) {
     }
 }
 
-// What a head's turn does. A `match`, since each call takes other parts of this: a table of closures would name them twice.
+// What a head's turn does. A `match`: in a table of closures each would have to be told all that any of them takes.
 fn act(out: &mut Out<'_, impl Eprint>, w: &mut World, node: &mut Node, chance: u64) {
     let rest = chance / 32;
     match chance % 32 {
@@ -49,8 +49,8 @@ pub fn run(out: &mut Out<'_, impl Eprint>, scene: &mut Scene, turns: u64) {
     let mut chance = turns;
     for _ in 0..turns {
         chance = next(chance);
-        let node = &mut scene.nodes[(chance % 5) as usize];
-        act(out, &mut scene.world, node, chance / 5);
+        let node = &mut scene.nodes[chance as usize % HEADS];
+        act(out, &mut scene.world, node, chance / HEADS as u64);
         check::all(scene);
     }
 }

@@ -2,6 +2,7 @@
 use crate::cause::Cause;
 use crate::entries::{Kind, entry};
 use crate::expected::{self, FRAME_LEN, answer_len};
+use crate::fields::{FILLED, MANAGING_NODE_ID};
 use crate::foreign;
 use crate::journal::Out;
 use crate::line::{MANAGING_NODE, pick};
@@ -28,7 +29,7 @@ pub fn raise(w: &mut World, node: &mut Node, chance: u64) {
 pub fn answer(w: &mut World, node: &mut Node, room: usize) {
     let head = node.head;
     let got = if head.is_ours() {
-        let got = w.answer(node, room, 9);
+        let got = w.answer(node, room, FILLED);
         w.comes_to(
             outcome(got),
             expected::writing(answer_len(head.carried()), room),
@@ -148,7 +149,7 @@ pub fn box_refuses(w: &mut World, node: &Node, chance: u64) {
         0 => (outcome(w.take(STRANGER)), Cause::NotRegistered),
         1 => (outcome(w.request(STRANGER, 40)), Cause::NotRegistered),
         2 => (w.register(0), Cause::IdOutOfRange),
-        3 => (w.register(240), Cause::IdOutOfRange),
+        3 => (w.register(MANAGING_NODE_ID), Cause::IdOutOfRange),
         _ if node.head.registered => (w.register(node.head.id), Cause::IdRegistered),
         _ => return,
     };

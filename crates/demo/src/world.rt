@@ -92,10 +92,12 @@ impl World {
     }
 }
 
+pub const HEADS: usize = 5;
+
 // The world with all heads.
 #[derive(Clone, Copy)]
 pub struct Scene {
-    pub nodes: [Node; 5],
+    pub nodes: [Node; HEADS],
     pub world: World,
 }
 

@@ -11,10 +11,10 @@ use crate::script::Call::{
     Answer, AnswerZeros, BoxReads, Exchanges, Fresh, HeadReads, PReq, PReqWithoutEa, Raise,
     RaiseOne, Register, Request, Spoil, Take,
 };
-use crate::script::Line;
-use crate::script::Line::{Quiet, Shown};
+use crate::script::Step;
+use crate::script::Step::{Quiet, Shown};
 
-pub const OF_HEAD: &[Line] = &[
+pub const OF_HEAD: &[Step] = &[
     Shown(Fresh(0), Err(IdOutOfRange), "a head of ID 0"),
     Shown(Fresh(240), Err(IdOutOfRange), "a head of ID 240"),
     Shown(Fresh(239), DONE, "a head of ID 239"),
@@ -53,7 +53,7 @@ pub const OF_HEAD: &[Line] = &[
     ),
 ];
 
-pub const OF_BOX: &[Line] = &[
+pub const OF_BOX: &[Step] = &[
     Quiet(Fresh(7)),
     Shown(Register(0), Err(IdOutOfRange), "registering 0"),
     Shown(Register(240), Err(IdOutOfRange), "registering 240"),
@@ -80,7 +80,7 @@ pub const OF_BOX: &[Line] = &[
 ];
 
 // Frames in the box's order: 10, 11, the rules of StatusResponses, known. Then a book that is full.
-pub const OF_READING: &[Line] = &[
+pub const OF_READING: &[Step] = &[
     Quiet(Fresh(8)),
     Quiet(Register(7)),
     Quiet(Raise(1)),
@@ -127,7 +127,7 @@ pub const OF_READING: &[Line] = &[
 
 // A fault is closed; the answer with the next one is lost, and then the host sends a PReq. What EA it carries decides whether
 // that fault is lost too.
-pub const OF_HOST: &[Line] = &[
+pub const OF_HOST: &[Step] = &[
     Quiet(Fresh(7)),
     Quiet(Register(7)),
     Quiet(Raise(1)),

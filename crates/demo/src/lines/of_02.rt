@@ -12,11 +12,11 @@ use crate::script::Call::{
     Answer, Asnd, BoxReads, Exchanges, Fresh, HeadReads, Load, PutIn, Raise, RaiseOne, Register,
     Request, Spoil, Take,
 };
-use crate::script::Line;
-use crate::script::Line::{Quiet, Shown};
+use crate::script::Step;
+use crate::script::Step::{Quiet, Shown};
 
 // Tables of services (02, CR 1): 20 is tested first and 22 last. Until one is loaded, the twelve of DS 301 are in use.
-pub const OF_TABLES: &[Line] = &[
+pub const OF_TABLES: &[Step] = &[
     Shown(
         Load(b"PLS\x01"),
         Err(NotATable),
@@ -100,7 +100,7 @@ pub const OF_TABLES: &[Line] = &[
 ];
 
 // Entries with bit 15 set (02, CR 2): no head of ours raises one, and no box books one.
-pub const OF_STATUS: &[Line] = &[
+pub const OF_STATUS: &[Step] = &[
     Quiet(Fresh(7)),
     Shown(
         RaiseOne(Status),
@@ -161,7 +161,7 @@ pub const OF_STATUS: &[Line] = &[
 ];
 
 // A batch of nothing else.
-pub const OF_STATUS_ALONE: &[Line] = &[
+pub const OF_STATUS_ALONE: &[Step] = &[
     Quiet(Fresh(7)),
     Quiet(Register(7)),
     Quiet(Answer(240)),
@@ -174,7 +174,7 @@ pub const OF_STATUS_ALONE: &[Line] = &[
 ];
 
 // They take no place of a book.
-pub const OF_FULL_BOOK: &[Line] = &[
+pub const OF_FULL_BOOK: &[Step] = &[
     Quiet(Fresh(7)),
     Quiet(Register(7)),
     Quiet(Exchanges(15)),
