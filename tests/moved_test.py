@@ -107,7 +107,7 @@ a
     changed: Sizes.inner, Sizes.size
     moved: Here.gone (from Gone)
   public contracts: 2 changed, 1 stayed
-    changed: SizeFromUsize.from, twice
+    changed: twice, SizeFromUsize.from
     stayed: fits (cites what changed: Sizes.size)
   other contracts: 1 changed
     changed: own
