@@ -6,11 +6,7 @@ import pathlib
 import re
 import sys
 
-from sources import functions
-
-# The type of a parameter that is lent to be changed, with its lifetime or without.
-MUTABLE = re.compile(r"&(?:'\w+ )?mut\b")
-
+from sources import MUTABLE, functions
 
 # The result, and what such a parameter holds at the end, as a clause writes them.
 RESULT = re.compile(r'(?<![\w.-])result(?![\w-])')

@@ -55,8 +55,9 @@ def value_of(crate, text):
 
 
 def equations(text, function):
-    """The lines `function CASE .. = VALUE` of a definition by cases: the case without its module, and the value."""
-    return re.findall(rf'^{function} \(?(?:\w+\.)?(\w+)[^=\n]*= (.*)$', text, re.M)
+    """The lines `function CASE .. = VALUE` of a definition by cases: the case without its module, of a Result its outcome or error,
+    and the value."""
+    return re.findall(rf'^{function} \(?(?:(?:Ok|Err) )?\(?(?:\w+\.)?(\w+)[^=\n]*= (.*)$', text, re.M)
 
 
 def items(text, left):
@@ -110,7 +111,7 @@ VALUES = [
     ('c_values/specs/Values.antt', r'asnd_numbers f p', 'ASND_'),
     ('c_values/specs/Values.antt', r'status_numbers f', 'STATUS_'),
     ('error_entry/specs/Values.antt', r'entry_numbers e', 'ENTRY_'),
-    ('powerlink/specs/Reading.antt', r'pl_after \(pl.Read h\) before', 'PL_'),
+    ('powerlink/specs/Reading.antt', r'pl_after \(Ok h\) before', 'PL_'),
 ]
 SHARED = ['MESSAGE_TYPE', 'DESTINATION', 'SOURCE', 'PAYLOAD_START', 'PAYLOAD_LEN']
 FIELD_NAMES = {
@@ -191,7 +192,7 @@ def services():
 
 def outcomes():
     for crate in ['reporter', 'collector']:
-        for variant, value in re.findall(r'^read_cause (\w+) = row 0 \((\d+) ∷ \[\]\)$', text_of(crate, 'specs/Rules.antt'), re.M):
+        for variant, value in re.findall(r'^read_cause \(Ok (\w+)\) = row 0 \((\d+) ∷ \[\]\)$', text_of(crate, 'specs/Rules.antt'), re.M):
             yield snake(variant), int(value)
 
 

@@ -67,8 +67,8 @@ def cites(imports, clauses):
 def contracts(crate, path, text):
     imports = {}
     for owner, module, names in CITED.findall(text):
-        for name in re.split(r',\s*', names):
-            imports[name] = (owner, module.replace('.', '/'), name)
+        for name, _, here in (name.partition(' as ') for name in re.split(r',\s*', names)):
+            imports[here or name] = (owner, module.replace('.', '/'), name)
     for function in functions(path, text):
         kind = 'public contracts' if function.public else 'other contracts'
         clauses = [f'requires {clause}' for clause in function.requires] + [f'ensures {clause}' for clause in function.ensures]

@@ -42,6 +42,14 @@ OLD = {
             n
         }
 
+        impl From<usize> for Size {
+            ghost from_gives = { λ n s. s.0 ≡ kept n };
+
+            fn from(n: usize) -> Size {
+                Size(n)
+            }
+        }
+
         fn own(n: usize) -> usize
             requires { n ≤ 4 }
             ensures value { result ≡ kept n }
@@ -83,7 +91,7 @@ OLDER = """
 CHANGES = {
     'a/specs/Sizes.antt': [('-- a comment', '-- another'), ('size = 4', 'size = 5'), ('kept n = n', 'kept n =\n            n'), ('(n : ℕ) where\n', '(m n : ℕ) where\n')],
     'a/specs/Gone.antt': 'a/specs/Here.antt',
-    'a/src/lib.rt': [('// A comment.\n', ''), ('n <= 4', 'n <= 5'), ('result ≡ n }', 'result ≡ n + n }'), ('n ≤ 4', 'n ≤ 5')],
+    'a/src/lib.rt': [('// A comment.\n', ''), ('n <= 4', 'n <= 5'), ('result ≡ n }', 'result ≡ n + n }'), ('n ≤ 4', 'n ≤ 5'), ('λ n s. s.0 ≡ kept n', 'λ m s. s.0 ≡ kept (m + 1)')],
     'a/proofs/fits/Answers.antt': [('search rules', 'search (rules)')],
     'a/proofs/own/Invariants.antt': [('loop-n n = n', 'loop-n n = 1')],
     'a/proofs/own/Answers.antt': [],
@@ -98,8 +106,8 @@ a
   definitions: 2 changed, 1 moved, 2 stayed
     changed: Sizes.inner, Sizes.size
     moved: Here.gone (from Gone)
-  public contracts: 1 changed, 1 stayed
-    changed: twice
+  public contracts: 2 changed, 1 stayed
+    changed: twice, SizeFromUsize.from
     stayed: fits (cites what changed: Sizes.size)
   other contracts: 1 changed
     changed: own
@@ -108,7 +116,7 @@ a
     changed: fits, own
     removed: Laws.high
 all definitions: 0 added, 2 changed, 0 removed, 1 moved, 2 stayed
-all public contracts: 0 added, 1 changed, 0 removed, 0 moved, 1 stayed
+all public contracts: 0 added, 2 changed, 0 removed, 0 moved, 1 stayed
 all other contracts: 0 added, 1 changed, 0 removed, 0 moved, 0 stayed
 all proofs: 1 added, 2 changed, 1 removed, 0 moved, 1 stayed
 seconds after which each was proved, before and after (of the gate: its time; processor time)

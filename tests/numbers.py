@@ -1,7 +1,7 @@
 #!/usr/bin/env python3
 """numbers.py [CRATE..]: changes each number and each value of 01's tables of causes, and looks that each change is refused.
 
-A table is a definition of specs/ that gives an answer its row (`raise_cause Raised = row 0 []`), or the number of a name
+A table is a definition of specs/ that gives an answer its row (`raise_cause (Err QueueFull) = row queue_full []`), or the number of a name
 (`queue_full = 9`). The record `CausesTell` of a crate, and `NumbersTell` of `types`, say each row again in 01's figures: these are the pins. Every
 row of a crate is changed at once, in a copy: its number, then the number of its values, then its first value, its second and so on. Each
 time the prover must refuse the pin of each row; a pin speaks of one row alone, so that it refuses that change by itself too. With no
@@ -19,6 +19,8 @@ import tries
 
 ROOT = pathlib.Path(__file__).resolve().parent.parent
 ROW = re.compile(r"^(\w+_cause|cause_of) (.+?) = (row .+|cause_of .+)$")
+# A table that is another one for its own answers: its pins are that one's too.
+ALIAS = re.compile(r"^(\w+_cause) (\w+) = (\w+_cause) \2$", re.M)
 NAMED = re.compile(r"^(\w+) = (\d+)$")
 PIN = re.compile(r"^  pub (\w+) : (?:\([^)]*\)\s*→ )?(.+?) ≡ (row .+|cause_of .+|\d+)$")
 
@@ -29,20 +31,25 @@ def joined(text):
 
 
 def case_of(pattern):
-    """The answer's case in a row's pattern or a pin: its last name, with no module and no arguments."""
-    return re.sub(r"[()]", " ", pattern).split()[0].rpartition(".")[2]
+    """The answer's case in a row's pattern or a pin: its name, with no module and no arguments; of an outcome or an error that has a name
+    of its own, with that."""
+    names = [word.rpartition(".")[2] for word in re.sub(r"[()]", " ", pattern).split()]
+    named = names[0] in ("Ok", "Err") and len(names) > 1 and names[1][0].isupper()
+    return " ".join(names[: 2 if named else 1])
 
 
 def pins(crate):
-    """For each row that a pin speaks of, its table and its case: the pin's names."""
-    found = {}
-    for path in sorted((crate / "specs").glob("*.antt")):
-        for line in joined(path.read_text()):
-            match = PIN.match(line)
-            if not match:
-                continue
-            table, _, case = match[2].partition(" ")
-            found.setdefault((table, case_of(case) if case else ""), []).append(match[1])
+    """For each row that a pin speaks of, its table and its case: the pin's names. What is said of one error is said of a row of all."""
+    found, texts = {}, [path.read_text() for path in sorted((crate / "specs").glob("*.antt"))]
+    aliases = {name: table for text in texts for name, _, table in ALIAS.findall(text)}
+    for line in (line for text in texts for line in joined(text)):
+        match = PIN.match(line)
+        if not match:
+            continue
+        table, _, case = match[2].partition(" ")
+        case = case_of(case) if case else ""
+        for row in {(name, one) for name in (table, aliases.get(table, table)) for one in (case, case.partition(" ")[0])}:
+            found.setdefault(row, []).append(match[1])
     return found
 
 

@@ -9,6 +9,10 @@ TRAIT = re.compile(r'^(?:pub )?trait (\w+).*?^}', re.M | re.S)
 GIVES = re.compile(r'^    ghost (\w+)_gives = (?=\{)', re.M)
 FUNCTION = re.compile(r'^[ \t]*(pub(?:\(\w+\))? )?(?:const )?(?:extern "C" )?fn (\w+)(?:<(?:[^<>]|<[^<>]*>)*>)?(?=\()', re.M)
 RESULT = re.compile(r'\s*(?:->\s*([^{]*?))?\s*(?=\{|\brequires\b|\bensures\b)')
+# The type of a parameter that is lent to be changed, with its lifetime or without.
+MUTABLE = re.compile(r"&(?:'\w+ )?mut\b")
+# The variables of a function that a member is.
+LAMBDA = re.compile(r'λ ([^.]+)\. ')
 # A clause, with its name where it has one.
 CLAUSE = re.compile(r'\s*(requires|ensures)\*? (?:\w+ )?(?=\{)')
 CLOSES = {'(': ')', '{': '}'}
@@ -52,6 +56,22 @@ def parameters(text):
         yield name.removeprefix('mut '), kind
 
 
+def said_of(member, taken):
+    """What a trait's member says of a function with these parameters, as a clause has it: it relates them, the result, and what those that
+    are lent to be changed hold at the end."""
+    changed = [name for name, kind in taken if MUTABLE.match(kind)]
+    terms = [f'{name}.old' if name in changed else name for name, _ in taken] + ['result'] + [f'{name}.new' for name in changed]
+    names = LAMBDA.match(member)
+    if not names:
+        return ' '.join([member, *terms])
+    bound = names[1].split()
+    for name, term in zip(bound, terms):
+        member = re.sub(rf"(?<![\w.'·-]){re.escape(name)}(?![\w'·-])", f'«{term}»', member)
+    body = member[LAMBDA.match(member).end():].replace('«', '').replace('»', '')
+    left = terms[len(bound):]
+    return ' '.join([f'({body})', *left]) if left else body
+
+
 def module_of(path):
     """The parts of a module's name, from its file's path in src/."""
     return [part for part in path.removesuffix('.rt').split('/') if part not in ('lib', 'main', 'mod')]
@@ -80,7 +100,7 @@ def functions(path, text):
             said, at = inside(text, clause.end())
             clauses[clause[1]].append(bare(said))
         for gives in (one for block in asked for one in GIVES.finditer(block) if one[1] == found[2]):
-            clauses['ensures'].append(bare(inside(asked[0], gives.end())[0]))
+            clauses['ensures'].append(said_of(bare(inside(asked[0], gives.end())[0]), list(parameters(taken))))
         name = '::'.join(module_of(path) + owner + [found[2]])
         yield Function(name, found[1] == 'pub ' or bool(asked), list(parameters(taken)), bare(result[1] or ''), **clauses)
 

@@ -44,6 +44,7 @@ use Rattle.collector.specs.declared.RegisterError.{RegisterError}
 use Rattle.collector.specs.declared.RequestError.{RequestError}
 use Rattle.collector.specs.declared.TakeError.{TakeError}
 use Rattle.reporter.specs.declared.ReadOutcome.{ReadOutcome}
+use Rattle.collector.specs.declared.ReadOutcome.{ReadOutcome as BoxReadOutcome}
 use Rattle.collector.specs.declared.ReadError.{ReadError}
 
 -- ---- fields as C gives them
@@ -184,7 +185,7 @@ module _ (i : ℕ) (s : Site) where
         same = rw (register_number r);
       }
 
-  box_back : (services : List ℕ) (from : Origin) (bs : List ℕ) (r : Result ReadOutcome ReadError) (after : List ℕ)
+  box_back : (services : List ℕ) (from : Origin) (bs : List ℕ) (r : Result BoxReadOutcome ReadError) (after : List ℕ)
       → signaling.Reaches services i from bs (signaling.tally i (events s.log)).answers
       → collector.Reads services bs r s.box after
       → Comes i s (by_box after (box_read services from bs r ∷ []))

@@ -34,7 +34,6 @@ use Rattle.c_signaling.specs.Log.{Raising, Call, reporter_raise, reporter_answer
 use Rattle.c_signaling.proofs.Steps.{called, the_step}
 use Rattle.c_signaling.proofs.Told.{unnamed_number, unasked_number, box_row}
 use Rattle.types.specs.declared.hal.PowerlinkError.{PowerlinkError}
-use Rattle.types.specs.declared.hal.PowerlinkError.TheVariants.{InvalidNmtState}
 use Rattle.types.specs.declared.error_mode.UnknownMode.{UnknownMode}
 use Rattle.types.specs.declared.error_mode.ErrorEntryMode.{ErrorEntryMode}
 use Rattle.collector.specs.declared.ReadOutcome.{ReadOutcome}
@@ -49,13 +48,13 @@ not_0 n e h = absurd (eqb-false n 0 h (sym e))
 module _ {i : ℕ} {w v : World} where
   answer_written : (m : Result NmtState PowerlinkError) (k : ℕ) (f : NmtState → Coded) (t t' : List ℕ) (n n' o o' : ℕ) → WritesCoded (stated k m f) 0 t t' n n' o o'
       → Translated i w (answer_events m 0 t' n') v → Step i w (answered (Ok n') t') v
-  answer_written (Err x) k f t t' n n' o o' c s = not_0 _ c.cause (unnamed_number (leb k (length t)) b)
+  answer_written (Err x) k f t t' n n' o o' c s = not_0 _ c.cause (unnamed_number (leb k (length t)) x)
   answer_written (Ok m) k f t t' n n' o o' c s = the_step s
 
   request_written : (j : ℕ) (f : NmtState → RequestFields) (m : Result NmtState PowerlinkError) (p : Option Account) (t t' : List ℕ) (n n' o o' : ℕ)
       → RowTold (request_cause (request_by j f m t p)) 0 n n' o o'
       → Translated i w (request_events j m 0 t' n') v → Step i w (requested j (Ok n') t') v
-  request_written j f (Err x) p t t' n n' o o' c s = not_0 _ c.cause (unasked_number b t p)
+  request_written j f (Err x) p t t' n n' o o' c s = not_0 _ c.cause (unasked_number x t p)
   request_written j f (Ok m) p t t' n n' o o' c s = the_step s
 
 answer_0 : {i s n : ℕ} {t : List ℕ} {w v : Site} → CStep i w (reporter_answer s 0 t n) v → Step i (world_of w) (answered (Ok n) t) (world_of v)

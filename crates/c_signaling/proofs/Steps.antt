@@ -18,6 +18,7 @@ use Rattle.reporter.specs.CausesTell.{raise_told, write_told}
 use Rattle.reporter.specs.Layout.{head_of}
 use Rattle.reporter.specs.Rules.{new_cause, raise_answer, opened, answer_frame, answer_writing, answer_length}
 use Rattle.reporter.specs.declared.AnswerFields.{AnswerFields}
+use Rattle.reporter.specs.declared.NewError.{NewError}
 use Rattle.reporter.specs.declared.NewError.TheVariants.{IdOutOfRange}
 use Rattle.reporter.proofs.AnyTable.{any_table}
 use Rattle.collector.specs.CausesTell as box
@@ -34,7 +35,6 @@ use Rattle.c_signaling.specs.Calls.{Site, world_of, CStep, CRun, Translated, not
 use Rattle.c_signaling.specs.Log.{Raising, Call, raised_entry, raise_events, answer_events, request_events, events_of, events}
 use Rattle.c_signaling.proofs.Told.{raise_number, register_number, write_number, read_row, box_row, request_row, take_row}
 use Rattle.types.specs.declared.hal.PowerlinkError.{PowerlinkError}
-use Rattle.types.specs.declared.hal.PowerlinkError.TheVariants.{InvalidNmtState}
 use Rattle.types.specs.declared.error_mode.UnknownMode.{UnknownMode}
 use Rattle.types.specs.declared.error_mode.ErrorEntryMode.{ErrorEntryMode}
 
@@ -96,7 +96,7 @@ the_step (one s) = s
 -- ---- lists
 
 -- a head was made where 0 is answered
-is_made : (b : Bool) → 0 ≡ (new_cause (need b (Err IdOutOfRange) (Ok tt))).number → need b (Err IdOutOfRange) (Ok tt) ≡ Ok tt
+is_made : (b : Bool) → 0 ≡ (new_cause (need b (Err IdOutOfRange) (Ok tt))).number → ◌≡◌ {A = Result Unit NewError} (need b (Err IdOutOfRange) (Ok tt)) (Ok tt)
 is_made true e = refl
 is_made false e = absurd (omega arith)
 

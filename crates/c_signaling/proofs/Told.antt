@@ -10,7 +10,7 @@ use Rattle.std.specs.Prelude.{Result, Ok, Err, Option, Some, None}
 use Rattle.types.specs.Causes.{row, cause_of, error_told}
 use Rattle.types.specs.Codes.{need, pick}
 use Rattle.types.specs.declared.hal.PowerlinkError.{PowerlinkError}
-use Rattle.types.specs.declared.hal.PowerlinkError.TheVariants.{BufferTooShort, InvalidNmtState}
+use Rattle.types.specs.declared.hal.PowerlinkError.TheVariants.{BufferTooShort}
 use Rattle.section.specs.Write.{min_frame, write_answer, write_cause}
 use Rattle.types.proofs.CausesTell.{not_0, below_8, error_told_lem, no_0}
 use Rattle.error_entry.proofs.Values.{values_tell}
@@ -33,6 +33,7 @@ use Rattle.collector.specs.declared.RegisterError.{RegisterError}
 use Rattle.error_entry.specs.declared.ErrorEntry.{ErrorEntry}
 use Rattle.collector.specs.declared.TakeError.{TakeError}
 use Rattle.reporter.specs.declared.ReadOutcome.{ReadOutcome}
+use Rattle.collector.specs.declared.ReadOutcome.{ReadOutcome as BoxReadOutcome}
 use Rattle.collector.specs.declared.ReadError.{ReadError}
 
 -- ---- numbers alone
@@ -101,13 +102,13 @@ read_row (Ok Kept) r k k' o o' t = rw (t.cause, t.value)
 read_row (Ok Ignored) r k k' o o' t = rw (t.cause, t.value)
 read_row (Err e) r k k' o o' t = rw (t.cause, t.octet) (not_0 e _ _ ∙ ap Err (octet_back e k' o))
 
-pub box_row : (a : Result ReadOutcome ReadError) (r k k' o o' : ℕ) → RowTold (rules.read_cause a) r k k' o o' → box.read_told (reading r k' o') ≡ a
+pub box_row : (a : Result BoxReadOutcome ReadError) (r k k' o o' : ℕ) → RowTold (rules.read_cause a) r k k' o o' → box.read_told (reading r k' o') ≡ a
 box_row (Ok reads.Booked) r k k' o o' t = rw (t.cause, t.value)
 box_row (Ok reads.Known) r k k' o o' t = rw (t.cause, t.value)
 box_row (Err readsError.NotStatusResponse) r k k' o o' t = rw t.cause
 box_row (Err readsError.NotRegistered) r k k' o o' t = rw t.cause
 box_row (Err readsError.BookFull) r k k' o o' t = rw t.cause
-box_row (Err (readsError.Frame e)) r k k' o o' t = rw (t.cause, t.octet) (not_0 e _ _ ∙ below_8 e _ _ ∙ ap Err (readsError.Frame (octet_back e k' o)))
+box_row (Err (readsError.Frame e)) r k k' o o' t = rw (t.cause, t.octet) (not_0 e _ _ ∙ below_8 e _ _ ∙ ap (λ (x : PowerlinkError). Err (readsError.Frame x)) (octet_back e k' o))
 
 -- ---- values
 

@@ -32,7 +32,6 @@ use Rattle.c_signaling.specs.Calls.{Site, CStep, CRun, seen_in, CallsAreSteps}
 use Rattle.c_signaling.specs.Log.{Raising, Call, Seen, seen_with, seen, if_zero, raised_entries, raised_entry, raise_events, answer_events, request_events, events_of, events}
 use Rattle.c_signaling.proofs.Steps.{called, runs}
 use Rattle.c_signaling.proofs.Told.{unnamed_number, unasked_number}
-use Rattle.types.specs.declared.hal.PowerlinkError.TheVariants.{InvalidNmtState}
 use Rattle.types.specs.declared.error_mode.UnknownMode.{UnknownMode}
 use Rattle.types.specs.declared.error_mode.ErrorEntryMode.{ErrorEntryMode}
 

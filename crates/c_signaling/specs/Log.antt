@@ -16,7 +16,6 @@ use Rattle.c_values.specs.Values.{entry_with}
 use Rattle.signaling.specs.Calls.{Origin, raised, answered, head_read, registered, box_read, requested, taken, hosted, Log}
 use Rattle.types.specs.declared.states.NmtState.{NmtState}
 use Rattle.types.specs.declared.hal.PowerlinkError.{PowerlinkError}
-use Rattle.types.specs.declared.hal.PowerlinkError.TheVariants.{InvalidNmtState}
 use Rattle.types.specs.declared.error_mode.UnknownMode.{UnknownMode}
 
 -- the parameters of a Raise

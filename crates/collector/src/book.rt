@@ -1,4 +1,4 @@
-// A node's book: a ring of records.
+// A node's book: a ring of records. The ring of `reporter` stays apart, having two counts and no block: one for both would be longer.
 ghost use Rattle.std.specs.Prelude.{not, ◌≡◌, ◌+◌, ◌≤◌, ◌<◌, length};
 ghost use Rattle.collector.specs.Layout.{count_in, start_in, entry_in, taken_bytes, pushed_bytes, pushed_all};
 ghost use Rattle.collector.specs.Rules.{said_in, book_length};

@@ -67,6 +67,7 @@ const PLACES: u8 = BOOK_LEN as u8;
 // - begun anew while a head's second batch is open: EN is 0, EA is 0, the batch is known and lost;
 // - begun anew while a head's first batch is open, handed out by the old box: booked again, and listed twice.
 // What Take hands out goes into a journal whose length is saved with the state; after a restart the journal is cut to it.
+// Octets and no struct, since C lends them and saves them.
 pub type Collector = [u8; COLLECTOR_LEN];
 
 // Why a node gets no place.

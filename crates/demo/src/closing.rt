@@ -1,89 +1,73 @@
 // The end of the simulation: the line is good, and each head's entries come to the box and are closed.
+use crate::expected::BOOK_LEN;
 use crate::journal::Out;
-use crate::sums::plus;
 use crate::target::ROOM;
-use crate::text::tell;
-use crate::{Head, Scene, World, check, turns};
+use crate::world::{Node, Scene, World};
+use crate::{check, turns};
 
 // The line gives the next frame that was not given yet.
 const IN_ORDER: u64 = 15;
 
-// Takes what is booked of the head; no book holds more than 64.
-fn take_all(out: &Out<'_, impl Eprint>, world: World) -> World {
-    let mut w = world;
-    for _ in 0..64u64 {
-        let head = w.head;
-        if head.in_book() == 0 {
-            return w;
+// Takes what is booked of the head.
+fn take_all(out: &mut Out<'_, impl Eprint>, w: &mut World, node: &mut Node) {
+    for _ in 0..BOOK_LEN {
+        if node.head.in_book() == 0 {
+            return;
         }
-        w = turns::take(out, w);
+        turns::take(out, w, node);
     }
-    w
 }
 
 // One answer read by the box, then its next request read by the head.
-fn exchange(world: World) -> World {
-    let answered = turns::answer(world, ROOM);
-    let booked = turns::box_reads(answered, IN_ORDER);
-    let requested = turns::request(booked, ROOM);
-    turns::head_reads(requested, IN_ORDER)
+fn exchange(w: &mut World, node: &mut Node) {
+    turns::answer(w, node, ROOM);
+    turns::box_reads(w, node, IN_ORDER);
+    turns::request(w, node, ROOM);
+    turns::head_reads(w, node, IN_ORDER);
+    w.accounts_for(node.head);
 }
 
-// Runs exchanges until the head holds nothing: at most as many as it holds entries.
-fn close(rt: &impl Print, world: World) -> World {
-    let start = world.head;
-    let most = start.held();
-    let mut w = world;
-    let mut turn = 0;
-    while turn < most {
-        let head = w.head;
-        if head.held() == 0 {
-            break;
+// Exchanges until the head holds nothing, at most as many as it holds entries: how many.
+fn close(w: &mut World, node: &mut Node) -> u64 {
+    let most = node.head.held();
+    for n in 0..most {
+        if node.head.held() == 0 {
+            return n;
         }
-        w = check::one(exchange(w));
-        turn += 1;
+        exchange(w, node);
     }
-    tell(
-        rt,
-        b"head #: entries open or waiting #, exchanges until they are closed #\n",
-        [start.id as u64, most, turn],
-    );
-    w
+    most
 }
 
 // All that a registered head has accepted is taken in the end.
-fn clear(out: &Out<'_, impl Print + Eprint>, w: World) -> World {
-    let head = w.head;
-    let start = take_all(out, w.with(head.line_cleared(w.sent)));
-    let mut end = take_all(out, close(out.rt, start));
-    let after = end.head;
-    end.taken = plus(end.taken, after.taken);
-    end.demands(after.held() == 0)
-        .demands(after.taken == after.accepted)
-}
-
-fn stays(rt: &impl Print, head: Head) {
-    tell(
-        rt,
-        b"head #: not registered, entries that stay with it #\n",
-        [head.id as u64, head.held(), 0],
+fn clear(out: &mut Out<'_, impl Print + Eprint>, w: &mut World, node: &mut Node) {
+    node.head.line_cleared(w.sent);
+    take_all(out, w, node);
+    let id = node.head.id;
+    let held = node.head.held();
+    let exchanges = close(w, node);
+    let _ = println!(out.rt;
+        "head {id}: entries open or waiting {held}, exchanges until they are closed {exchanges}"
     );
+    take_all(out, w, node);
+    w.demands(node.head.held() == 0);
+    w.demands(node.head.taken == node.head.accepted);
 }
 
-fn finish(out: &Out<'_, impl Print + Eprint>, w: World) -> World {
-    let head = w.head;
-    if head.registered {
-        return clear(out, w);
+fn finish(out: &mut Out<'_, impl Print + Eprint>, w: &mut World, node: &mut Node) {
+    if node.head.registered {
+        clear(out, w, node);
+    } else {
+        let id = node.head.id;
+        let held = node.head.held();
+        let _ = println!(out.rt; "head {id}: not registered, entries that stay with it {held}");
     }
-    stays(out.rt, head);
-    w
 }
 
-pub fn all(out: &Out<'_, impl Print + Eprint>, scene: Scene) -> Scene {
-    let mut s = scene;
-    for k in 0..5usize {
-        let world = finish(out, s.turn_of(k));
-        s = check::all(s.after(world));
+pub fn all(out: &mut Out<'_, impl Print + Eprint>, scene: &mut Scene) {
+    // By index: after each head, every head is looked at, which lends the whole scene.
+    for k in 0..scene.nodes.len() {
+        finish(out, &mut scene.world, &mut scene.nodes[k]);
+        check::all(scene);
     }
-    s
 }

@@ -56,26 +56,40 @@ pub fn status(head: usize, number: u64) -> ErrorEntry {
     sent(head, number, true)
 }
 
-// An entry that a head raises: of kinds 0 and 2 the mode is the terminator's, of kind 1 the profile has 13 bits, of kinds 2 and
-// 3 bit 15 is set, and no head may raise any of them.
-pub fn of_kind(kind: u64, head: usize, number: u64) -> ErrorEntry {
-    match kind {
-        0 => made(head, number, false, ErrorEntryMode::Terminator, 2),
-        1 => made(head, number, false, ErrorEntryMode::ErrorActive, 4096),
-        2 => made(head, number, true, ErrorEntryMode::Terminator, 2),
-        3 => status(head, number),
-        _ => entry(head, number),
-    }
+// Entries that are raised, of which no head may raise any but the last.
+#[derive(Clone, Copy)]
+pub enum Kind {
+    // Of the terminator's mode.
+    Terminator,
+    // Of a profile of 13 bits.
+    WideProfile,
+    // Of the terminator's mode, and with bit 15 set.
+    StatusTerminator,
+    // With bit 15 set.
+    Status,
+    Valid,
 }
 
-// Whether two entries are equal: all their fields are. `to_u16` has the flags and the mode.
-pub fn same(a: ErrorEntry, b: ErrorEntry) -> bool {
-    let type_a = a.entry_type;
-    let type_b = b.entry_type;
-    (type_a.to_u16() == type_b.to_u16())
-        & (type_a.profile == type_b.profile)
-        & (a.error_code == b.error_code)
-        & (a.timestamp.seconds == b.timestamp.seconds)
-        & (a.timestamp.nanoseconds == b.timestamp.nanoseconds)
-        & (a.additional_information == b.additional_information)
+impl Kind {
+    // Now and then one that is not valid.
+    pub fn by(chance: u64) -> Kind {
+        match chance % 16 {
+            0 => Kind::Terminator,
+            1 => Kind::WideProfile,
+            2 => Kind::StatusTerminator,
+            3 => Kind::Status,
+            _ => Kind::Valid,
+        }
+    }
+
+    // The entry of a head of this kind.
+    pub fn entry(self, head: usize, number: u64) -> ErrorEntry {
+        match self {
+            Kind::Terminator => made(head, number, false, ErrorEntryMode::Terminator, 2),
+            Kind::WideProfile => made(head, number, false, ErrorEntryMode::ErrorActive, 4096),
+            Kind::StatusTerminator => made(head, number, true, ErrorEntryMode::Terminator, 2),
+            Kind::Status => status(head, number),
+            Kind::Valid => entry(head, number),
+        }
+    }
 }

@@ -8,17 +8,24 @@ use types::basic::MacAddress;
 use types::poll_flags::{PRFlag, RSFlag};
 use types::states::NmtState;
 
-pub const EPL_VERSION: u8 = 32;
+pub const EPL_VERSION: EPLVersion = EPLVersion(32);
+
+// The managing node.
+pub const MANAGING_NODE_ID: u8 = 240;
 
 // The address of a node.
 pub fn station(id: u8) -> MacAddress {
     MacAddress([0x02, 0, 0, 0, 0, id])
 }
 
-// An answer's fields; with 0, all of its octets behind the service are 0.
+// What goes into an answer's fields; with zeros, all of its octets behind the service are 0.
+pub const FILLED: u8 = 9;
+
+pub const ZEROS: u8 = 0;
+
 pub fn answer_fields(id: u8, some: u8) -> AnswerFields {
     let nmt_state = match some {
-        0 => NmtState::NmtGsOff,
+        ZEROS => NmtState::NmtGsOff,
         _ => NmtState::NmtOperational,
     };
     AnswerFields {
@@ -37,8 +44,8 @@ pub fn answer_fields(id: u8, some: u8) -> AnswerFields {
 
 pub fn request_fields() -> RequestFields {
     RequestFields {
-        source_mac: station(240),
+        source_mac: station(MANAGING_NODE_ID),
         nmt_state: NmtState::NmtOperational,
-        epl_version: EPLVersion(EPL_VERSION),
+        epl_version: EPL_VERSION,
     }
 }

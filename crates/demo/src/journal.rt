@@ -1,37 +1,78 @@
-// The journal of what the box hands out (01, "Journal"): a record for each entry, in a file where one is named.
+// What the program writes to, and the journal of what the box hands out (01, "Journal"): a record for each entry, in a file where
+// one is named.
 use error_entry::ErrorEntry;
-use journal_records::{JOURNAL_RECORD_LEN, JournalError};
+use journal_records::JOURNAL_RECORD_LEN;
 use std::fs::File;
 use std::io;
 use std::io::{ErrorKind, Write};
 use types::NodeId;
 
-// Where records go.
-#[derive(Clone, Copy, Debug, PartialEq, Eq)]
-pub enum Journal {
-    // Records are made, and go nowhere.
-    Nowhere,
-    // Writing has failed.
-    Broken,
-    Kept,
-}
-
-// What the program writes to: the standard streams, and the journal's file where there is one.
+// The standard streams, and the journal.
 #[derive(Drop)]
 pub struct Out<'a, R> {
     pub rt: &'a R,
+    // Where records go; none where no file is named, or writing has failed.
     pub file: Option<&'a File>,
+    // Records made.
+    pub records: u64,
 }
 
-impl<'a, R> Out<'a, R> {
-    pub fn new(rt: &'a R, file: &'a File) -> Self {
-        let file = Some(file);
-        Self { rt, file }
+impl<'a, R: Eprint> Out<'a, R> {
+    pub fn new(rt: &'a R) -> Self {
+        Out {
+            rt,
+            file: None,
+            records: 0,
+        }
+    }
+
+    // With a journal, which begins with mark and version; none where these cannot be written.
+    pub fn with_journal(rt: &'a R, file: &'a File) -> Option<Self> {
+        let mut out = Out {
+            rt,
+            file: Some(file),
+            records: 0,
+        };
+        out.keep(b"PLB\x01\x00");
+        out.file.is_some().then_some(out)
+    }
+
+    // Writes octets to the journal. Once that fails, which is said, nothing goes there.
+    fn keep(&mut self, octets: &[u8]) {
+        let Some(mut file) = self.file else {
+            return;
+        };
+        if file.write_all(octets).is_err() {
+            complain(self.rt, "cannot write the journal");
+            self.file = None;
+        }
+    }
+
+    // Makes the record of an entry that was handed out, and writes it to the journal. Every entry that is handed out has one.
+    pub fn record(&mut self, id: u8, e: ErrorEntry) {
+        let mut octets = [0u8; JOURNAL_RECORD_LEN];
+        if journal_records::write(NodeId(id), e, &mut octets).is_ok() {
+            self.records = self.records.saturating_add(1);
+            self.keep(&octets);
+        }
+    }
+
+    // The journal is whole, as far as nothing failed.
+    pub fn close(&self) {
+        let Some(file) = self.file else {
+            return;
+        };
+        if let Err(e) = file.sync_all() {
+            // A pipe or a terminal has no disk behind it.
+            if e.kind() != ErrorKind::InvalidInput {
+                complain(self.rt, "cannot write the journal");
+            }
+        }
     }
 }
 
 pub fn complain(rt: &impl Eprint, text: &str) {
-    let _ = eprint!(rt; "demo: {text}");
+    let _ = eprintln!(rt; "demo: {text}");
 }
 
 // The file is not made: says why, in the system's words.
@@ -47,61 +88,5 @@ pub fn fail(rt: &(impl Eprint + Alloc), path: &str, e: io::Error) {
 
 // What stands in front of a mark.
 fn before<'a>(text: &'a str, mark: &str) -> &'a str {
-    match text.split_once(mark) {
-        Some((front, _)) => front,
-        None => text,
-    }
-}
-
-// Begins the file, with mark and version: `Kept`, or `Broken`.
-pub fn start(out: &Out<'_, impl Eprint>) -> Journal {
-    keep(out, Journal::Kept, b"PLB\x01\x00")
-}
-
-// Writes octets to the journal, and answers where those behind them go. A failure is said once.
-fn keep(out: &Out<'_, impl Eprint>, journal: Journal, octets: &[u8]) -> Journal {
-    let Journal::Kept = journal else {
-        return journal;
-    };
-    if is_written(out.file, octets) {
-        return journal;
-    }
-    complain(out.rt, "cannot write the journal\n");
-    Journal::Broken
-}
-
-fn is_written(file: Option<&File>, octets: &[u8]) -> bool {
-    match file {
-        Some(mut file) => file.write_all(octets).is_ok(),
-        None => false,
-    }
-}
-
-// Makes the record of an entry that was handed out and writes it to the journal; answers where those behind it go, or nothing
-// where no record was made; no entry that is handed out comes to this.
-pub fn record(
-    out: &Out<'_, impl Eprint>,
-    journal: Journal,
-    id: u8,
-    e: ErrorEntry,
-) -> Option<Journal> {
-    let mut octets = [0u8; JOURNAL_RECORD_LEN];
-    match journal_records::write(NodeId(id), e, &mut octets) {
-        Ok(_) => Some(keep(out, journal, &octets)),
-        Err(JournalError::BufferTooShort) => None,
-        Err(JournalError::RecordInvalid) => None,
-    }
-}
-
-// The journal is whole, as far as nothing failed.
-pub fn close(out: &Out<'_, impl Eprint>) {
-    let Some(file) = out.file else {
-        return;
-    };
-    if let Err(e) = file.sync_all() {
-        // A pipe or a terminal has no disk behind it.
-        if e.kind() != ErrorKind::InvalidInput {
-            complain(out.rt, "cannot write the journal\n");
-        }
-    }
+    text.split_once(mark).map_or(text, |(front, _)| front)
 }

@@ -1,35 +1,54 @@
 // The line: what each sender has sent last, and which of it an end is given. It drops, delays and repeats, and never
 // turns an order round.
-ghost use Rattle.std.specs.Prelude.{◌<◌};
+use crate::target::Frame;
+use crate::world::HEADS;
 
-use crate::sums::{less, plus};
+// The managing node as a sender, behind the heads.
+pub const MANAGING_NODE: usize = HEADS;
+
+const SENDERS: usize = HEADS + 1;
 
 // The last frames that are kept of a sender; older ones are lost.
-const KEPT: u64 = 8;
+const KEPT: usize = 8;
 
-// Five heads, then the managing node.
-pub const MANAGING_NODE: usize = 5;
+// The frames of each sender, by their running numbers.
+#[derive(Clone, Copy)]
+pub struct Line {
+    frames: [[Frame; KEPT]; SENDERS],
+}
 
-// Where the frame of a sender with a running number is kept.
-pub fn place(sender: usize, number: u64) -> usize
-    ensures { result < 48 }
-{
-    sender % 6 * 8 + (number % KEPT) as usize
+impl Line {
+    pub fn new() -> Self {
+        Line {
+            frames: [[Frame::EMPTY; KEPT]; SENDERS],
+        }
+    }
+
+    // A sender sends its frame of this number.
+    pub fn takes(&mut self, sender: usize, number: u64, frame: Frame) {
+        self.frames[sender % SENDERS][number as usize % KEPT] = frame;
+    }
+
+    // An end is given it.
+    pub fn gives(&self, sender: usize, number: u64) -> Frame {
+        self.frames[sender % SENDERS][number as usize % KEPT]
+    }
 }
 
 // Which of the `sent` frames an end is given that has come as far as `next`: a repeat, one behind others that are lost, or the
-// first that it can get, which is none where that is number `sent`.
-pub fn pick(next: u64, sent: u64, chance: u64) -> u64 {
-    let oldest = less(sent, KEPT);
-    let first = if oldest < next { next } else { oldest };
+// first that it can get, if there is one.
+pub fn pick(next: u64, sent: u64, chance: u64) -> Option<u64> {
+    let oldest = sent.saturating_sub(KEPT as u64);
+    let first = next.max(oldest);
     let chosen = match chance % 16 {
-        0 | 1 | 2 | 3 => less(next, 1),
-        4 | 5 => plus(first, 1),
-        6 => plus(first, 2),
+        0..=3 => next.saturating_sub(1),
+        4 | 5 => first.saturating_add(1),
+        6 => first.saturating_add(2),
         _ => first,
     };
-    if chosen < oldest {
-        return first;
+    if oldest <= chosen && chosen < sent {
+        Some(chosen)
+    } else {
+        (first < sent).then_some(first)
     }
-    if chosen < sent { chosen } else { first }
 }

@@ -1,97 +1,88 @@
-// What a call came to, as a number: the cause of 01 or 02 where it was refused, the length where a frame was written.
-use collector::{RegisterError, RequestError, TakeError};
-use reporter::{NewError, RaiseError};
-use services::load::LoadError;
-use types::hal::PowerlinkError;
+// What a call comes to: what it did, or the cause for which it was refused.
+use crate::cause::Cause;
+use crate::target::Frame;
+use error_entry::ErrorEntry;
+use std::fmt;
 
-// The call did what it is for: raised, booked, closed, registered, handed out, loaded.
-pub const DONE: u64 = 900;
+#[derive(Clone, Copy, Debug, PartialEq, Eq)]
+pub enum Success {
+    // What the call is for: raised, booked, closed, registered, handed out, loaded.
+    Done,
+    // The box has booked the batch before.
+    Known,
+    // A head read EA, and it closes nothing.
+    Kept,
+    // A frame tells a head nothing.
+    Ignored,
+    // A frame of so many octets.
+    Written(usize),
+}
 
-// The box has booked the batch before.
-pub const KNOWN: u64 = 901;
+pub type Outcome = Result<Success, Cause>;
 
-// A head read EA, and it closes nothing.
-pub const KEPT: u64 = 902;
+pub const DONE: Outcome = Ok(Success::Done);
 
-// A frame tells a head nothing.
-pub const IGNORED: u64 = 903;
+pub const KNOWN: Outcome = Ok(Success::Known);
 
-// More than the largest cause, and less than the shortest frame.
-pub const CAUSES: usize = 24;
+pub const KEPT: Outcome = Ok(Success::Kept);
 
-pub fn of_new(answer: Result<(), NewError>) -> u64 {
-    match answer {
-        Ok(()) => DONE,
-        Err(NewError::IdOutOfRange) => 13,
+pub const IGNORED: Outcome = Ok(Success::Ignored);
+
+// What a call of the library answers, as an outcome.
+pub fn outcome<T, E>(answer: Result<T, E>) -> Outcome
+where
+    Success: From<T>,
+    Cause: From<E>,
+{
+    Ok(Success::from(answer?))
+}
+
+impl fmt::Display for Success {
+    fn fmt<W: fmt::Write>(&self, f: &mut fmt::Formatter<W>) -> fmt::Result {
+        match self {
+            Success::Done => f.pad("done"),
+            Success::Known => f.pad("known"),
+            Success::Kept => f.pad("kept"),
+            Success::Ignored => f.pad("ignored"),
+            Success::Written(len) => fmt::Display::fmt(len, f),
+        }
     }
 }
 
-pub fn of_raise(answer: Result<(), RaiseError>) -> u64 {
-    match answer {
-        Ok(()) => DONE,
-        Err(RaiseError::EntryInvalid) => 8,
-        Err(RaiseError::StatusEntry) => 23,
-        Err(RaiseError::QueueFull) => 9,
+impl From<()> for Success {
+    fn from(_done: ()) -> Success {
+        Success::Done
     }
 }
 
-pub fn of_writing(answer: Result<usize, PowerlinkError>) -> u64 {
-    match answer {
-        Ok(len) => len as u64,
-        Err(e) => e.number() as u64,
+impl From<Frame> for Success {
+    fn from(frame: Frame) -> Success {
+        Success::Written(frame.len)
     }
 }
 
-pub fn of_load(answer: Result<(), LoadError>) -> u64 {
-    match answer {
-        Ok(()) => DONE,
-        Err(LoadError::NotATable) => 20,
-        Err(LoadError::NotAscending) => 21,
-        Err(LoadError::WithoutStatusResponse) => 22,
+// An entry is handed out.
+impl From<ErrorEntry> for Success {
+    fn from(_e: ErrorEntry) -> Success {
+        Success::Done
     }
 }
 
-pub fn of_head_reading(answer: reporter::ReadAnswer) -> u64 {
-    match answer {
-        reporter::ReadAnswer::Closed => DONE,
-        reporter::ReadAnswer::Kept => KEPT,
-        reporter::ReadAnswer::Ignored => IGNORED,
-        reporter::ReadAnswer::Refused(e) => e.number() as u64,
+impl From<collector::ReadOutcome> for Success {
+    fn from(read: collector::ReadOutcome) -> Success {
+        match read {
+            collector::ReadOutcome::Booked => Success::Done,
+            collector::ReadOutcome::Known => Success::Known,
+        }
     }
 }
 
-pub fn of_register(answer: Result<(), RegisterError>) -> u64 {
-    match answer {
-        Ok(()) => DONE,
-        Err(RegisterError::IdOutOfRange) => 13,
-        Err(RegisterError::IdRegistered) => 14,
-        Err(RegisterError::Full) => 15,
-    }
-}
-
-pub fn of_box_reading(answer: collector::ReadAnswer) -> u64 {
-    match answer {
-        collector::ReadAnswer::Booked => DONE,
-        collector::ReadAnswer::Known => KNOWN,
-        collector::ReadAnswer::Refused(e) => e.number() as u64,
-        collector::ReadAnswer::NotStatusResponse => 10,
-        collector::ReadAnswer::NotRegistered => 11,
-        collector::ReadAnswer::BookFull => 12,
-    }
-}
-
-pub fn of_request(answer: Result<usize, RequestError>) -> u64 {
-    match answer {
-        Ok(len) => len as u64,
-        Err(RequestError::Frame(e)) => e.number() as u64,
-        Err(RequestError::NotRegistered) => 11,
-    }
-}
-
-pub fn of_take(answer: Result<ErrorEntry, TakeError>) -> u64 {
-    match answer {
-        Ok(_) => DONE,
-        Err(TakeError::NotRegistered) => 11,
-        Err(TakeError::NothingBooked) => 16,
+impl From<reporter::ReadOutcome> for Success {
+    fn from(read: reporter::ReadOutcome) -> Success {
+        match read {
+            reporter::ReadOutcome::Closed => Success::Done,
+            reporter::ReadOutcome::Kept => Success::Kept,
+            reporter::ReadOutcome::Ignored => Success::Ignored,
+        }
     }
 }

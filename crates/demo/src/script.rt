@@ -1,116 +1,198 @@
-// Plays lines to check from a text, a call to each of its lines.
-//
-// A letter is the call, three digits its number, and three what it has to come to: the cause (01, 02), the length of what is
-// written, or 900 done, 901 known, 902 kept. Where that is said, the line is shown, with the text behind it.
-//
-//     F  a fresh box and a fresh head of this ID      G  registers this ID
-//     R  raises so many entries                       Q  a request to this ID into 60 octets
-//     E  raises an entry of this kind (entries)       S  one into 59
-//     A  answers into so many octets                  B  the box reads so many octets of the frame in hand
-//     Z  the same with fields of zeros                T  takes for this ID
-//     D  spoils the frame in hand (odd)               P  the host's PReq to this ID, with the EA that `flags` says
-//     H  the head reads the frame in hand             X  one with EA 0
-//     L  so many exchanges of four entries each       W  the host's ASnd of service 20h into so many octets
-//     N  loads the table of this number (house)       U  puts an entry into the answer in hand: the place, then its kind
-use crate::entries::of_kind;
-use crate::odd::spoil;
+// Plays lines to check, a call to each of them.
+use crate::cause::Cause;
+use crate::entries::{Kind, entry};
+use crate::fields::{FILLED, ZEROS};
+use crate::odd::Odd;
+use crate::outcome::{DONE, Outcome, outcome};
 use crate::status::put_in;
-use crate::target::ROOM;
-use crate::text::{next_line, say, say_line, say_outcome};
-use crate::{World, calls, host};
-use octets::slices::{byte_at, tail};
+use crate::target::{Frame, ROOM};
+use crate::world::{Node, World};
+use octets::slices::front;
 
-// The number that three characters are, blanks in front.
-fn value(text: &[u8], at: usize) -> u64 {
-    let rest = tail(text, at);
-    let hundreds = byte_at(rest, 0) % 16;
-    let tens = byte_at(rest, 1) % 16;
-    hundreds as u64 * 100 + tens as u64 * 10 + byte_at(rest, 2) as u64 % 16
+// A call, and where it is shown, what it has to come to and what it is.
+#[derive(Clone, Copy)]
+pub enum Step {
+    Quiet(Call),
+    Shown(Call, Outcome, &'static str),
 }
 
-// The box reads the first octets of the frame in hand, which stays whole.
-fn box_reads(mut w: World, most: usize) -> World {
-    let len = w.len;
-    if most < len {
-        w.len = most;
-    }
-    let mut after = calls::box_reads(w);
-    after.len = len;
-    after
+#[derive(Clone, Copy)]
+pub enum Call {
+    // A fresh box and a fresh head of this ID.
+    Fresh(u8),
+    // Loads a table of services, under which both ends are.
+    Load(&'static [u8]),
+    // Raises so many entries, or one of a kind.
+    Raise(u64),
+    RaiseOne(Kind),
+    // The head answers into so many octets; the same with fields of zeros.
+    Answer(usize),
+    AnswerZeros(usize),
+    // Makes the frame in hand odd; puts an entry of a kind into it, behind so many others.
+    Spoil(Odd),
+    PutIn(u64, Kind),
+    // The head reads the frame in hand; the box reads so many octets of it.
+    HeadReads,
+    BoxReads(usize),
+    // So many exchanges of four entries each.
+    Exchanges(u64),
+    // The box registers this ID, or hands out an entry of it.
+    Register(u8),
+    Take(u8),
+    // The box's request to this ID into so many octets.
+    Request(u8, usize),
+    // The host's PReq to the head, with the EA that `flags` says; one with EA 0; its ASnd of service 20h into so many octets.
+    PReq,
+    PReqWithoutEa,
+    Asnd(usize),
 }
 
-// Four entries are raised, booked and closed.
-fn exchange(w: World) -> World {
-    let answered = calls::answer(calls::raise_many(w, 4), ROOM, 9);
-    calls::head_reads(calls::request(calls::box_reads(answered), 7, ROOM))
+// What the lines work on. The frame in hand is what was written last.
+#[derive(Clone, Copy)]
+pub struct Script {
+    pub world: World,
+    node: Node,
+    hand: Frame,
 }
 
-fn exchanges(world: World, n: u64) -> World {
-    let mut w = world;
-    for _ in 0..n {
-        w = exchange(w);
-    }
-    w
-}
-
-// The calls of the head, the table that both ends are under, and what is done to the frame.
-fn plays(w: World, letter: u8, n: u64) -> World {
-    let id = (n % 256) as u8;
-    match letter {
-        b'F' => calls::make(w, id),
-        b'R' => calls::raise_many(w, n),
-        b'E' => calls::raise(w, of_kind(n, 0, 0)),
-        b'A' => calls::answer(w, n as usize, 9),
-        b'Z' => calls::answer(w, n as usize, 0),
-        b'D' => spoil(w, n),
-        b'U' => put_in(w, n / 10, of_kind(n % 10, 0, n)),
-        b'H' => calls::head_reads(w),
-        b'L' => exchanges(w, n),
-        b'N' => calls::load(w, n),
-        _ => at_box(w, letter, id),
-    }
-}
-
-// The calls of the box and its host.
-fn at_box(w: World, letter: u8, n: u8) -> World {
-    match letter {
-        b'G' => calls::register(w, n),
-        b'Q' => calls::request(w, n, 60),
-        b'S' => calls::request(w, n, 59),
-        b'T' => calls::take(w, n),
-        b'P' => host::frame_to(w, n, true),
-        b'X' => host::preq(w, n, false),
-        b'W' => host::asnd(w, n as usize),
-        _ => box_reads(w, n as usize),
-    }
-}
-
-// Plays a line, and shows it where it says what the call has to come to.
-fn line(rt: &impl Print, w: World, text: &[u8]) -> World {
-    let after = plays(w, byte_at(text, 0), value(text, 1));
-    if byte_at(text, 4) == b'\n' {
-        return after;
-    }
-    say_outcome(rt, after.got);
-    say_line(rt, tail(text, 8));
-    let right = after.got == value(text, 5);
-    if right {
-        say(rt, b"\n");
-    } else {
-        say(rt, b", WRONG\n");
-    }
-    after.demands(right)
-}
-
-pub fn play(rt: &impl Print, world: World, text: &[u8]) -> World {
-    let mut w = world;
-    let mut at = 0;
-    for _ in 0..text.len() {
-        if text.len() <= at {
-            return w;
+impl Script {
+    pub fn new() -> Self {
+        Script {
+            world: World::new(),
+            node: Node::new(0, 7),
+            hand: Frame::EMPTY,
         }
-        w = line(rt, w, tail(text, at));
-        at = next_line(text, at);
     }
-    w
+
+    fn renew(&mut self, id: u8) -> Outcome {
+        collector::new(&mut self.world.at_box);
+        self.node.renew(id)
+    }
+
+    // Raises entries, and answers what the last call came to.
+    fn raise(&mut self, n: u64) -> Outcome {
+        let mut last = DONE;
+        for i in 0..n {
+            last = self.node.raise(entry(0, i));
+        }
+        last
+    }
+
+    // What was written is in hand.
+    fn takes(&mut self, written: Result<Frame, Cause>) -> Outcome {
+        if let Ok(frame) = written {
+            self.hand = frame;
+        }
+        outcome(written)
+    }
+
+    fn answer(&mut self, room: usize, some: u8) -> Outcome {
+        let written = self.world.answer(&mut self.node, room, some);
+        self.takes(written)
+    }
+
+    fn request(&mut self, id: u8, room: usize) -> Outcome {
+        let written = self.world.request(id, room);
+        self.takes(written)
+    }
+
+    fn told_preq(&mut self) -> Outcome {
+        let flags = self.world.flags_for(&self.node);
+        self.preq(flags.ea)
+    }
+
+    fn preq(&mut self, ea: bool) -> Outcome {
+        let written = self.world.host_preq(&self.node, ea);
+        self.takes(written)
+    }
+
+    fn asnd(&mut self, room: usize) -> Outcome {
+        let written = self.world.host_asnd(&self.node, room);
+        self.takes(written)
+    }
+
+    fn head_reads(&mut self) -> Outcome {
+        self.node.read(self.hand.bytes())
+    }
+
+    fn box_reads(&mut self, most: usize) -> Outcome {
+        self.world
+            .box_read(&self.node, front(self.hand.bytes(), most))
+    }
+
+    // Four entries are raised, booked and closed.
+    fn exchange(&mut self) -> Outcome {
+        self.raise(4)?;
+        self.answer(ROOM, FILLED)?;
+        self.box_reads(ROOM)?;
+        self.request(self.node.head.id, ROOM)?;
+        self.head_reads()
+    }
+
+    fn exchanges(&mut self, n: u64) -> Outcome {
+        for _ in 0..n {
+            self.exchange()?;
+        }
+        DONE
+    }
+
+    fn spoil(&mut self, odd: Odd) -> Outcome {
+        self.hand = odd.of(self.hand, self.node.head.id);
+        DONE
+    }
+
+    fn put_in(&mut self, place: u64, kind: Kind) -> Outcome {
+        self.hand = put_in(self.hand, place, kind.entry(0, place));
+        DONE
+    }
+
+    fn plays(&mut self, call: Call) -> Outcome {
+        match call {
+            Call::Fresh(id) => self.renew(id),
+            Call::Load(file) => self.node.load(file),
+            Call::Raise(n) => self.raise(n),
+            Call::RaiseOne(kind) => self.node.raise(kind.entry(0, 0)),
+            Call::Answer(room) => self.answer(room, FILLED),
+            Call::AnswerZeros(room) => self.answer(room, ZEROS),
+            Call::Spoil(odd) => self.spoil(odd),
+            Call::PutIn(place, kind) => self.put_in(place, kind),
+            Call::HeadReads => self.head_reads(),
+            Call::BoxReads(most) => self.box_reads(most),
+            Call::Exchanges(n) => self.exchanges(n),
+            Call::Register(id) => self.world.register(id),
+            Call::Take(id) => outcome(self.world.take(id)),
+            Call::Request(id, room) => self.request(id, room),
+            Call::PReq => self.told_preq(),
+            Call::PReqWithoutEa => self.preq(false),
+            Call::Asnd(room) => self.asnd(room),
+        }
+    }
+
+    // Plays steps, and shows those that say what their call has to come to.
+    pub fn play(&mut self, rt: &impl Print, steps: &[Step]) {
+        for step in steps {
+            match *step {
+                Step::Quiet(call) => {
+                    let _ = self.plays(call);
+                }
+                Step::Shown(call, expected, text) => {
+                    let got = self.plays(call);
+                    show(rt, got, expected, text);
+                    self.world.demands(got == expected);
+                }
+            }
+        }
+    }
+}
+
+// What a call came to, the length of what was written or the number of a cause, and whether that is right.
+fn show(rt: &impl Print, got: Outcome, expected: Outcome, text: &str) {
+    let wrong = if got == expected { "" } else { ", WRONG" };
+    let _ = match got {
+        Ok(success) => println!(rt; "{success:>9}  {text}{wrong}"),
+        Err(cause) => {
+            let number = cause as usize;
+            println!(rt; "{number:>9}  {text}{wrong}")
+        }
+    };
 }

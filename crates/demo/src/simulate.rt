@@ -1,7 +1,8 @@
 // The simulation: one call after another, by a fixed rule in place of chance.
 use crate::journal::Out;
 use crate::target::ROOM;
-use crate::{Scene, World, check, odd, turns};
+use crate::world::{HEADS, Node, Scene, World};
+use crate::{check, turns};
 
 // The largest prime below 2^31.
 const MODULUS: u64 = 2147483647;
@@ -13,44 +14,43 @@ fn next(chance: u64) -> u64 {
 // The room of a target: now and then too little.
 fn room(chance: u64) -> usize {
     if chance % 8 == 0 {
-        return (chance / 8 % 140) as usize;
+        (chance / 8 % 140) as usize
+    } else {
+        ROOM
     }
-    ROOM
 }
 
 // For 8,000 calls in turn a head's entries are not taken, so that its book fills.
-fn take(out: &Out<'_, impl Eprint>, w: World) -> World {
-    let head = w.head;
-    if w.calls / 8000 % 5 == head.number as u64 {
-        return w;
+fn take(out: &mut Out<'_, impl Eprint>, w: &mut World, node: &mut Node) {
+    if w.calls / 8000 % 5 != node.head.number as u64 {
+        turns::take(out, w, node);
     }
-    turns::take(out, w)
 }
 
-fn act(out: &Out<'_, impl Eprint>, w: World, chance: u64) -> World {
+// What a head's turn does. A `match`: in a table of closures each would have to be told all that any of them takes.
+fn act(out: &mut Out<'_, impl Eprint>, w: &mut World, node: &mut Node, chance: u64) {
     let rest = chance / 32;
     match chance % 32 {
-        0 | 1 => turns::raise(w, rest),
-        2 | 3 | 4 | 5 => turns::answer(w, room(rest)),
-        6 | 7 | 8 | 9 => turns::box_reads(w, rest),
-        10 | 11 => turns::request(w, room(rest)),
-        12 | 13 => turns::host_sends(w, rest),
-        24 | 25 | 26 | 27 | 28 => take(out, w),
-        29 => odd::to_box(w, rest),
-        30 => odd::to_head(w, rest),
-        31 => odd::for_box(w, rest),
-        _ => turns::head_reads(w, rest),
+        0..=1 => turns::raise(w, node, rest),
+        2..=5 => turns::answer(w, node, room(rest)),
+        6..=9 => turns::box_reads(w, node, rest),
+        10..=11 => turns::request(w, node, room(rest)),
+        12..=13 => turns::host_sends(w, node, rest),
+        24..=28 => take(out, w, node),
+        29 => turns::box_reads_odd(w, node, rest),
+        30 => turns::head_reads_odd(w, node, rest),
+        31 => turns::box_refuses(w, node, rest),
+        _ => turns::head_reads(w, node, rest),
     }
 }
 
 // Makes a number of calls, and after each looks at every head. That number also starts the row of chances.
-pub fn run(out: &Out<'_, impl Eprint>, scene: Scene, turns: u64) -> Scene {
-    let mut s = scene;
+pub fn run(out: &mut Out<'_, impl Eprint>, scene: &mut Scene, turns: u64) {
     let mut chance = turns;
     for _ in 0..turns {
         chance = next(chance);
-        let world = act(out, s.turn_of((chance % 5) as usize), chance / 5);
-        s = check::all(s.after(world));
+        let node = &mut scene.nodes[chance as usize % HEADS];
+        act(out, &mut scene.world, node, chance / HEADS as u64);
+        check::all(scene);
     }
-    s
 }

@@ -1,34 +1,74 @@
-// Targets of writers, and what is written to them.
-use octets::slices::front;
+// Targets of writers, and frames.
+use crate::places::{DESTINATION_AT, MESSAGE_AT, TARGET_AT};
+use octets::slices::{front, tail};
+use types::message_type::MessageType;
 
-// More than the longest answer.
+// More than the longest frame.
 pub const ROOM: usize = 240;
-
-// Every octet of a target before a call.
-pub const FILL: u8 = 0xFC;
 
 pub type Space = [u8; ROOM];
 
-// The first `len` octets of `space`, or all where it has fewer.
-pub fn target_in(space: &mut [u8], len: usize) -> &mut [u8] {
-    if len <= space.len() {
-        &mut space[..len]
-    } else {
-        &mut space[..]
-    }
+// Every octet of a target before a call.
+const FILL: u8 = 0xFC;
+
+// What is lent to a writer: the first octets of a space.
+#[derive(Clone, Copy)]
+pub struct Target {
+    space: Space,
+    room: usize,
 }
 
-// The first `n` octets. The array comes whole, since its type then says its length.
-pub fn written(space: &Space, n: usize) -> &[u8] {
-    front(space, n)
-}
-
-// Whether nothing is written behind the first `n` octets.
-pub fn is_clean(space: Space, n: usize) -> bool {
-    for i in n..ROOM {
-        if space[i] != FILL {
-            return false;
+impl Target {
+    // A target of `room` octets, or of the whole space where it has fewer.
+    pub fn new(room: usize) -> Self {
+        Target {
+            space: [FILL; ROOM],
+            room: room.min(ROOM),
         }
     }
-    true
+
+    pub fn lend(&mut self) -> &mut [u8] {
+        let room = self.room.min(ROOM);
+        &mut self.space[..room]
+    }
+
+    // The first `len` octets as a frame.
+    pub fn frame(self, len: usize) -> Frame {
+        let octets = self.space;
+        Frame { octets, len }
+    }
+
+    // Whether nothing is written behind the first `len` octets.
+    pub fn is_clean(&self, len: usize) -> bool {
+        tail(&self.space, len).iter().all(|octet| *octet == FILL)
+    }
+}
+
+// A frame, in the first octets of a space. An array with a length, since the line keeps copies of frames; a Vec would have to be
+// allocated for each, and could fail.
+#[derive(Clone, Copy)]
+pub struct Frame {
+    pub octets: Space,
+    pub len: usize,
+}
+
+impl Frame {
+    pub const EMPTY: Frame = Frame {
+        octets: [FILL; ROOM],
+        len: 0,
+    };
+
+    pub fn bytes(&self) -> &[u8] {
+        front(&self.octets, self.len)
+    }
+
+    // The node that a frame of the managing node is for: a PReq's destination, an SoA's target.
+    pub fn addressed(&self) -> u8 {
+        let octets = &self.octets;
+        if octets[14] == 3 {
+            octets[15]
+        } else {
+            octets[21]
+        }
+    }
 }

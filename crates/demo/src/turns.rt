@@ -1,151 +1,157 @@
-// The turns of the simulation: a call for the head whose turn it is, judged by what 01 has it come to, and counted in the
-// head's account.
-use crate::entries::{entry, of_kind, same};
-use crate::expected::FRAME_LEN;
+// The turns of the simulation: a call for a head, judged by what 01 has it come to, and counted in the head's account.
+use crate::cause::Cause;
+use crate::entries::{Kind, entry};
+use crate::expected::{self, FRAME_LEN, answer_len};
+use crate::fields::{FILLED, MANAGING_NODE_ID};
+use crate::foreign;
 use crate::journal::Out;
 use crate::line::{MANAGING_NODE, pick};
-use crate::outcome::{DONE, of_take};
-use crate::sums::plus;
-use crate::target::is_clean;
-use crate::{World, calls, expected, foreign, host, journal, status};
-use error_entry::ErrorEntry;
-use types::NodeId;
+use crate::odd::{FOR_BOTH, STRANGER};
+use crate::outcome::{DONE, Outcome, outcome};
+use crate::status::put_some;
+use crate::target::Frame;
+use crate::world::{Node, World};
 
-// A batch of the other supplier's head comes about at once.
-fn raise_batch(w: World) -> World {
-    let head = w.head;
-    if head.waiting == 0 {
-        return w.with(head.has_raised(foreign::BATCH, true));
+// Raises an entry, now and then an invalid one. A batch of the other supplier's head comes about at once.
+pub fn raise(w: &mut World, node: &mut Node, chance: u64) {
+    let head = node.head;
+    if head.is_ours() {
+        let kind = Kind::by(chance);
+        let got = node.raise(kind.entry(head.number, head.accepted));
+        w.comes_to(got, expected::raising(head, kind));
+        node.head.has_raised(1, got == DONE);
+    } else if head.waiting == 0 {
+        node.head.has_raised(foreign::BATCH, true);
     }
-    w
-}
-
-// Raises an entry, now and then an invalid one.
-pub fn raise(w: World, chance: u64) -> World {
-    let head = w.head;
-    if !head.is_ours() {
-        return raise_batch(w);
-    }
-    let kind = chance % 16;
-    let raised = calls::raise(w, of_kind(kind, head.number, head.accepted));
-    let after = head.has_raised(1, raised.got == DONE);
-    raised.comes_to(expected::raising(head, kind)).with(after)
-}
-
-// What was written has to come to this, with nothing behind it.
-fn is_written(w: World, expected: u64) -> World {
-    let octets = w.octets;
-    w.comes_to(expected).demands(is_clean(octets, w.len))
-}
-
-fn answers(w: World, room: usize) -> World {
-    let head = w.head;
-    if !head.is_ours() {
-        return foreign::answer(w);
-    }
-    let expected = expected::writing(expected::answer_len(head.carried()), room);
-    is_written(calls::answer(w, room, 9), expected)
 }
 
 // Answers into a target of `room` octets, and sends what is written.
-pub fn answer(w: World, room: usize) -> World {
-    let head = w.head;
-    let sent = answers(w, room).sends(head.number, head.sent);
-    if sent.len == 0 {
-        return sent;
+pub fn answer(w: &mut World, node: &mut Node, room: usize) {
+    let head = node.head;
+    let got = if head.is_ours() {
+        let got = w.answer(node, room, FILLED);
+        w.comes_to(
+            outcome(got),
+            expected::writing(answer_len(head.carried()), room),
+        );
+        got
+    } else {
+        Ok(foreign::answer(head))
+    };
+    if let Ok(frame) = got {
+        w.line.takes(head.number, head.sent, frame);
+        node.head.has_answered();
     }
-    sent.with(head.has_answered())
 }
 
-// An answer of the head as the line gives it to the box; another supplier's has status entries among its own.
-fn reaches(w: World, number: u64, chance: u64) -> World {
-    let head = w.head;
-    let given = w.is_given(head.number, number);
-    if head.is_ours() {
-        return given;
+// The box reads the answer of the head that the line gives; another supplier's has status entries among its own.
+pub fn box_reads(w: &mut World, node: &mut Node, chance: u64) {
+    let head = node.head;
+    let Some(number) = pick(head.read, head.sent, chance) else {
+        return;
+    };
+    let mut frame = w.line.gives(head.number, number);
+    if !head.is_ours() {
+        frame = put_some(frame, head.number, chance / 16);
     }
-    status::put_some(given, chance)
-}
-
-// The box reads the answer of the head that the line gives.
-pub fn box_reads(w: World, chance: u64) -> World {
-    let head = w.head;
-    let number = pick(head.read, head.sent, chance);
-    if number == head.sent {
-        return w;
-    }
-    let read = calls::box_reads(reaches(w, number, chance / 16));
-    let after = head.has_reported(number, read.got == DONE, w.sent);
-    read.comes_to(expected::booking(head, number)).with(after)
+    let got = w.box_read(node, frame.bytes());
+    w.comes_to(got, expected::booking(head, number));
+    node.head.has_reported(number, got == DONE, w.sent);
 }
 
 // The managing node sends what was written, which has to come to this.
-fn manager_sends(w: World, expected: u64) -> World {
-    let mut after = is_written(w, expected).sends(MANAGING_NODE, w.sent);
-    if after.len != 0 {
-        after.sent = plus(after.sent, 1);
+fn manager_sends(w: &mut World, got: Result<Frame, Cause>, expected: Outcome) {
+    w.comes_to(outcome(got), expected);
+    if let Ok(frame) = got {
+        w.line.takes(MANAGING_NODE, w.sent, frame);
+        w.sent = w.sent.saturating_add(1);
     }
-    after
 }
 
 // The box writes a request to the head into a target of `room` octets, and sends it.
-pub fn request(w: World, room: usize) -> World {
-    let head = w.head;
-    let made = calls::request(w, head.id, room);
-    manager_sends(made, expected::requesting(head, room))
+pub fn request(w: &mut World, node: &Node, room: usize) {
+    let got = w.request(node.head.id, room);
+    manager_sends(w, got, expected::requesting(node.head, room));
 }
 
 // The managing node's host sends the head a PReq or an IdentRequest.
-pub fn host_sends(w: World, chance: u64) -> World {
-    let head = w.head;
-    let made = host::frame_to(w, head.id, chance % 2 == 0);
-    let mut after = manager_sends(made, FRAME_LEN);
-    after.by_host = plus(after.by_host, 1);
-    after
+pub fn host_sends(w: &mut World, node: &Node, chance: u64) {
+    let flags = w.flags_for(node);
+    let got = if chance % 2 == 0 {
+        w.host_preq(node, flags.ea)
+    } else {
+        w.host_ident_request(node, flags)
+    };
+    manager_sends(w, got, expected::writing(FRAME_LEN, FRAME_LEN));
+    w.by_host = w.by_host.saturating_add(1);
 }
 
 // The head reads the frame of the managing node that the line gives.
-pub fn head_reads(w: World, chance: u64) -> World {
-    let head = w.head;
-    let number = pick(head.heard, w.sent, chance);
-    if number == w.sent {
-        return w;
-    }
-    let given = w.is_given(MANAGING_NODE, number);
-    let octets = given.octets;
-    let node = expected::addressed(octets);
-    let read = if head.is_ours() {
-        calls::head_reads(given)
-    } else {
-        foreign::reads(given)
+pub fn head_reads(w: &mut World, node: &mut Node, chance: u64) {
+    let head = node.head;
+    let Some(number) = pick(head.heard, w.sent, chance) else {
+        return;
     };
-    let after = head.has_heard(number, read.got == DONE);
-    read.comes_to(expected::hearing(head, number, node))
-        .with(after)
+    let frame = w.line.gives(MANAGING_NODE, number);
+    let got = if head.is_ours() {
+        node.read(frame.bytes())
+    } else {
+        foreign::hears(head, frame)
+    };
+    w.comes_to(got, expected::hearing(head, number, frame.addressed()));
+    node.head.has_heard(number, got == DONE);
 }
 
 // Takes the oldest entry of the head, which has to be the next one that it raised.
-pub fn take(out: &Out<'_, impl Eprint>, mut w: World) -> World {
-    let head = w.head;
-    let answer = collector::take(&mut w.at_box, NodeId(head.id));
-    w.got = of_take(answer);
-    let after = w.comes_to(expected::taking(head));
-    let Ok(e) = answer else {
-        return after;
-    };
-    recorded(
-        out,
-        after.demands(same(e, entry(head.number, head.taken))),
-        e,
-    )
+pub fn take(out: &mut Out<'_, impl Eprint>, w: &mut World, node: &mut Node) {
+    let head = node.head;
+    let got = w.take(head.id);
+    w.comes_to(outcome(got), expected::taking(head));
+    if let Ok(e) = got {
+        w.demands(e == entry(head.number, head.taken));
+        out.record(head.id, e);
+        node.head.has_handed_out();
+    }
 }
 
-// An entry that was taken is counted, and its record made.
-fn recorded(out: &Out<'_, impl Eprint>, mut w: World, e: ErrorEntry) -> World {
-    let head = w.head;
-    if let Some(journal) = journal::record(out, w.journal, head.id, e) {
-        w.records = plus(w.records, 1);
-        w.journal = journal;
-    }
-    w.with(head.has_handed_out())
+// The box is given damaged octets, a frame of another kind or node, or the head's PRes.
+pub fn box_reads_odd(w: &mut World, node: &Node, chance: u64) {
+    let head = node.head;
+    let Some(last) = head.sent.checked_sub(1) else {
+        return;
+    };
+    let (given, expected) = match FOR_BOTH.get(chance as usize % (FOR_BOTH.len() + 1)) {
+        Some(odd) => (
+            Ok(odd.of(w.line.gives(head.number, last), head.id)),
+            odd.box_makes(head.number),
+        ),
+        None => (w.pres(node), Err(Cause::NotStatusResponse)),
+    };
+    let got = given.and_then(|frame| w.box_read(node, frame.bytes()));
+    w.comes_to(got, expected);
+}
+
+// The head is given damaged octets, or a frame of another node.
+pub fn head_reads_odd(w: &mut World, node: &mut Node, chance: u64) {
+    let head = node.head;
+    let Some(last) = w.sent.checked_sub(1) else {
+        return;
+    };
+    let odd = FOR_BOTH[chance as usize % FOR_BOTH.len()];
+    let frame = odd.of(w.line.gives(MANAGING_NODE, last), head.id);
+    let got = node.read(frame.bytes());
+    w.comes_to(got, odd.head_makes(head.number));
+}
+
+// Calls for a node that is not registered, and registering that is refused.
+pub fn box_refuses(w: &mut World, node: &Node, chance: u64) {
+    let (got, cause) = match chance % 5 {
+        0 => (outcome(w.take(STRANGER)), Cause::NotRegistered),
+        1 => (outcome(w.request(STRANGER, 40)), Cause::NotRegistered),
+        2 => (w.register(0), Cause::IdOutOfRange),
+        3 => (w.register(MANAGING_NODE_ID), Cause::IdOutOfRange),
+        _ if node.head.registered => (w.register(node.head.id), Cause::IdRegistered),
+        _ => return,
+    };
+    w.comes_to(got, Err(cause));
 }

@@ -2,25 +2,16 @@
 -- Assumes nothing.
 use Prim.Native.Nat.{ℕ, ◌≤◌}
 use mathlib.Core.Bool.{Bool, true, false}
-use mathlib.Core.Logic.{inl, inr}
-use mathlib.Core.Path.{◌≡◌, ap}
+use mathlib.Core.Path.{◌≡◌}
 use native.Mathlib.Omega.{arith}
 use lib.Dec.{leb}
 use borrow.Author.Tests.{leb-true}
 use Rattle.octets.proofs.Cases.{both}
-use Rattle.journal.specs.Streams.{count_most, has_room, OrFails}
+use Rattle.journal.specs.Streams.{count_most, has_room}
 use Rattle.journal.specs.declared.streams.Streams.{Streams}
 
 pub not_both : {A : Type 0} {b : Bool} → b ≡ true → b ≡ false → A
 not_both t f = let z : ◌≡◌ {A = ℕ} 0 1 = cc in let y : ⊥ = omega arith in absurd y
-
--- ---- whether something has failed
-
-pub unless_failed : (before : Streams) {r s : Streams} → OrFails before r s → r.failed ≡ false → r ≡ s
-unless_failed before (inl e) f = not_both (ap (λ (x : Streams). x.failed) e) f
-unless_failed before (inr e) f = e
-
--- ---- whether there is room
 
 module _ (s : Streams) where
   module _ (e : has_room s ≡ true) where

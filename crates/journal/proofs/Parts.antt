@@ -7,20 +7,21 @@ use mathlib.Core.List.{List, [], ◌++◌, append_assoc, append-nil}
 use native.Mathlib.Omega.{arith}
 use lib.ListN.{length, take, drop, length-drop, length-append}
 use lib.Seq.{drop_at, drop-drop, length-take-le, take-append_seam}
-use Rattle.std.specs.Prelude.{Result, Ok, Err}
+use Rattle.std.specs.Prelude.{Option, Result, Ok, Err}
 use Rattle.journal_records.specs.Listing.{version1, listing}
 use Rattle.journal_records.specs.Parts.{Lists, text_from, crowded, due_after, needed}
-use Rattle.journal_records.specs.declared.listing.ListError.TheVariants as answerError
-use Rattle.journal_records.specs.declared.listing.Stop.TheVariants as answer
+use Rattle.journal_records.specs.declared.listing.ListError.TheVariants as refused
+use Rattle.journal_records.specs.declared.listing.Stop.TheVariants as stop
 use Rattle.journal_records.specs.declared.listing.Part.{Part}
 use Rattle.journal_records.specs.declared.listing.Phase.{Phase}
 use Rattle.journal_records.specs.declared.listing.Phase.TheVariants.{Header, Records}
 use Rattle.journal_records.proofs.InParts.{lists_in_parts}
 use Rattle.journal.specs.declared.Rest.{Rest}
+use Rattle.journal.specs.declared.streams.Failed.{Failed}
 use Rattle.journal.specs.declared.streams.Streams.{Streams}
 use Rattle.journal.specs.Rest.{Follows, Says, Stands, Done, Listed, buffer_len, record_len, rest_after}
-use Rattle.journal.specs.Streams.{said_more, count_most, Counted, OrFails}
-use Rattle.journal.proofs.Counts.{not_both, unless_failed}
+use Rattle.journal.specs.Streams.{said_more, count_most, Counted}
+use Rattle.journal.proofs.Counts.{not_both}
 use Rattle.journal_records.specs.declared.listing.Stop.{Stop}
 use Rattle.journal_records.specs.declared.listing.ListError.{ListError}
 
@@ -29,10 +30,7 @@ unfolding version1
 needed_most Header = omega arith
 needed_most Records = omega arith
 
-pub rest_by : (a b : Result Stop ListError) (q : Phase) (at : ℕ) → a ≡ b → rest_after b q at ≡ rest_after a q at
-rest_by a b q at e = rw e
-
-pub listed_as : (s s' : List ℕ) (before after : Streams) (r r' : Rest) → s ≡ s' → r ≡ r' → Listed s before after r → Listed s' before after r'
+pub listed_as : (s s' : List ℕ) (before after : Streams) (r r' : Result (Option Rest) Failed) → s ≡ s' → r ≡ r' → Listed s before after r → Listed s' before after r'
 listed_as s s' before after r r' e f h = rw (← e, ← f) h
 
 -- what the loop of `list` holds: how far the program stands, and that few enough octets are said to be counted
@@ -94,9 +92,9 @@ module _ {p : Phase} {s : List ℕ} {at : ℕ} {before now : Streams} {t : List 
       omega (arith, ap length eu, printed_length, (lists_in_parts.within L).1)
 
   -- the text that was printed is said
-  module _ {u : List ℕ} {told : Streams} (h : OrFails now told (said_more now (length u))) (eu : u ≡ printed) (good : told.failed ≡ false) where
-    all_said : told ≡ said_more now (length u)
-    all_said = unless_failed now h good
+  module _ {u : List ℕ} {told : Streams} (all_said : told ≡ said_more now (length u)) (eu : u ≡ printed) where
+    good : told.failed ≡ false
+    good = ap (λ (x : Streams). x.failed) all_said ∙ F.stands.good
 
     abbrev so_far : List ℕ
     so_far = F.stands.text ++ printed
@@ -129,7 +127,7 @@ module _ {p : Phase} {s : List ℕ} {at : ℕ} {before now : Streams} {t : List 
         }
 
     -- what follows where there is room
-    pub settled : crowded r.answer ≡ false → Listed s before told (rest_after r.answer r.phase (at + r.consumed))
+    pub settled : crowded r.answer ≡ false → Listed s before told (Ok (rest_after r.answer r.phase (at + r.consumed)))
     settled = by_answer r.answer refl
       where
         over : ((rest : List ℕ) → then rest ≡ []) → Done told
@@ -144,8 +142,8 @@ module _ {p : Phase} {s : List ℕ} {at : ℕ} {before now : Streams} {t : List 
         then_by : {a : (Result Stop ListError)} → r.answer ≡ a → (rest : List ℕ) → then rest ≡ due_after a r.phase (drop (at + r.consumed) s ++ rest)
         then_by e rest = ap (λ (a : Result Stop ListError). due_after a r.phase (drop (at + r.consumed) s ++ rest)) e
 
-        by_answer : (a : Result Stop ListError) → r.answer ≡ a → crowded a ≡ false → Listed s before told (rest_after a r.phase (at + r.consumed))
-        by_answer (Ok answer.More) e c =
+        by_answer : (a : Result Stop ListError) → r.answer ≡ a → crowded a ≡ false → Listed s before told (Ok (rest_after a r.phase (at + r.consumed)))
+        by_answer (Ok stop.More) e c =
             let m = lists_in_parts.more L e in
             record {
               stands = stands_told (then_by e);
@@ -155,37 +153,37 @@ module _ {p : Phase} {s : List ℕ} {at : ℕ} {before now : Streams} {t : List 
               ends = ends_same ∙ F.ends;
               got = got_same ∙ F.got;
             }
-        by_answer (Ok answer.Full) e c = not_both refl c
-        by_answer (Ok answer.End) e c = over (then_by e)
-        by_answer (Err answerError.BufferTooShort) e c = not_both refl c
-        by_answer (Err answerError.NotAJournal) e c = over (then_by e)
-        by_answer (Err answerError.UnknownVersion) e c = over (then_by e)
-        by_answer (Err answerError.RecordInvalid) e c = over (then_by e)
+        by_answer (Ok stop.Full) e c = not_both refl c
+        by_answer (Ok stop.End) e c = over (then_by e)
+        by_answer (Err refused.BufferTooShort) e c = not_both refl c
+        by_answer (Err refused.NotAJournal) e c = over (then_by e)
+        by_answer (Err refused.UnknownVersion) e c = over (then_by e)
+        by_answer (Err refused.RecordInvalid) e c = over (then_by e)
 
   -- where the room is used up, something was consumed
   module _ (c : crowded r.answer ≡ true) (room : buffer_len ≡ length out) where
     some : (a : Result Stop ListError) → r.answer ≡ a → crowded a ≡ true → (0 < r.consumed) × ((x : List ℕ) → due_after a r.phase x ≡ text_from r.phase x)
-    some (Ok answer.More) e d = not_both d refl
-    some (Ok answer.Full) e d = ((lists_in_parts.full L e).0, λ x. refl)
-    some (Ok answer.End) e d = not_both d refl
-    some (Err answerError.BufferTooShort) e d = let z : ⊥ = omega (arith, (lists_in_parts.short L e).0) in absurd z
-    some (Err answerError.NotAJournal) e d = not_both d refl
-    some (Err answerError.UnknownVersion) e d = not_both d refl
-    some (Err answerError.RecordInvalid) e d = not_both d refl
+    some (Ok stop.More) e d = not_both d refl
+    some (Ok stop.Full) e d = ((lists_in_parts.full L e).0, λ x. refl)
+    some (Ok stop.End) e d = not_both d refl
+    some (Err refused.BufferTooShort) e d = let z : ⊥ = omega (arith, (lists_in_parts.short L e).0) in absurd z
+    some (Err refused.NotAJournal) e d = not_both d refl
+    some (Err refused.UnknownVersion) e d = not_both d refl
+    some (Err refused.RecordInvalid) e d = not_both d refl
 
     pub less : length s - (at + r.consumed) < length s - at
     less = let k = (some r.answer refl c).0 in omega (arith, further)
 
-    pub on : {u : List ℕ} {told : Streams} → OrFails now told (said_more now (length u)) → u ≡ printed → told.failed ≡ false
+    pub on : {u : List ℕ} {told : Streams} → told ≡ said_more now (length u) → u ≡ printed
         → SoFar s before r.phase (at + r.consumed) told
-    on h eu good =
+    on h eu =
         record {
-          stands = stands_told h eu good (λ rest. (some r.answer refl c).1 (drop (at + r.consumed) s ++ rest));
+          stands = stands_told h eu (λ rest. (some r.answer refl c).1 (drop (at + r.consumed) s ++ rest));
           within = further;
-          ends = ends_same h eu good ∙ F.ends;
-          got = got_same h eu good ∙ F.got;
+          ends = ends_same h eu ∙ F.ends;
+          got = got_same h eu ∙ F.got;
           most =
               let m = F.most in
               let k = (some r.answer refl c).0 in
-              omega (arith, ap (λ (x : Streams). x.said) (all_said h eu good), ap length eu, printed_length, (lists_in_parts.within L).1);
+              omega (arith, ap (λ (x : Streams). x.said) h, ap length eu, printed_length, (lists_in_parts.within L).1);
         }

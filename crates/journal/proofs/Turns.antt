@@ -10,6 +10,7 @@ use lib.ListN.{length, take, drop, length-drop, length-append}
 use lib.Seq.{paste, take-paste, take-add, drop_at, length-take-le}
 use borrow.Author.Tests.{eqb-false}
 use borrow.Rule.Slice.PartMut.{mid_of, put_mid, same_len_mid, mid_len, take_put}
+use Rattle.std.specs.Prelude.{Option, Some, None, Result, Ok, Err}
 use Rattle.journal_records.specs.Listing.{listing, version1}
 use Rattle.journal_records.specs.Parts.{text_from}
 use Rattle.journal_records.specs.declared.listing.Phase.{Phase}
@@ -17,7 +18,7 @@ use Rattle.journal_records.specs.declared.listing.Phase.TheVariants.{Header}
 use Rattle.journal.specs.Rest.{Stands, Goes, Left, Waits, buffer_len, record_len}
 use Rattle.journal.specs.Streams.{fresh, got_more}
 use Rattle.journal.specs.declared.Rest.{Rest}
-use Rattle.journal.specs.declared.Rest.TheVariants.{More, Over, Failed}
+use Rattle.journal.specs.declared.streams.Failed.{Failed}
 use Rattle.journal.specs.declared.streams.Streams.{Streams}
 use Rattle.journal.proofs.Counts.{not_both}
 
@@ -46,7 +47,7 @@ module _ (text : List ℕ) (n : ℕ) {q : Phase} {before after : Streams} {at : 
   pub in_range : at ≤ n
   in_range = let w = G.within in omega (arith, length-take-le n text h)
 
-  pub keeps : {m : ℕ} {text' : List ℕ} → m ≡ n - at → text' ≡ paste text 0 (drop at text) (n - at) → Left before after (More q m) text'
+  pub keeps : {m : ℕ} {text' : List ℕ} → m ≡ n - at → text' ≡ paste text 0 (drop at text) (n - at) → Left before after (Ok (Some (record { phase = q; at = m }))) text'
   keeps {m} {text'} em et = (
     record {
       stands =
@@ -92,17 +93,18 @@ module _ (text part : List ℕ) (held n : ℕ) (e : length part ≡ length (mid_
       }
 
 -- where there is more, the read gave something
-pub read_on : (before : Streams) (n : ℕ) {read : Streams} (after : Streams) (r : Rest) (text : List ℕ) → read ≡ got_more before n → Left read after r text → Waits before after r text
-read_on before n after (More q m) text er l =
+pub read_on : (before : Streams) (n : ℕ) {read : Streams} (after : Streams) (r : Result (Option Rest) Failed) (text : List ℕ) → read ≡ got_more before n → Left read after r text
+    → Waits before after r text
+read_on before n after (Ok (Some r)) text er l =
     let some = eqb-false n 0 (sym (l.1.0 ∙ ap (λ (x : Streams). x.ended) er) ∙ l.0.more) in
     (l.0, omega (arith, l.1.1, ap (λ (x : Streams). x.got) er))
-read_on before n after Over text er l = l
-read_on before n after Failed text er l = l
+read_on before n after (Ok None) text er l = l
+read_on before n after (Err e) text er l = l
 
 -- ---- the program's loop
 
-pub waited : (before after : Streams) (r r' : Rest) (text : List ℕ) → Waits before after r text → r ≡ r' → Waits before after r' text
-waited before after r r' text w e = subst (λ (x : Rest). Waits before after x text) e w
+pub waited : (before after : Streams) (r r' : Result (Option Rest) Failed) (text : List ℕ) → Waits before after r text → r ≡ r' → Waits before after r' text
+waited before after r r' text w e = subst (λ (x : Result (Option Rest) Failed). Waits before after x text) e w
 
 -- nothing is read, and nothing said: all of the listing is due
 pub at_start : {now : Streams} → now ≡ fresh → Stands now Header []

@@ -1,17 +1,17 @@
 -- How far the listing is said, at each place of the program, and what is left to be listed.
 -- Assumes nothing.
-use Rattle.std.specs.Prelude.{ℕ, ◌+◌, ◌≤◌, ◌<◌, Bool, true, false, ◌≡◌, List, [], ◌++◌, length, take, drop, Result, Ok, Err}
+use Rattle.std.specs.Prelude.{ℕ, ◌+◌, ◌≤◌, ◌<◌, Bool, true, false, ◌≡◌, List, [], ◌++◌, length, take, drop, Option, Some, None, Result, Ok, Err}
 use Rattle.journal_records.specs.Listing.{listing}
 use Rattle.journal_records.specs.Parts.{text_from, needed}
-use Rattle.journal_records.specs.declared.listing.ListError.TheVariants as answerError
-use Rattle.journal_records.specs.declared.listing.Stop.TheVariants as answer
+use Rattle.journal_records.specs.declared.listing.ListError.TheVariants as refused
+use Rattle.journal_records.specs.declared.listing.Stop.TheVariants as stop
 use Rattle.journal_records.specs.declared.listing.Phase.{Phase}
 use Rattle.journal_records.specs.declared.listing.Phase.TheVariants.{Records}
 use Rattle.journal.specs.Streams.{has_room}
 use Rattle.journal.specs.declared.End.{End}
 use Rattle.journal.specs.declared.End.TheVariants as end
 use Rattle.journal.specs.declared.Rest.{Rest}
-use Rattle.journal.specs.declared.Rest.TheVariants.{More, Over, Failed}
+use Rattle.journal.specs.declared.streams.Failed.{Failed}
 use Rattle.journal.specs.declared.streams.Streams.{Streams}
 use Rattle.journal_records.specs.declared.listing.Stop.{Stop}
 use Rattle.journal_records.specs.declared.listing.ListError.{ListError}
@@ -28,14 +28,14 @@ abbrev pub record_len : ℕ
 record_len = needed Records
 
 -- calls go on, or it is over
-abbrev pub rest_after : Result Stop ListError → Phase → ℕ → Rest
-rest_after (Ok answer.More) p at = More p at
-rest_after (Ok answer.Full) p at = More p at
-rest_after (Ok answer.End) p at = Over
-rest_after (Err answerError.BufferTooShort) p at = More p at
-rest_after (Err answerError.NotAJournal) p at = Over
-rest_after (Err answerError.UnknownVersion) p at = Over
-rest_after (Err answerError.RecordInvalid) p at = Over
+abbrev pub rest_after : Result Stop ListError → Phase → ℕ → Option Rest
+rest_after (Ok stop.More) p n = Some (record { phase = p; at = n })
+rest_after (Ok stop.Full) p n = Some (record { phase = p; at = n })
+rest_after (Ok stop.End) p n = None
+rest_after (Err refused.BufferTooShort) p n = Some (record { phase = p; at = n })
+rest_after (Err refused.NotAJournal) p n = None
+rest_after (Err refused.UnknownVersion) p n = None
+rest_after (Err refused.RecordInvalid) p n = None
 
 -- what may follow the octets that were read: nothing, where the input has ended
 abbrev pub Follows : Bool → List ℕ → Type 0
@@ -76,31 +76,31 @@ pub record Goes (s : List ℕ) (before after : Streams) (q : Phase) (at : ℕ) :
   pub got : after.got ≡ before.got
 
 -- what `list` promises of a part s
-abbrev pub Listed : List ℕ → Streams → Streams → Rest → Type 0
-Listed s before after (More q at) = Goes s before after q at
-Listed s before after Over = Done after
-Listed s before after Failed = after.failed ≡ true
+abbrev pub Listed : List ℕ → Streams → Streams → Result (Option Rest) Failed → Type 0
+Listed s before after (Ok (Some r)) = Goes s before after r.phase r.at
+Listed s before after (Ok None) = Done after
+Listed s before after (Err e) = after.failed ≡ true
 
 -- what is left, less than a record, is in front of the buffer, and more of it may come
-pub record Keeps (after : Streams) (q : Phase) (m : ℕ) (text : List ℕ) : Type 0 where
-  pub stands : Stands after q (take m text)
-  pub few : m < record_len
+pub record Keeps (after : Streams) (r : Rest) (text : List ℕ) : Type 0 where
+  pub stands : Stands after r.phase (take r.at text)
+  pub few : r.at < record_len
   pub more : after.ended ≡ false
 
 -- what `list_held` promises: nothing was read
-abbrev pub Left : Streams → Streams → Rest → List ℕ → Type 0
-Left before after (More q m) text = Keeps after q m text × ((after.ended ≡ before.ended) × (after.got ≡ before.got))
-Left before after Over text = Done after
-Left before after Failed text = after.failed ≡ true
+abbrev pub Left : Streams → Streams → Result (Option Rest) Failed → List ℕ → Type 0
+Left before after (Ok (Some r)) text = Keeps after r text × ((after.ended ≡ before.ended) × (after.got ≡ before.got))
+Left before after (Ok None) text = Done after
+Left before after (Err e) text = after.failed ≡ true
 
 -- what `turn` promises: something was read, where there is more
-abbrev pub Waits : Streams → Streams → Rest → List ℕ → Type 0
-Waits before after (More q m) text = Keeps after q m text × (before.got < after.got)
-Waits before after Over text = Done after
-Waits before after Failed text = after.failed ≡ true
+abbrev pub Waits : Streams → Streams → Result (Option Rest) Failed → List ℕ → Type 0
+Waits before after (Ok (Some r)) text = Keeps after r text × (before.got < after.got)
+Waits before after (Ok None) text = Done after
+Waits before after (Err e) text = after.failed ≡ true
 
 -- what the program's turns end in: all is said; a read or a write has failed; or a count is used up
-abbrev pub InAll : Streams → End → Type 0
-InAll after end.Over = Done after
-InAll after end.Failed = after.failed ≡ true
-InAll after end.TooLong = has_room after ≡ false
+abbrev pub InAll : Streams → Result Unit End → Type 0
+InAll after (Ok u) = Done after
+InAll after (Err end.Failed) = after.failed ≡ true
+InAll after (Err end.TooLong) = has_room after ≡ false

@@ -1,7 +1,7 @@
 -- What the program has read and said, by the counts of `streams.rt`, which `read` and `say` alone raise.
 -- Assumes nothing.
-use Rattle.std.specs.Prelude.{ℕ, ◌+◌, ◌≤◌, min, ℤ, pos, negsuc, Bool, true, false, ◌&&◌, ◌⊎◌, ◌≡◌, leb, eqb, Result, Ok, Err}
-use Rattle.journal.specs.declared.streams.Reading.{Reading}
+use Rattle.std.specs.Prelude.{ℕ, ◌+◌, ◌≤◌, min, Bool, true, false, ◌&&◌, ◌≡◌, leb, eqb, Result, Ok, Err, IsOk, IsErr}
+use Rattle.journal.specs.declared.streams.Failed.{Failed}
 use Rattle.journal.specs.declared.streams.Streams.{Streams}
 
 -- nothing is read, nothing said, the input goes on, and nothing has failed
@@ -20,29 +20,15 @@ said_more s n = record { got = s.got; said = s.said + n; ended = s.ended; failed
 abbrev pub failing : Streams → Streams
 failing s = record { got = s.got; said = s.said; ended = s.ended; failed = true }
 
--- a read's answer as one number: how many octets it gave, or -1 where it failed
-abbrev pub answered : {E : Type 0} → Result ℕ E → ℤ
-answered (Ok n) = pos (min n 9223372036854775807)
-answered (Err e) = negsuc 0
-
--- how many of `most` octets an answer gives: none where the read failed
-abbrev pub clamp_len : ℤ → ℕ → ℕ
-clamp_len (pos k) most = min k most
-clamp_len (negsuc k) most = 0
-
--- what the answer to a read into `most` octets means: how many it gave, or, below 0, that it failed
-abbrev pub after_read : Streams → ℤ → ℕ → Reading
-after_read s (pos k) most = record { streams = got_more s (clamp_len (pos k) most); len = clamp_len (pos k) most }
-after_read s (negsuc k) most = record { streams = failing s; len = 0 }
+-- what the answer to a read into `most` octets means: how many it gave, or that it failed
+abbrev pub AfterRead : {E : Type 0} → Streams → Streams → Result ℕ E → ℕ → Result ℕ Failed → Type 0
+AfterRead before after (Ok n) most r = (r ≡ Ok (min n most)) × (after ≡ got_more before (min n most))
+AfterRead before after (Err e) most r = IsErr r × (after ≡ failing before)
 
 -- what it means that all n octets were written, or not
-abbrev pub after_write : Streams → Bool → ℕ → Streams
-after_write s true n = said_more s n
-after_write s false n = failing s
-
--- the streams r behind a read or a write: those of a failure, or these
-abbrev pub OrFails : Streams → Streams → Streams → Type 0
-OrFails before r s = (r ≡ failing before) ⊎ (r ≡ s)
+abbrev pub AfterWrite : Streams → Streams → Bool → ℕ → Result Unit Failed → Type 0
+AfterWrite before after true n r = IsOk r × (after ≡ said_more before n)
+AfterWrite before after false n r = IsErr r × (after ≡ failing before)
 
 -- the input goes on, and nothing has failed
 pub record Open (s : Streams) : Type 0 where
@@ -50,9 +36,14 @@ pub record Open (s : Streams) : Type 0 where
   pub good : s.failed ≡ false
 
 -- a read has given n octets, of `most` at the most, or has failed
-pub record Reads (before after : Streams) (n most : ℕ) : Type 0 where
-  pub within : n ≤ most
-  pub counted : OrFails before after (got_more before n)
+abbrev pub Reads : Streams → Streams → ℕ → Result ℕ Failed → Type 0
+Reads before after most (Ok n) = (n ≤ most) × (after ≡ got_more before n)
+Reads before after most (Err e) = after ≡ failing before
+
+-- n octets are said, or writing them has failed
+abbrev pub Tells : Streams → Streams → ℕ → Result Unit Failed → Type 0
+Tells before after n (Ok u) = after ≡ said_more before n
+Tells before after n (Err e) = after ≡ failing before
 
 -- as many octets as a count may be before a turn
 abbrev pub count_most : ℕ

@@ -3,9 +3,9 @@
 // other code can count what was not read or not said, or call an end or a failure what was none. No contract tells what the system
 // has read and written: `after_read` and `after_write` judge what it answers, and that `read` and `say` hand its answer on is tested
 // (tests/journal/run.sh).
-ghost use Rattle.std.specs.Prelude.{◌+◌, ◌≤◌, ◌≡◌, length};
+ghost use Rattle.std.specs.Prelude.{◌+◌, ◌≤◌, ◌≡◌, length, min};
 ghost use Rattle.journal.specs.Rest.{Says};
-ghost use Rattle.journal.specs.Streams.{fresh, failing, said_more, has_room, answered, clamp_len, after_read, after_write, Counted, Open, Reads, OrFails};
+ghost use Rattle.journal.specs.Streams.{fresh, failing, has_room, AfterRead, AfterWrite, Counted, Open, Reads, Tells};
 
 use std::io;
 use std::io::{ErrorKind, Input, Read};
@@ -21,12 +21,9 @@ pub(crate) struct Streams {
     failed: bool,
 }
 
-// What became of a read: the streams behind it, and how many octets are in front of the buffer.
-#[derive(Drop)]
-pub(crate) struct Reading {
-    pub(crate) streams: Streams,
-    pub(crate) len: usize,
-}
+// A read or a write has failed.
+#[derive(Clone, Copy, Debug, PartialEq, Eq)]
+pub(crate) struct Failed;
 
 // The counts are used up. Like a failure, this is said on standard error.
 pub(crate) fn tell_too_long(rt: &impl Eprint) {
@@ -40,25 +37,11 @@ fn tell_unwritten(rt: &impl Eprint, error: io::Error) {
     }
 }
 
-// A read's answer as one number: how many octets it gave, or -1 where it failed.
-fn answered(got: io::Result<usize>) -> isize
-    ensures { result ≡ answered got }
+// How many octets of `buffer` a read gave, by its answer: never more than `buffer` has.
+fn count(got: usize, buffer: &[u8]) -> usize
+    ensures { result ≡ min got (length buffer.now) }
 {
-    match got {
-        Ok(n) => n.min(isize::MAX as usize) as isize,
-        Err(_) => -1,
-    }
-}
-
-// How many octets of `buffer` a read gave, by its answer: none where it failed, and never more than `buffer` has.
-fn count(got: isize, buffer: &[u8]) -> usize
-    ensures { result ≡ clamp_len got (length buffer.now) }
-{
-    if got > 0 {
-        (got as usize).min(buffer.len())
-    } else {
-        0
-    }
+    got.min(buffer.len())
 }
 
 impl Streams {
@@ -71,12 +54,6 @@ impl Streams {
             ended: false,
             failed: false,
         }
-    }
-
-    pub(crate) fn has_failed(self) -> bool
-        ensures { result ≡ self.failed }
-    {
-        self.failed
     }
 
     pub(crate) fn has_ended(self) -> bool
@@ -92,79 +69,71 @@ impl Streams {
     }
 
     // A read or a write has failed.
-    fn failing(self) -> Streams
-        ensures { result ≡ failing self }
+    fn failing(&mut self) -> Failed
+        ensures { self.new ≡ failing self.old }
     {
-        Streams {
-            got: self.got,
-            said: self.said,
-            ended: self.ended,
-            failed: true,
-        }
+        self.failed = true;
+        Failed
     }
 
-    // What the read of `buffer` brought about, by what it answered.
-    fn after_read(self, got: isize, buffer: &[u8]) -> Reading
-        requires { Counted (self.got + length buffer.now) }
-        ensures { result ≡ after_read self got (length buffer.now) }
+    // What the read of `buffer` brought about, by what it answered: how many octets are in front of the buffer.
+    fn after_read(&mut self, got: io::Result<usize>, buffer: &[u8]) -> Result<usize, Failed>
+        requires { Counted (self.old.got + length buffer.now) }
+        ensures { AfterRead self.old self.new got (length buffer.now) result }
     {
-        if got < 0 {
-            return Reading {
-                streams: self.failing(),
-                len: 0,
-            };
+        match got {
+            Err(_) => Err(self.failing()),
+            Ok(n) => {
+                let len = count(n, buffer);
+                *self = Streams {
+                    got: self.got + len,
+                    ended: len == 0,
+                    ..*self
+                };
+                Ok(len)
+            }
         }
-        let len = count(got, buffer);
-        let streams = Streams {
-            got: self.got + len,
-            said: self.said,
-            ended: len == 0,
-            failed: self.failed,
-        };
-        Reading { streams, len }
     }
 
     // What writing `n` octets brought about, by whether all were written.
-    fn after_write(self, all: bool, n: usize) -> Streams
-        requires { Counted (self.said + n) }
-        ensures { result ≡ after_write self all n }
+    fn after_write(&mut self, all: bool, n: usize) -> Result<(), Failed>
+        requires { Counted (self.old.said + n) }
+        ensures { AfterWrite self.old self.new all n result }
     {
         if !all {
-            return self.failing();
+            return Err(self.failing());
         }
-        Streams {
-            got: self.got,
-            said: self.said + n,
-            ended: self.ended,
-            failed: self.failed,
-        }
+        self.said += n;
+        Ok(())
     }
 
     // Reads to the front of `buffer`, which is not empty: what a read into nothing gives looks like the end of the input.
-    pub(crate) fn read(self, rt: &(impl Input + Eprint), buffer: &mut [u8]) -> Reading
-        requires { Open self × ((1 ≤ length buffer.old) × Counted (self.got + length buffer.old)) }
-        ensures { Reads self result.streams result.len (length buffer.new) }
+    pub(crate) fn read(
+        &mut self,
+        rt: &(impl Input + Eprint),
+        buffer: &mut [u8],
+    ) -> Result<usize, Failed>
+        requires { Open self.old × ((1 ≤ length buffer.old) × Counted (self.old.got + length buffer.old)) }
+        ensures { Reads self.old self.new (length buffer.new) result }
     {
-        let got = answered(rt.reader().read(buffer));
-        let reading = self.after_read(got, buffer);
-        let streams = reading.streams;
-        if streams.failed {
+        let answer = rt.reader().read(buffer);
+        let reading = self.after_read(answer, buffer);
+        if reading.is_err() {
             let _ = eprintln!(rt; "journal: cannot read");
         }
         reading
     }
 
     // Writes the text that is due at the place up to which the listing is said.
-    pub(crate) fn say(self, rt: &(impl Print + Eprint), text: &[u8]) -> Streams
-        requires { Says self text.now × Counted (self.said + length text.now) }
-        ensures { OrFails self result (said_more self (length text.now)) }
+    pub(crate) fn say(&mut self, rt: &(impl Print + Eprint), text: &[u8]) -> Result<(), Failed>
+        requires { Says self.old text.now × Counted (self.old.said + length text.now) }
+        ensures { Tells self.old self.new (length text.now) result }
     {
         let written = rt.write_all(text);
-        let all = written.is_ok();
-        let streams = self.after_write(all, text.len());
+        let told = self.after_write(written.is_ok(), text.len());
         if let Err(e) = written {
             tell_unwritten(rt, e);
         }
-        streams
+        told
     }
 }

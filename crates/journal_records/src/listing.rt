@@ -47,7 +47,7 @@ pub enum ListError {
 }
 
 // What was done with a part: how many of its octets are dealt with, how many of text were written, why it was no more,
-// and what is to come if calls go on.
+// and what is to come if calls go on. The answer stands beside the counts, which a refusal has too.
 #[derive(Clone, Copy, Debug, PartialEq, Eq)]
 pub struct Part {
     pub answer: Result<Stop, ListError>,
@@ -56,7 +56,8 @@ pub struct Part {
     pub written: usize,
 }
 
-// Lists as much of a part as there is room for: octets behind it are to come, unless it is the last.
+// Lists as much of a part as there is room for: octets behind it are to come, unless it is the last. No iterator: each step goes
+// on where the one before has ended, in the octets and in the text.
 pub fn list_part(phase: Phase, bytes: &[u8], last: bool, out: &mut [u8]) -> Part
     ensures { Lists phase bytes.now last result out.old out.new }
 {

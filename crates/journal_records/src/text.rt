@@ -9,6 +9,7 @@ use octets::slices::put;
 use types::NodeId;
 
 // A text that is written to the front of a buffer, and how long it is. What would lie past the buffer's end is dropped.
+// Digits are made here: `{:X}` states no output, and `write!` to a slice is of `std::io`, which no library crate here needs.
 #[derive(Drop)]
 pub(crate) struct Line<'a> {
     out: &'a mut [u8],
@@ -90,6 +91,7 @@ impl<'a> Line<'a> {
     }
 }
 
+// `char::from_digit` has small letters.
 #[tactic(auto, unfolding(crate::specs::Text::digit))]
 fn digit(d: u8) -> u8
     requires { d < 16 }

@@ -36,6 +36,7 @@ use Rattle.signaling.specs.Arrival.{Arrives}
 -- ---- the log of calls, their answers, and the octets that were given or written
 
 -- a frame that is read: the one sent at this place, counted from 0, by the other of the two, or octets from elsewhere
+-- (no Option: in a list of calls `sent 2` and `foreign` say more than `Some 2` and `None`)
 pub data Origin : Type 0 where
   sent : ℕ → Origin
   foreign : Origin

@@ -6,8 +6,8 @@ use lib.ListN.{length}
 use Rattle.journal.proofs.Parts.{SoFar}
 use Rattle.journal.proofs.list.Given as goal
 
-abbrev pub invariant-loop-answer : goal.invariant-loop-answer
-invariant-loop-answer g l = SoFar l.bytes l.initial.streams l.to_come l.at l.streams × (length l.out ≡ length l.initial.out)
+abbrev pub invariant-loop-to_come : goal.invariant-loop-to_come
+invariant-loop-to_come g l = SoFar l.bytes l.initial.streams l.to_come l.at l.streams × (length l.out ≡ length l.initial.out)
 
-abbrev pub decreases-loop-answer : goal.decreases-loop-answer
-decreases-loop-answer g l = length l.bytes - l.at
+abbrev pub decreases-loop-to_come : goal.decreases-loop-to_come
+decreases-loop-to_come g l = length l.bytes - l.at

@@ -1,7 +1,0 @@
--- `next_line` ends: what is left of the text falls.
--- Assumes nothing.
-use Rattle.std.proofs.Common.{length, ◌-◌}
-use Rattle.demo.proofs.text.next_line.Given as goal
-
-abbrev pub decreases-loop-i : goal.decreases-loop-i
-decreases-loop-i l = length l.text - l.i
