@@ -35,7 +35,7 @@ pub enum PartName {
 }
 
 // How many parts there are.
-const PARTS: usize = 4;
+const PARTS: u8 = 4;
 
 pub fn fill(s: &[u8]) -> u8
     ensures { result ≡ fill_of s.now }
@@ -69,11 +69,10 @@ pub fn number<const N: usize, T: Number<N>>(s: &[u8], i: u8) -> T
 }
 
 // Where part `k` begins, and where the one before it ends.
-fn mark(s: &[u8], k: usize) -> usize
-    requires { k ≤ 4 }
+pub fn mark(s: &[u8], k: u8) -> usize
     ensures { result ≡ mark_of s.now k }
 {
-    get_le::<_, u32>(s, 4 * k) as usize
+    get_le::<_, u32>(s, 4 * usize::from(k)) as usize
 }
 
 // How long a record says it is: where its last part ends.
@@ -86,7 +85,7 @@ pub fn record_len(s: &[u8]) -> usize
 pub fn part(s: &[u8], k: PartName) -> &[u8]
     ensures { result.now ≡ part_of s.now (part_number k) }
 {
-    let k = k as usize;
+    let k = k as u8;
     tail(front(s, mark(s, k + 1)), mark(s, k))
 }
 
