@@ -1,4 +1,4 @@
-// Answers as a caller in C gets them: a number, and what goes with it through out-parameters.
+// Answers as a caller in C gets them: a number, and what goes with it through out-parameters. An export takes no Result.
 ghost use Rattle.std.specs.Prelude.{◌≡◌, max};
 ghost use Rattle.types.specs.Causes.{cause_number};
 ghost use Rattle.section.specs.Write.{write_cause, unnamed_answer};

@@ -23,7 +23,7 @@ use types::basic::{ETH_LEN, EthernetHeader};
 use types::hal::PowerlinkError;
 use types::message_type::MessageType;
 
-// Where a payload lies in the bytes of its frame.
+// Where a payload lies in the bytes of its frame: two numbers, and no slice, since C is told them.
 #[derive(Clone, Copy, Debug, PartialEq, Eq)]
 pub struct PayloadPlace {
     pub start: usize,
@@ -73,7 +73,8 @@ pub fn payload(place: PayloadPlace, buffer: &[u8]) -> &[u8]
     front(tail(buffer, start), len)
 }
 
-// The frame, or why it is refused: for a caller that wants neither header nor payload.
+// The frame, or why it is refused: for a caller that wants neither header nor payload. The table and the octets come apart, here and
+// in the exchange: who lends the one does not own the other.
 pub fn read_frame(services: &Services, buffer: &[u8]) -> Result<PowerlinkFrame, PowerlinkError>
     ensures { ReadsFrame services.now buffer.now result }
 {
@@ -118,7 +119,8 @@ fn kind_in(s: &[u8]) -> Result<MessageType, PowerlinkError>
     }
 }
 
-// The section `s` of a frame of a kind.
+// The section `s` of a frame of a kind. Each kind has its `judge`, `fields` and `deserialize`, since what the tests hand on to the
+// fields is of another type in each; and a frame is matched by its kind where one is read, which no table of functions says plainer.
 fn read_kind(
     services: &Services,
     kind: MessageType,

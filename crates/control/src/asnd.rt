@@ -73,7 +73,12 @@ impl ASndFrame {
     }
 
     // Writes the section with its payload, if it fits and the table holds its service.
-    pub fn serialize(self, services: &Services, payload: &[u8], target: &mut [u8]) -> Result<usize, PowerlinkError>
+    pub fn serialize(
+        self,
+        services: &Services,
+        payload: &[u8],
+        target: &mut [u8],
+    ) -> Result<usize, PowerlinkError>
         ensures { Serializes (served services.now self.service_id (asnd_section self payload.now)) result target.old target.new }
     {
         self.serialize_behind(services, b"", payload, target)

@@ -6,13 +6,13 @@ ghost use Rattle.control.specs.SoA.{new_soa, soa_bytes, soa_section};
 use octets::slices::put;
 use section::{flag, write_section};
 use types::basic::{EthernetHeader, MacAddress, NewFrame};
+use types::hal::PowerlinkError;
 use types::message_type::MessageType;
 use types::requested_service::RequestedServiceId;
 use types::states::NmtState;
 use types::{
     C_ADR_BROADCAST_NODE_ID, C_ADR_MN_DEF_NODE_ID, C_DLL_MULTICAST_SOA, EPLVersion, NodeId,
 };
-use types::hal::PowerlinkError;
 
 // How many octets the fields have.
 pub const FIELDS_LEN: usize = 9;

@@ -9,9 +9,9 @@ use octets::slices::put;
 use section::{flag, write_section};
 use types::basic::{EthernetHeader, MacAddress, NewFrame};
 use types::common::{NetTime, RelativeTime};
+use types::hal::PowerlinkError;
 use types::message_type::MessageType;
 use types::{C_ADR_BROADCAST_NODE_ID, C_ADR_MN_DEF_NODE_ID, C_DLL_MULTICAST_SOC, NodeId};
-use types::hal::PowerlinkError;
 
 // How many octets the fields have.
 pub const FIELDS_LEN: usize = 22;

@@ -27,6 +27,7 @@ pub enum PowerlinkFrame {
 }
 
 impl PowerlinkFrame {
+    // The five are powerlink-rs's: a `TryFrom` for each kind would be as many blocks, and say less by its name.
     pub fn into_soc(self) -> Result<SocFrame, PowerlinkFrame>
         ensures { result ≡ into_soc self }
     {
@@ -74,7 +75,12 @@ impl PowerlinkFrame {
 
     // Writes the section with its payload, if it fits and the table holds an ASnd's service. SoC and SoA have no payload: what
     // is lent as one is left aside.
-    pub fn serialize(self, services: &Services, payload: &[u8], target: &mut [u8]) -> Result<usize, PowerlinkError>
+    pub fn serialize(
+        self,
+        services: &Services,
+        payload: &[u8],
+        target: &mut [u8],
+    ) -> Result<usize, PowerlinkError>
         ensures { Serializes (under_table services.now self (frame_section self payload.now)) result target.old target.new }
     {
         self.serialize_behind(services, b"", payload, target)

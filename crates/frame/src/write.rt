@@ -8,11 +8,14 @@ use section::write;
 use services::table::Services;
 use types::NodeId;
 use types::basic::EthernetHeader;
-use types::message_type::MessageType;
 use types::hal::PowerlinkError;
+use types::message_type::MessageType;
 
 // Writes the 14 octets of an Ethernet header, if they fit.
-pub fn serialize_eth_header(header: EthernetHeader, target: &mut [u8]) -> Result<usize, PowerlinkError>
+pub fn serialize_eth_header(
+    header: EthernetHeader,
+    target: &mut [u8],
+) -> Result<usize, PowerlinkError>
     ensures { Writes (eth_bytes header) result target.old target.new }
 {
     write(&header.to_bytes(), target)

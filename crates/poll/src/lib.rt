@@ -1,4 +1,5 @@
 // The frames of a cycle's isochronous part: PReq and PRes (powerlink-rs: frame/poll).
+// Each has its `to_bytes` and `serialize`, as there: a trait of them would need as many blocks, and no caller takes either.
 #![tactic(auto)]
 
 pub mod preq;

@@ -8,10 +8,10 @@ use octets::little_endian::put_le;
 use octets::slices::put;
 use section::{flag, write_section};
 use types::basic::{EthernetHeader, MacAddress, NewFrame};
+use types::hal::PowerlinkError;
 use types::mapping::PDOVersion;
 use types::message_type::MessageType;
 use types::{C_ADR_MN_DEF_NODE_ID, NodeId};
-use types::hal::PowerlinkError;
 
 // The flags (EPSG DS 301, Table 18).
 #[derive(Clone, Copy, Debug, PartialEq, Eq)]

@@ -8,12 +8,12 @@ use octets::little_endian::put_le;
 use octets::slices::put;
 use section::{flag, write_section};
 use types::basic::{EthernetHeader, MacAddress, NewFrame};
+use types::hal::PowerlinkError;
 use types::mapping::PDOVersion;
 use types::message_type::MessageType;
 use types::poll_flags::{PRFlag, RSFlag, poll_octet};
 use types::states::NmtState;
 use types::{C_ADR_BROADCAST_NODE_ID, C_DLL_MULTICAST_PRES, NodeId};
-use types::hal::PowerlinkError;
 
 // The flags (EPSG DS 301, Table 20).
 #[derive(Clone, Copy, Debug, PartialEq, Eq)]

@@ -1,5 +1,5 @@
 // The numbers of each kind of frame, and of what stands in front of the entries of a StatusResponse, in the order in which
-// include/powerlink.h names them.
+// include/powerlink.h names them: C reads an array by places.
 ghost use Rattle.std.specs.Prelude.{◌≡◌};
 ghost use Rattle.c_values.specs.Values.{soc_numbers, preq_numbers, pres_numbers, soa_numbers, asnd_numbers, status_numbers};
 

@@ -1,5 +1,5 @@
 // The static library for C and for other languages that call as C does. Each function is one of `powerlink`, under its name and
-// with its contract; include/powerlink.h declares it.
+// with its contract; include/powerlink.h declares it. They stand here a second time, since a crate that others build on exports nothing.
 #![tactic(auto)]
 
 mod collecting;

@@ -3,6 +3,8 @@
 use Rattle.std.specs.Prelude.{ℕ, ◌+◌, ◌*◌, List, ltb, get_or, take, drop}
 use Rattle.octets.specs.Numbers.{le_at}
 use Rattle.types.specs.Codes.{pick}
+use Rattle.replay.specs.declared.record.PartName.{PartName}
+use Rattle.replay.specs.declared.record.PartName.TheVariants.{A, B, C, Output}
 
 -- what each octet of the target and of every out-parameter is before the call
 abbrev pub fill_of : List ℕ → ℕ
@@ -28,6 +30,13 @@ number_octet s i = get_or s (number_at i) 0
 -- where part k begins and part k - 1 ends: A, B and C, which go in, and the octets that come out
 abbrev pub mark_of : List ℕ → ℕ → ℕ
 mark_of s k = le_at 4 (4 * k) s
+
+-- A, B and C are parts 0 to 2, the octets that come out are part 3
+abbrev pub part_number : PartName → ℕ
+part_number A = 0
+part_number B = 1
+part_number C = 2
+part_number Output = 3
 
 abbrev pub part_of : List ℕ → ℕ → List ℕ
 part_of s k = drop (mark_of s k) (take (le_at 4 (4 * k + 4) s) s)

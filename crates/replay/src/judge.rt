@@ -1,97 +1,93 @@
 // Whether what came of a call is what its record says.
-ghost use Rattle.std.specs.Prelude.{◌≡◌, get_or};
-ghost use Rattle.replay.specs.Agreement.{FirstOctet, FirstValue, SameOutput, SameOutcome, Agreement, Decides};
+ghost use Rattle.std.specs.Prelude.{OkIff};
+ghost use Rattle.replay.specs.Agreement.{FirstOctet, FirstValue, SameOutput, SameOutcome, Agreement};
 
-use crate::record::{CAUSE, OCTET, OUTPUT, VALUES, fill, part, value};
+use crate::record::PartName::Output;
+use crate::record::{CAUSE, OCTET, VALUES, fill, part, value};
 use octets::slices::byte_at;
+use std::fmt;
 
-#[derive(Drop)]
-pub enum Part {
+// Where something is not as the record says: of values and output the first that differs, or their number where there are
+// fewer than the record has.
+#[derive(Clone, Copy, Debug, PartialEq, Eq)]
+pub enum Difference {
     Cause,
     Octet,
-    Values,
-    Output,
+    Value(usize),
+    Output(usize),
 }
 
-// That all is as the record says, or where it is not: of values and output the first that differs, or their number where
-// there are fewer than the record has.
-#[derive(Drop)]
-pub enum Verdict {
-    Agrees,
-    Differs(Part, usize),
+impl fmt::Display for Difference {
+    fn fmt<W: fmt::Write>(&self, f: &mut fmt::Formatter<W>) -> fmt::Result {
+        match *self {
+            Difference::Cause => write!(f, "cause 0"),
+            Difference::Octet => write!(f, "octet 0"),
+            Difference::Value(at) => write!(f, "value {at}"),
+            Difference::Output(at) => write!(f, "output {at}"),
+        }
+    }
 }
 
-// The octet of `s` at place `at`, or `b` past the end.
-fn byte_or(s: &[u8], at: usize, b: u8) -> u8
-    ensures { result ≡ get_or s.now at b }
-{
-    if at < s.len() { s[at] } else { b }
+// What came of a call.
+#[derive(Clone, Copy)]
+pub struct Outcome<'a> {
+    pub cause: u8,
+    pub octet: u8,
+    pub values: &'a [u64],
+    pub output: &'a [u8],
 }
 
-// The first place at which `came` is not `expected` with `b` behind it, or the length.
-fn first_octet(came: &[u8], expected: &[u8], b: u8) -> usize
+// The first place at which `came` is not `expected` with `b` behind it.
+fn other_octet(came: &[u8], expected: &[u8], b: u8) -> Option<usize>
     ensures { FirstOctet came.now expected.now b result }
 {
-    let mut i = 0;
-    while i < came.len() {
-        if came[i] != byte_or(expected, i, b) {
-            return i;
-        }
-        i += 1;
-    }
-    i
+    came.iter().enumerate().position(|(i, octet)| *octet != expected.get(i).copied().unwrap_or(b))
 }
 
-// The first value that is not the record's, or their number.
-fn first_value(s: &[u8], values: &[u64]) -> usize
+// The first value that is not the record's. Two chains stay: one function for both would have to be given `value` as a closure.
+fn other_value(s: &[u8], values: &[u64]) -> Option<usize>
     ensures { FirstValue s.now values.now result }
 {
-    let mut i = 0;
-    while i < values.len() {
-        if values[i] != value(s, i) {
-            return i;
-        }
-        i += 1;
-    }
-    i
+    values
+        .iter()
+        .enumerate()
+        .position(|(i, v)| *v != value(s, i))
 }
 
-fn same_output(s: &[u8], came: &[u8]) -> Verdict
-    ensures { Decides result (SameOutput s.now came.now) }
+fn same_output(s: &[u8], came: &[u8]) -> Result<(), Difference>
+    ensures { OkIff result (SameOutput s.now came.now) tt }
 {
-    let expected = part(s, OUTPUT);
+    let expected = part(s, Output);
     if came.len() < expected.len() {
-        return Verdict::Differs(Part::Output, came.len());
+        return Err(Difference::Output(came.len()));
     }
-    let at = first_octet(came, expected, fill(s));
-    if at < came.len() {
-        return Verdict::Differs(Part::Output, at);
+    match other_octet(came, expected, fill(s)) {
+        Some(at) => Err(Difference::Output(at)),
+        None => Ok(()),
     }
-    Verdict::Agrees
 }
 
-fn same_outcome(s: &[u8], values: &[u64], output: &[u8]) -> Verdict
-    ensures { Decides result (SameOutcome s.now values.now output.now) }
+fn same_outcome(s: &[u8], values: &[u64], output: &[u8]) -> Result<(), Difference>
+    ensures { OkIff result (SameOutcome s.now values.now output.now) tt }
 {
-    if values.len() < byte_at(s, VALUES) as usize {
-        return Verdict::Differs(Part::Values, values.len());
+    if values.len() < usize::from(byte_at(s, VALUES)) {
+        return Err(Difference::Value(values.len()));
     }
-    let at = first_value(s, values);
-    if at < values.len() {
-        return Verdict::Differs(Part::Values, at);
+    if let Some(at) = other_value(s, values) {
+        return Err(Difference::Value(at));
     }
     same_output(s, output)
 }
 
-// The first difference, or that there is none.
-pub fn judge(s: &[u8], cause: u8, octet: u8, values: &[u64], output: &[u8]) -> Verdict
-    ensures { Decides result (Agreement s.now cause octet values.now output.now) }
+// The first difference, where there is one.
+pub fn judge(s: &[u8], came: Outcome) -> Result<(), Difference>
+    ensures { OkIff result (Agreement s.now came.entry.cause came.entry.octet came.entry.values.now came.entry.output.now) tt }
 {
-    if cause != byte_at(s, CAUSE) {
-        return Verdict::Differs(Part::Cause, 0);
+    if came.cause != byte_at(s, CAUSE) {
+        return Err(Difference::Cause);
     }
-    if octet != byte_at(s, OCTET) {
-        return Verdict::Differs(Part::Octet, 0);
+    if came.octet != byte_at(s, OCTET) {
+        return Err(Difference::Octet);
     }
-    same_outcome(s, values, output)
+    same_outcome(s, came.values, came.output)
 }

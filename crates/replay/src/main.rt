@@ -7,19 +7,16 @@
 mod frames;
 mod judge;
 mod parts;
-mod print;
 mod readers;
 mod record;
 mod sections;
 mod writers;
 
-ghost use Rattle.std.specs.Prelude.{◌-◌, ◌≤◌, length};
-
-use judge::Verdict;
+use judge::Difference;
 use octets::little_endian::get_le;
 use octets::slices::{byte_at, front, tail};
-use print::{difference, number, say};
-use record::{CALL, END, mark, target_len};
+use record::{CALL, record_len, target_len};
+use std::fmt;
 use std::io::Read;
 use writers::SPACE;
 
@@ -34,101 +31,97 @@ const PLC2: u32 = 0x3243_4C50;
 // Differences that are shown.
 const SHOWN: u64 = 20;
 
-fn replay(s: &[u8]) -> Verdict {
+// The calls are numbers from 1 on. The first of them read, and the others write.
+const READERS: u8 = 7;
+
+const CALLS: u8 = 22;
+
+// Makes the call of a record.
+fn replay(s: &[u8]) -> Result<(), Difference> {
     let n = byte_at(s, CALL);
-    if n < 8 {
+    if n <= READERS {
         readers::read(n, s)
     } else {
         writers::write(n, s)
     }
 }
 
-// How many cases differ of this one, 0 or 1: it is said where it is to be shown.
-fn differing(rt: &impl Print, case: u64, s: &[u8], shown: bool) -> u64
-    ensures { result ≤ 1 }
-{
-    let Verdict::Differs(part, at) = replay(s) else {
-        return 0;
-    };
-    if shown {
-        difference(rt, case, byte_at(s, CALL), part, at);
-    }
-    1
-}
-
-// The record at a place, as long as it says, or what there is of it.
-fn record_at(text: &[u8], at: usize) -> &[u8]
-    ensures { length result.now ≤ length text.now - at }
-{
-    let rest = tail(text, at);
-    front(rest, mark(rest, END))
-}
-
-// Whether the record is whole, and its call is one of the 22, whose target there is space for.
+// Whether the record is whole, and its call is one of them, whose target there is space for.
 fn whole(s: &[u8]) -> bool {
     let n = byte_at(s, CALL);
-    mark(s, END) == s.len() && 0 < n && n < 23 && target_len(s) <= SPACE
+    record_len(s) == s.len() && (1..=CALLS).contains(&n) && target_len(s) <= SPACE
 }
 
-fn refused(rt: &impl Print, case: u64) {
-    number(rt, b"refused at case ", case);
-    say(rt, b"\n");
+// What the last line says of a file that is not refused.
+#[derive(Clone, Copy, Debug, PartialEq, Eq)]
+struct Totals {
+    cases: u64,
+    differ: u64,
 }
 
-fn end(rt: &impl Print, cases: u64, differ: u64) {
-    number(rt, b"", cases);
-    number(rt, b" cases, ", differ);
-    say(rt, b" differ\n");
+impl fmt::Display for Totals {
+    fn fmt<W: fmt::Write>(&self, f: &mut fmt::Formatter<W>) -> fmt::Result {
+        write!(f, "{} cases, {} differ", self.cases, self.differ)
+    }
+}
+
+// And of one that is.
+#[derive(Clone, Copy, Debug, PartialEq, Eq)]
+enum Refusal {
+    NoSample,
+    AtCase(u64),
+}
+
+impl fmt::Display for Refusal {
+    fn fmt<W: fmt::Write>(&self, f: &mut fmt::Formatter<W>) -> fmt::Result {
+        match *self {
+            Refusal::NoSample => write!(f, "refused: no PLC2, or too long"),
+            Refusal::AtCase(case) => write!(f, "refused at case {case}"),
+        }
+    }
 }
 
 // Each case, and that nothing is behind the last.
-fn all(rt: &impl Print, text: &[u8], cases: u64) {
-    let mut at = 0;
-    let mut case = 0;
+fn all(rt: &impl Print, records: &[u8], cases: u64) -> Result<Totals, Refusal> {
+    let mut rest = records;
     let mut differ = 0;
-    while case < cases {
-        case += 1;
-        let s = record_at(text, at);
+    for case in 1..=cases {
+        let s = front(rest, record_len(rest));
         if !whole(s) {
-            refused(rt, case);
-            return;
+            return Err(Refusal::AtCase(case));
         }
-        differ += differing(rt, case, s, differ < SHOWN);
-        at += s.len();
+        if let Err(difference) = replay(s) {
+            if differ < SHOWN {
+                // A call is told by its place in SHAPES of tests/compare/calls/case.rs.
+                let call = byte_at(s, CALL);
+                let _ = println!(rt; "differs: case {case}, call {call}, {difference}");
+            }
+            differ += 1;
+        }
+        rest = tail(rest, s.len());
     }
-    if at < text.len() {
-        refused(rt, cases);
-        return;
+    if !rest.is_empty() {
+        return Err(Refusal::AtCase(cases));
     }
-    end(rt, cases, differ);
+    Ok(Totals { cases, differ })
 }
 
-// Reads until the array is full, the input ends or a read fails, and answers how many octets were read. The array comes whole:
-// its type says its length.
-fn load(rt: &impl Input, file: &mut [u8; FILE]) -> usize {
-    let mut input = rt.reader();
-    let mut done = 0;
-    while done < FILE {
-        let n = input.read(&mut file[done..]).unwrap_or(0);
-        if n == 0 {
-            break;
-        }
-        done += n;
+// The file has the mark and the number of records in front of them.
+fn run(rt: &impl Print, text: &[u8]) -> Result<Totals, Refusal> {
+    if get_le::<_, u32>(text, 0) != PLC2 || text.len() == FILE {
+        return Err(Refusal::NoSample);
     }
-    done
-}
-
-fn run(rt: &impl Print, file: &[u8; FILE], n: usize) {
-    let text = front(file, n);
-    if get_le::<_, u32>(text, 0) != PLC2 || n == FILE {
-        say(rt, b"refused: no PLC2, or too long\n");
-        return;
-    }
-    all(rt, tail(text, HEAD), get_le::<_, u32>(text, 4) as u64);
+    let cases: u32 = get_le(text, 4);
+    all(rt, tail(text, HEAD), u64::from(cases))
 }
 
 fn main(rt: HostRuntime) {
-    let mut file = [0u8; FILE];
-    let n = load(&rt, &mut file);
-    run(&rt, &file, n);
+    let mut text = Vec::new(rt.alloc());
+    // Where a read fails, the file ends.
+    let _ = rt.reader().take(FILE as u64).read_to_end(&mut text);
+    // What cannot be written is lost.
+    let _ = match run(&rt, &text) {
+        Ok(totals) => println!(rt; "{totals}"),
+        Err(refusal) => println!(rt; "{refusal}"),
+    };
 }

@@ -1,13 +1,16 @@
 // The parts of a record, as tests/compare/calls/sample.rs lays them out: numbers low octet first, and what lies past a
 // record's end as 0 or as nothing.
-ghost use Rattle.std.specs.Prelude.{◌≡◌};
+ghost use Rattle.std.specs.Prelude.{◌≡◌, ◌≤◌};
 ghost use Rattle.octets.specs.Numbers.{le_at};
-ghost use Rattle.replay.specs.Record.{fill_of, many_of, number_at, number_octet, mark_of, part_of, value_of};
+ghost use Rattle.replay.specs.Record.{fill_of, many_of, number_at, number_octet, mark_of, part_number, part_of, value_of};
 
-use octets::little_endian::get_le;
-use octets::slices::{byte_at, front, tail};
+use octets::little_endian::{Number, get_le};
+use octets::slices::{byte_at, front, put, tail};
 
-// Where a record has its call, the fill, what is answered, and how many numbers and values it has.
+// Where a record has the length of its target, its call, the fill, what is answered, how many numbers and values it has, and
+// the first of them.
+const TARGET_LEN: usize = 20;
+
 pub const CALL: usize = 24;
 
 const FILL: usize = 25;
@@ -16,20 +19,23 @@ pub const CAUSE: usize = 26;
 
 pub const OCTET: usize = 27;
 
-pub const NUMBERS: usize = 28;
+const NUMBERS: usize = 28;
 
 pub const VALUES: usize = 29;
 
-// The parts that are octets.
-pub const A: u8 = 0;
+const FIRST: usize = 30;
 
-pub const B: u8 = 1;
+// The parts that are octets: those that go in, and those that come out.
+#[derive(Clone, Copy, Debug, PartialEq, Eq)]
+pub enum PartName {
+    A,
+    B,
+    C,
+    Output,
+}
 
-pub const C: u8 = 2;
-
-pub const OUTPUT: u8 = 3;
-
-pub const END: u8 = 4;
+// How many parts there are.
+const PARTS: usize = 4;
 
 pub fn fill(s: &[u8]) -> u8
     ensures { result ≡ fill_of s.now }
@@ -41,91 +47,70 @@ pub fn fill(s: &[u8]) -> u8
 pub fn many(s: &[u8]) -> u64
     ensures { result ≡ many_of s.now }
 {
-    (fill(s) as u64) * 0x0101_0101_0101_0101
+    u64::from(fill(s)) * 0x0101_0101_0101_0101
 }
 
 // The low octet of number `i`: the number itself, where its parameter is an octet or a flag.
 pub fn octet(s: &[u8], i: u8) -> u8
     ensures { result ≡ number_octet s.now i }
 {
-    byte_at(s, 30 + 8 * (i as usize))
+    byte_at(s, FIRST + 8 * usize::from(i))
 }
 
 pub fn flag(s: &[u8], i: u8) -> bool {
     octet(s, i) != 0
 }
 
-// Number `i`, whose parameter has 2, 4 or 8 octets.
-pub fn half(s: &[u8], i: u8) -> u16
-    ensures { result ≡ le_at 2 (number_at i) s.now }
+// Number `i`, as its parameter has it.
+pub fn number<const N: usize, T: Number<N>>(s: &[u8], i: u8) -> T
+    ensures { T.value result ≡ le_at N (number_at i) s.now }
 {
-    get_le(s, 30 + 8 * (i as usize))
+    get_le(s, FIRST + 8 * usize::from(i))
 }
 
-pub fn word(s: &[u8], i: u8) -> u32
-    ensures { result ≡ le_at 4 (number_at i) s.now }
-{
-    get_le(s, 30 + 8 * (i as usize))
-}
-
-pub fn long(s: &[u8], i: u8) -> u64
-    ensures { result ≡ le_at 8 (number_at i) s.now }
-{
-    get_le(s, 30 + 8 * (i as usize))
-}
-
-// Where a part begins, and where the last one ends.
-pub fn mark(s: &[u8], k: u8) -> usize
+// Where part `k` begins, and where the one before it ends.
+fn mark(s: &[u8], k: usize) -> usize
+    requires { k ≤ 4 }
     ensures { result ≡ mark_of s.now k }
 {
-    get_le::<_, u32>(s, 4 * (k as usize)) as usize
+    get_le::<_, u32>(s, 4 * k) as usize
 }
 
-pub fn part(s: &[u8], k: u8) -> &[u8]
-    ensures { result.now ≡ part_of s.now k }
+// How long a record says it is: where its last part ends.
+pub fn record_len(s: &[u8]) -> usize
+    ensures { result ≡ mark_of s.now 4 }
 {
-    let end = get_le::<_, u32>(s, 4 * (k as usize) + 4) as usize;
-    tail(front(s, end), mark(s, k))
+    mark(s, PARTS)
 }
 
+pub fn part(s: &[u8], k: PartName) -> &[u8]
+    ensures { result.now ≡ part_of s.now (part_number k) }
+{
+    let k = k as usize;
+    tail(front(s, mark(s, k + 1)), mark(s, k))
+}
+
+// A part that is an array.
+pub(crate) fn array<const N: usize>(s: &[u8], k: PartName) -> [u8; N]
+    requires { N ≤ 8 }
+{
+    let mut octets = [0; N];
+    put(&mut octets, 0, part(s, k));
+    octets
+}
+
+#[tactic(auto, unfolding(crate::specs::Record::value_of))]
 // Value `i` of those that come out, or as before the call where the record has none.
 pub fn value(s: &[u8], i: usize) -> u64
     ensures { result ≡ value_of s.now i }
 {
-    if i < byte_at(s, VALUES) as usize {
-        get_le(s, 30 + 8 * (byte_at(s, NUMBERS) as usize) + 8 * i)
+    if i < usize::from(byte_at(s, VALUES)) {
+        get_le(s, FIRST + 8 * usize::from(byte_at(s, NUMBERS)) + 8 * i)
     } else {
         many(s)
     }
 }
 
 pub fn target_len(s: &[u8]) -> usize {
-    get_le::<_, u32>(s, 20) as usize
-}
-
-// A part that is an array.
-pub fn address(s: &[u8], k: u8) -> [u8; 6] {
-    let p = part(s, k);
-    [
-        byte_at(p, 0),
-        byte_at(p, 1),
-        byte_at(p, 2),
-        byte_at(p, 3),
-        byte_at(p, 4),
-        byte_at(p, 5),
-    ]
-}
-
-pub fn field(s: &[u8], k: u8) -> [u8; 8] {
-    let p = part(s, k);
-    [
-        byte_at(p, 0),
-        byte_at(p, 1),
-        byte_at(p, 2),
-        byte_at(p, 3),
-        byte_at(p, 4),
-        byte_at(p, 5),
-        byte_at(p, 6),
-        byte_at(p, 7),
-    ]
+    get_le::<_, u32>(s, TARGET_LEN) as usize
 }

@@ -35,15 +35,25 @@ pub fn write(octets: &[u8], target: &mut [u8]) -> Result<usize, PowerlinkError>
     Ok(len)
 }
 
-// Writes a section of `header`, `payload` and the zeros after them, if it fits.
-pub fn write_section(header: &[u8], payload: &[u8], target: &mut [u8]) -> Result<usize, PowerlinkError>
+// Writes a section of `header`, `payload` and the zeros after them, if it fits. They come as two slices, since they are joined in
+// the target alone.
+pub fn write_section(
+    header: &[u8],
+    payload: &[u8],
+    target: &mut [u8],
+) -> Result<usize, PowerlinkError>
     ensures { Writes (padded (header.now ++ payload.now)) result target.old target.new }
 {
     write_behind(b"", header, payload, target)
 }
 
 // Writes the octets `front` and behind them such a section, if both fit.
-pub fn write_behind(front: &[u8], header: &[u8], payload: &[u8], target: &mut [u8]) -> Result<usize, PowerlinkError>
+pub fn write_behind(
+    front: &[u8],
+    header: &[u8],
+    payload: &[u8],
+    target: &mut [u8],
+) -> Result<usize, PowerlinkError>
     ensures { Writes (front.now ++ padded (header.now ++ payload.now)) result target.old target.new }
 {
     let used = header.len() + payload.len();

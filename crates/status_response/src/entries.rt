@@ -109,7 +109,8 @@ pub fn serialize(
     Ok(len)
 }
 
-// The same as `serialize`, of the first `n` entries of a batch. A batch that has fewer is too short.
+// The same as `serialize`, of the first `n` entries of a batch. A batch that has fewer is too short: a slice of the first n would ask of
+// the caller that they are there.
 pub fn serialize_batch(
     fields: StatusFields,
     field: StaticErrorBitField,

@@ -60,7 +60,7 @@ impl EthernetHeader {
         self.ether_type == C_DLL_ETHERTYPE_EPL
     }
 
-    // The octets of the header.
+    // The octets of the header. No `From`: the name says which end is octets, as of std's numbers.
     pub fn to_bytes(self) -> [u8; ETH_LEN]
         ensures { result ≡ eth_bytes self }
     {

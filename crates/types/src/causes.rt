@@ -1,4 +1,5 @@
 // The numbers of 01's table of causes, and of those that 02 adds, which a refusal returns. The names are those of include/powerlink.h.
+// They are no enum, since C is told them, and no code of ours looks at one.
 
 // Input or target shorter than needed.
 pub const TOO_SHORT: u8 = 1;

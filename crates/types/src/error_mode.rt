@@ -32,7 +32,7 @@ impl TryFrom<u8> for ErrorEntryMode {
 }
 
 impl ErrorEntryMode {
-    // The mode in the two low bits of an octet.
+    // The mode in the two low bits of an octet. No `From`: of an octet as a whole `try_from` says whether it is a code.
     pub fn from_bits(b: u8) -> ErrorEntryMode
         ensures { result ≡ mode_in b }
     {

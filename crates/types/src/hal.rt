@@ -20,7 +20,7 @@ pub enum PowerlinkError {
 }
 
 impl PowerlinkError {
-    // The number of the cause in 01's table.
+    // The number of the cause in 01's table, as C is told it.
     pub fn number(self) -> u8
         ensures { result ≡ cause_number self }
     {

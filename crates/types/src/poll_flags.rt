@@ -62,7 +62,7 @@ impl RSFlag {
     }
 }
 
-// The octet that holds both flags: bits 5 to 3 and bits 2 to 0.
+// The octet that holds both flags: bits 5 to 3 and bits 2 to 0. No `From`: an octet has two, and the names say which is meant.
 pub fn poll_octet(pr: PRFlag, rs: RSFlag) -> u8
     ensures { result ≡ poll_octet pr rs.0 }
 {

@@ -21,6 +21,6 @@ pub returns : goal.returns
 returns c =
     let a = c.args in
     elim c.match-byte.branch [
-        in-Some w ↦ record { value = c.number.ensures; octet_after = w.octet-is ∙ there (cause_of a.e).returned _ _ (sym c.byte.ensures ∙ w.in-Some.is) }
+      | in-Some w ↦ record { value = c.number.ensures; octet_after = w.octet-is ∙ there (cause_of a.e).returned _ _ (sym c.byte.ensures ∙ w.in-Some.is) }
       | in_default w ↦ record { value = c.number.ensures; octet_after = w.octet-is ∙ not_there (cause_of a.e).returned _ (sym c.byte.ensures ∙ w.in_default.is) }
     ]
