@@ -5,14 +5,13 @@ use native.Mathlib.Omega.{arith}
 use mathlib.Core.Path.{◌≡◌, refl, sym, ap, ◌∙◌}
 use mathlib.Core.List.{List, [], ◌∷◌}
 use lib.ListN.{drop}
-use Rattle.std.specs.Prelude.{Result, Ok, Err, Some, None, MatchResult}
+use Rattle.std.specs.Prelude.{Result, Ok, Err, Some, None}
 use Rattle.types.specs.Causes.{cause_number}
 use Rattle.types.specs.Messages.{message_code}
 use Rattle.types.specs.declared.hal.PowerlinkError.{PowerlinkError}
 use Rattle.types.specs.declared.basic.EthernetHeader.{EthernetHeader}
 use Rattle.frame.specs.declared.PowerlinkFrame.{PowerlinkFrame}
-use Rattle.types.specs.declared.message_type.MessageType.{MessageType}
-use Rattle.codec.specs.Frame.{kind_of, by_kind, read_frame, place_in_frame}
+use Rattle.codec.specs.Frame.{read_frame, place_in_frame}
 use Rattle.codec.specs.Headers.{deserialize_eth_header, deserialize_pl_header}
 use Rattle.codec.specs.declared.headers.PlHeader.{PlHeader}
 use Rattle.error_entry.specs.Entry.{read_entry}
@@ -26,45 +25,27 @@ use Rattle.status_response.specs.declared.fields.StatusFields.{StatusFields}
 use Rattle.types.proofs.CausesTell.{not_0}
 use Rattle.c_values.specs.Answers.{error_octet}
 use Rattle.c_values.specs.Values.{frame_numbers, status_numbers, entry_numbers}
-use Rattle.powerlink.specs.Reading.{FrameRead, told_numbers, EthRead, PlRead, StatusRead, FieldRead, EntryRead, StepRead}
+use Rattle.powerlink.specs.Reading.{FrameRead, SectionRead, EthRead, PlRead, StatusRead, FieldRead, EntryRead, StepRead}
 
 -- what `refusal` tells of an error
 abbrev Told : PowerlinkError → ℕ → ℕ → ℕ → Type 0
 Told e r o o' = (r ≡ cause_number e) × (o' ≡ error_octet e o)
 
--- the numbers of a frame that the rules answer
-pub numbers_told : (a : Result PowerlinkFrame PowerlinkError) (s v : List ℕ) (x : PowerlinkFrame) → Ok x ≡ a → v ≡ frame_numbers x (place_in_frame x s)
-    → Ok v ≡ told_numbers a s
-numbers_told a s v x q ev = rw (← q, ev)
+module _ (a : Result PowerlinkFrame PowerlinkError) (s v : List ℕ) where
+  pub section_refused : (r o o' : ℕ) (e : PowerlinkError) → Err e ≡ a → Told e r o o' → SectionRead a s r v v o o'
+  section_refused r o o' e q t = record { cause = rw (← q) t.0; values = rw (← q); octet = rw (← q) t.1 }
+
+  pub section_frame : (v' : List ℕ) (o : ℕ) (x : PowerlinkFrame) → Ok x ≡ a → v' ≡ frame_numbers x (place_in_frame x s) → SectionRead a s 0 v v' o o
+  section_frame v' o x q ev = record { cause = rw (← q); values = rw (← q) ev; octet = rw (← q) }
 
 module _ (services f : List ℕ) where
-  abbrev told : Result (List ℕ) PowerlinkError
-  told = told_numbers (read_frame services f) (drop 14 f)
+  pub frame_refused : (v : List ℕ) (r o o' : ℕ) (e : PowerlinkError) → Err e ≡ read_frame services f → Told e r o o' → FrameRead services f r v v o o'
+  frame_refused v r o o' e q t = record { cause = rw (← q) t.0; values = rw (← q); octet = rw (← q) t.1 }
 
-  -- what is told of a frame, by its kind
-  pub kind_told : (k : Result MessageType PowerlinkError) (r : Result (List ℕ) PowerlinkError) (Post : MessageType → Type 0) → k ≡ kind_of f
-      → MatchResult k Post (λ e. r ≡ Err e) → ((x : MessageType) → Post x → r ≡ told_numbers (by_kind services x (drop 14 f)) (drop 14 f)) → r ≡ told
-  unfolding read_frame
-  kind_told (Ok x) r Post q is each = rw (← q) (each x is)
-  kind_told (Err e) r Post q is each = rw (← q) is
-
-  pub frame_refused : (v : List ℕ) (r o o' : ℕ) (e : PowerlinkError) → Err e ≡ told → Told e r o o' → FrameRead services f r v v o o'
-  frame_refused v r o o' e q t = by_answer (read_frame services f) refl q
-    where
-      by_answer : (a : Result PowerlinkFrame PowerlinkError) → read_frame services f ≡ a → Err e ≡ told_numbers a (drop 14 f) → FrameRead services f r v v o o'
-      by_answer (Err x) is same =
-          let given : e ≡ x = cc in
-          record { cause = rw (is, ← given) t.0; values = rw is; octet = rw (is, ← given) t.1 }
-      by_answer (Ok x) is same = let z : ◌≡◌ {A = ℕ} 0 1 = cc in absurd (omega arith)
-
-  pub frame_told : (v v' : List ℕ) (o : ℕ) → Ok v' ≡ told → FrameRead services f 0 v v' o o
-  frame_told v v' o q = by_answer (read_frame services f) refl q
-    where
-      by_answer : (a : Result PowerlinkFrame PowerlinkError) → read_frame services f ≡ a → Ok v' ≡ told_numbers a (drop 14 f) → FrameRead services f 0 v v' o o
-      by_answer (Err x) is same = let z : ◌≡◌ {A = ℕ} 0 1 = cc in absurd (omega arith)
-      by_answer (Ok x) is same =
-          let ev : v' ≡ frame_numbers x (place_in_frame x (drop 14 f)) = cc in
-          record { cause = rw is; values = rw is ev; octet = rw is }
+  -- a frame is told as its section is
+  pub frame_section : (a : Result PowerlinkFrame PowerlinkError) (s : List ℕ) → a ≡ read_frame services f → s ≡ drop 14 f → (r : ℕ) (v v' : List ℕ) (o o' : ℕ) → SectionRead a s r v v' o o'
+      → FrameRead services f r v v' o o'
+  frame_section a s q es r v v' o o' w = record { cause = rw (← q) w.cause; values = rw (← q, ← es) w.values; octet = rw (← q) w.octet }
 
 module _ (f : List ℕ) where
   pub eth_refused : (a b : List ℕ) (t r : ℕ) (e : PowerlinkError) → deserialize_eth_header f ≡ Err e → r ≡ cause_number e → EthRead f r a a b b t t

@@ -24,11 +24,6 @@ abbrev pub frame_after : Result PowerlinkFrame PowerlinkError → List ℕ → L
 frame_after (Err e) s before = before
 frame_after (Ok f) s before = frame_numbers f (place_in_frame f s)
 
--- the numbers of what the rules answer to the section s
-abbrev pub told_numbers : Result PowerlinkFrame PowerlinkError → List ℕ → Result (List ℕ) PowerlinkError
-told_numbers (Err e) s = Err e
-told_numbers (Ok f) s = Ok (frame_numbers f (place_in_frame f s))
-
 -- ---- headers
 
 -- a part of the header
@@ -74,6 +69,12 @@ pub record FrameRead (services f : List ℕ) (r : ℕ) (v v' : List ℕ) (o o' :
   pub cause : r ≡ (frame_cause (read_frame services f)).number
   pub values : v' ≡ frame_after (read_frame services f) (drop eth_length f) v
   pub octet : o' ≡ get_or (frame_cause (read_frame services f)).returned 0 o
+
+-- the same of the section s, to which the rules answer a
+pub record SectionRead (a : Result PowerlinkFrame PowerlinkError) (s : List ℕ) (r : ℕ) (v v' : List ℕ) (o o' : ℕ) : Type 0 where
+  pub cause : r ≡ (frame_cause a).number
+  pub values : v' ≡ frame_after a s v
+  pub octet : o' ≡ get_or (frame_cause a).returned 0 o
 
 pub record EthRead (f : List ℕ) (r : ℕ) (d d' s s' : List ℕ) (t t' : ℕ) : Type 0 where
   pub cause : r ≡ (eth_header_cause (deserialize_eth_header f)).number

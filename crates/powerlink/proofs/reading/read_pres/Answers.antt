@@ -1,11 +1,16 @@
--- `reading::read_pres` meets its contract: the state's octet is its number.
+-- `reading::read_pres` meets its contract: each verdict is told as its answer.
 -- Assumes nothing.
+use Rattle.frame.specs.declared.PowerlinkFrame.TheVariants.{PRes}
+use Rattle.powerlink.proofs.Readers.{section_refused, section_frame}
 use Rattle.powerlink.proofs.States.{pres_told}
-use Rattle.powerlink.proofs.Readers.{numbers_told}
 use Rattle.powerlink.proofs.reading.read_pres.Goals as goal
 
-pub returns : goal.returns
-returns c =
-    let judged = c.in_ok-state.ensures in
-    numbers_told _ _ _ _ judged
-    (rw c.byte_at.ensures (pres_told _ _ _ judged _ _ (rw (c.payload_place.ensures, c.fields-f.ensures) at c.pres_values-numbers.ensures)))
+pub returns-in-Ok : goal.returns-in-Ok
+returns-in-Ok c =
+    let judged = rw c.in-Ok.is at c.judge.ensures in
+    section_frame _ _ _ _ _ (PRes c.fields-f.result) (rw c.fields-f.ensures judged)
+    (rw (c.fields-f.ensures, c.byte_at.ensures) (pres_told _ _ _ judged _ _ (rw (c.payload_place.ensures, c.fields-f.ensures) at c.pres_values-numbers.ensures)))
+
+pub returns-in-Err : goal.returns-in-Err
+returns-in-Err c =
+    section_refused _ _ _ _ _ _ c.in-Err.e (rw c.in-Err.is at c.judge.ensures) (c.refusal.ensures.value, c.refusal.ensures.octet_after)

@@ -1,11 +1,16 @@
--- `reading::read_soa` meets its contract: the octets of the service and of the state are their numbers.
+-- `reading::read_soa` meets its contract: each verdict is told as its answer.
 -- Assumes nothing.
+use Rattle.frame.specs.declared.PowerlinkFrame.TheVariants.{SoA}
+use Rattle.powerlink.proofs.Readers.{section_refused, section_frame}
 use Rattle.powerlink.proofs.States.{soa_told}
-use Rattle.powerlink.proofs.Readers.{numbers_told}
 use Rattle.powerlink.proofs.reading.read_soa.Goals as goal
 
-pub returns : goal.returns
-returns c =
-    let judged = c.in_ok-state.ensures in
-    numbers_told _ _ _ _ judged
-    (rw (c.byte_at.ensures, c.byte_at-2.ensures) (soa_told _ _ _ judged _ _ (rw (c.payload_place.ensures, c.fields-f.ensures) at c.soa_values-numbers.ensures)))
+pub returns-in-Ok : goal.returns-in-Ok
+returns-in-Ok c =
+    let judged = rw c.in-Ok.is at c.judge.ensures in
+    section_frame _ _ _ _ _ (SoA c.fields-f.result) (rw c.fields-f.ensures judged)
+    (rw (c.fields-f.ensures, c.byte_at-in-Ok.ensures, c.byte_at.ensures) (soa_told _ _ _ judged _ _ (rw (c.payload_place.ensures, c.fields-f.ensures) at c.soa_values-numbers.ensures)))
+
+pub returns-in-Err : goal.returns-in-Err
+returns-in-Err c =
+    section_refused _ _ _ _ _ _ c.in-Err.e (rw c.in-Err.is at c.judge.ensures) (c.refusal.ensures.value, c.refusal.ensures.octet_after)
