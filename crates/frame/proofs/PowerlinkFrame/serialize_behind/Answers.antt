@@ -26,7 +26,3 @@ pub returns-in-SoA : goal.returns-in-SoA
 unfolding soa_section
 returns-in-SoA c =
     rw c.in-SoA.is (serializes _ _ _ _ (rw c.to_bytes-in-SoA.ensures at c.write_behind-in-SoA.ensures))
-
-pub returns-in-ASnd : goal.returns-in-ASnd
-returns-in-ASnd c =
-    rw c.in-ASnd.is c.serialize_behind.ensures

@@ -8,13 +8,6 @@ use Rattle.frame.specs.Write.{frame_bytes}
 use Rattle.powerlink.proofs.Writers.{writes_coded, refuses_coded}
 use Rattle.powerlink.proofs.frames.powerlink_new_pres.Goals as goal
 
-pub slice_bounds-put_frame-end : goal.slice_bounds-put_frame-end
-slice_bounds-put_frame-end c = sym (length-set c.to_bytes-fields.result _ _ ∙ ap length c.to_bytes-fields.ensures)
-
-pub returns-in-Err : goal.returns-in-Err
-returns-in-Err c =
-    refuses_coded _ _ _ _ _ _ _ _ (rw (← c.try_from.ensures.answer, c.in-Err.is, c.padded_len-needed.ensures)) (c.unnamed.ensures.value, c.unnamed.ensures.octet_after)
-
 pub returns-in-Ok : goal.returns-in-Ok
 unfolding frame_bytes pres_section
 returns-in-Ok c =

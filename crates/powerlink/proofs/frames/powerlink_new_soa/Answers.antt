@@ -5,14 +5,6 @@ use Rattle.frame.specs.Write.{frame_bytes}
 use Rattle.powerlink.proofs.Writers.{writes_coded, refuses_coded}
 use Rattle.powerlink.proofs.frames.powerlink_new_soa.Goals as goal
 
-pub returns-in-Err : goal.returns-in-Err
-returns-in-Err c =
-    refuses_coded _ _ _ _ _ _ _ _ (rw (← c.try_from.ensures.answer, c.in-Err.is)) (c.unnamed.ensures.value, c.unnamed.ensures.octet_after)
-
-pub returns-in-Err-try_from : goal.returns-in-Err-try_from
-returns-in-Err-try_from c =
-    refuses_coded _ _ _ _ _ _ _ _ (rw (← c.try_from.ensures.answer, c.in-Ok.is, ← c.try_from-in-Ok.ensures.answer, c.in-Err-try_from.is)) (c.unnamed-in-Err-try_from.ensures.value, c.unnamed-in-Err-try_from.ensures.octet_after)
-
 pub returns-in-Ok-try_from : goal.returns-in-Ok-try_from
 unfolding frame_bytes soa_section
 returns-in-Ok-try_from c =

@@ -10,7 +10,3 @@ returns-in-Ok c =
     let judged = rw c.in-Ok.is at c.judge.ensures in
     section_frame _ _ _ _ _ (SoA c.fields-f.result) (rw c.fields-f.ensures judged)
     (rw (c.fields-f.ensures, c.byte_at-in-Ok.ensures, c.byte_at.ensures) (soa_told _ _ _ judged _ _ (rw (c.payload_place.ensures, c.fields-f.ensures) at c.soa_values-numbers.ensures)))
-
-pub returns-in-Err : goal.returns-in-Err
-returns-in-Err c =
-    section_refused _ _ _ _ _ _ c.in-Err.e (rw c.in-Err.is at c.judge.ensures) (c.refusal.ensures.value, c.refusal.ensures.octet_after)

@@ -1,6 +1,0 @@
--- `ASndFrame::new` meets its contract.
--- Assumes nothing.
-use Rattle.control.proofs.asnd.ASndFrame.new.Goals as goal
-
-pub returns : goal.returns
-returns c = rw c.new.ensures

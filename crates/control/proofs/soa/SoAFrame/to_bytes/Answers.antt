@@ -1,7 +1,0 @@
--- `SoAFrame::to_bytes` meets its contract: the octets that it lays out are those of the layout.
--- Assumes nothing.
-use Rattle.control.proofs.soa.SoAFrame.to_bytes.Goals as goal
-
-pub returns : goal.returns
-returns c =
-    rw (c.put.ensures, c.first_octets.ensures)

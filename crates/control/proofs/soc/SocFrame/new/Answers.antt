@@ -1,6 +1,0 @@
--- `SocFrame::new` meets its contract.
--- Assumes nothing.
-use Rattle.control.proofs.soc.SocFrame.new.Goals as goal
-
-pub returns : goal.returns
-returns c = rw c.new.ensures
