@@ -31,8 +31,8 @@ module _ (s : List ℕ) where
       unfolding read_soa
       soa_no_service e g = rw (le-leb 9 (length s) long, sym ea ∙ es, sym eq ∙ g)
 
-      pub soa_read : (service : RequestedServiceId) → q ≡ Ok service → Ok (SoA (soa_of s st service)) ≡ read_soa s
+      pub soa_read : (requested : RequestedServiceId) → q ≡ Ok requested → Ok (SoA (soa_of s st requested)) ≡ read_soa s
       unfolding read_soa
-      soa_read service g = rw (le-leb 9 (length s) long, sym ea ∙ es, sym eq ∙ g)
+      soa_read requested g = rw (le-leb 9 (length s) long, sym ea ∙ es, sym eq ∙ g)
 
 pub ruleset soa-laws = (rules, soa_no_state, soa_no_service, soa_read)

@@ -72,10 +72,6 @@ place_in_frame (PRes f) s = place poll_payload_at f.payload_size
 place_in_frame (SoA f) s = place 0 0
 place_in_frame (ASnd f) s = place asnd_payload_at (asnd_payload_length s)
 
-abbrev pub place_of : Result PowerlinkFrame PowerlinkError → List ℕ → PayloadPlace
-place_of (Err e) s = place 0 0
-place_of (Ok f) s = place_in_frame f s
-
 -- a frame that is read, with its Ethernet header and its payload's place
 abbrev pub deserialized : List ℕ → Result PowerlinkFrame PowerlinkError → Result DeserializedFrame PowerlinkError
 deserialized f (Ok x) = Ok (record { eth_header = eth_header_of f; frame = x; payload_place = place_in_frame x (drop eth_length f) })

@@ -63,8 +63,8 @@ pub fn deserialize_frame(
     })
 }
 
-// The payload of a frame that was read from `buffer`, as that part of it: empty for SoC, SoA and a refusal. A place that does not
-// lie in these bytes is cut at their end.
+// The payload of a frame that was read from `buffer`, as that part of it: empty for SoC and SoA. A frame that is refused has no
+// place, and a place that does not lie in these bytes is cut at their end.
 pub fn payload(place: PayloadPlace, buffer: &[u8]) -> &[u8]
     ensures { Part buffer.entry place.start (payload_of place buffer.now) result }
 {

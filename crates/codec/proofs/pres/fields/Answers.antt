@@ -1,6 +1,0 @@
--- `codec::pres::fields` meets its contract: each field is what its octets give.
--- Assumes nothing.
-use Rattle.codec.proofs.pres.fields.Goals as goal
-
-pub returns : goal.returns
-returns c = rw (c.byte_at-5.ensures, c.flags_of.ensures, c.byte_at-4.ensures, c.byte_at-3.ensures, c.byte_at-2.ensures, c.byte_at.ensures)
