@@ -35,6 +35,7 @@ pub fn powerlink_deserialize_frame_v2(
 }
 
 // The section `s` of a frame of a kind.
+// Tried: Result<[u64; 16], PowerlinkError>. It proves, but SoC and ASnd are read 8 to 16 % slower: all kinds then share one store.
 fn read_kind(
     services: &Services,
     kind: MessageType,
