@@ -50,7 +50,7 @@ kept_length true e n = refl
 kept_length false e n = refl
 
 module _ (w : Coded) (t t' : List ℕ) (r n n' o : ℕ) where
-  pub writes_named : (bs : List ℕ) → w ≡ octets bs → WritesTo bs r t t' n n' → WritesCoded w r t t' n n' o o
+  writes_named : (bs : List ℕ) → w ≡ octets bs → WritesTo bs r t t' n n' → WritesCoded w r t t' n n' o o
   writes_named bs ew h = record { cause = h.cause ∙ rw ew; target = h.target ∙ rw ew; written = h.written ∙ rw ew; octet = kept_octet bs t o ∙ rw ew }
 
   pub writes_coded : (bs : List ℕ) (a : Result ℕ PowerlinkError) → w ≡ octets bs → Writes bs a t t' → Told a r n n' → WritesCoded w r t t' n n' o o

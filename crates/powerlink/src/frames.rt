@@ -1,7 +1,7 @@
 // Writing whole frames, as each kind's `new` makes them.
 ghost use Rattle.std.specs.Prelude.{◌++◌};
 ghost use Rattle.types.specs.Header.{eth_bytes};
-ghost use Rattle.section.specs.Write.{padded};
+ghost use Rattle.section.specs.Write.{padded, Writes};
 ghost use Rattle.powerlink.specs.Given.{time, soc_flags_given, new_soc_frame, preq_flags_given, new_preq_frame, pres_flags_given, new_pres_writing, soa_flags_given, new_soa_writing, new_asnd_writing};
 ghost use Rattle.powerlink.specs.Writing.{WritesTo, WritesCoded};
 
@@ -23,18 +23,16 @@ use types::requested_service::RequestedServiceId;
 use types::states::NmtState;
 use types::{EPLVersion, NodeId};
 
-// Writes an Ethernet header and behind it a section of these fields and this payload, and tells the length.
+// Writes an Ethernet header and behind it a section of these fields and this payload.
 fn put_frame(
     eth_header: EthernetHeader,
     fields: &[u8],
     payload: &[u8],
     target: &mut [u8],
-    written: &mut usize,
-) -> u8
-    ensures { WritesTo (eth_bytes eth_header ++ padded (fields.now ++ payload.now)) result target.old target.new written.old written.new }
+) -> Result<usize, PowerlinkError>
+    ensures { Writes (eth_bytes eth_header ++ padded (fields.now ++ payload.now)) result target.old target.new }
 {
-    let answer = write_behind(&eth_header.to_bytes(), fields, payload, target);
-    written_or(answer, written)
+    write_behind(&eth_header.to_bytes(), fields, payload, target)
 }
 
 // SoC goes from the managing node to all, by its multicast address.
@@ -60,7 +58,8 @@ pub fn powerlink_new_soc(
         RelativeTime(relative_time),
     );
     let frame = new.frame;
-    put_frame(new.eth_header, &frame.to_bytes(), b"", target, written)
+    let answer = put_frame(new.eth_header, &frame.to_bytes(), b"", target);
+    written_or(answer, written)
 }
 
 // PReq goes from the managing node to one node, whose address the caller knows.
@@ -87,7 +86,8 @@ pub fn powerlink_new_preq(
         payload,
     );
     let frame = new.frame;
-    put_frame(new.eth_header, &frame.to_bytes(), payload, target, written)
+    let answer = put_frame(new.eth_header, &frame.to_bytes(), payload, target);
+    written_or(answer, written)
 }
 
 // PRes goes from a node to all, by its multicast address: 1, then 5.
@@ -132,7 +132,8 @@ pub fn powerlink_new_pres(
             // The state's octet is the one that was given: the compiler then makes no table of states.
             let mut fields = frame.to_bytes();
             fields[STATE_AT] = state;
-            put_frame(new.eth_header, &fields, payload, target, written)
+            let answer = put_frame(new.eth_header, &fields, payload, target);
+            written_or(answer, written)
         }
     }
 }
@@ -166,7 +167,8 @@ pub fn powerlink_new_soa(
                     EPLVersion(epl_version),
                 );
                 let frame = new.frame;
-                put_frame(new.eth_header, &frame.to_bytes(), b"", target, written)
+                let answer = put_frame(new.eth_header, &frame.to_bytes(), b"", target);
+                written_or(answer, written)
             }
         },
     }
