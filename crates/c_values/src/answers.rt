@@ -58,7 +58,8 @@ pub fn unnamed(e: PowerlinkError, needed: usize, len: usize, octet: &mut u8) -> 
     refusal(e, octet)
 }
 
-// What is needed for `used` octets, where fewer than `least` are padded.
+// What is needed for `used` octets, where fewer than `least` are padded. `section` has its own, of its own least, which is `max` too: one
+// function for both would be `max` by another name.
 pub fn padded_len(least: usize, used: usize) -> usize
     ensures { result ≡ max least used }
 {

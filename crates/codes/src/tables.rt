@@ -48,6 +48,7 @@ fn service_name(id: u8) -> &'static str {
         NMT_PUBLISH_EMERG_NEW => "NMTPublishEmergNew",
         NMT_PUBLISH_HEARTBEAT => "NMTPublishHeartbeat",
         NMT_PUBLISH_ACTIVE_NODES => "NMTPublishActiveNodes",
+        // No Option: one that the table held beside the twelve would be listed too, by the title, and fail the test.
         _ => "services",
     }
 }

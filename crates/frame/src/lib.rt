@@ -74,7 +74,7 @@ impl PowerlinkFrame {
     }
 
     // Writes the section with its payload, if it fits and the table holds an ASnd's service. SoC and SoA have no payload: what
-    // is lent as one is left aside.
+    // is lent as one is left aside. As of `ASndFrame`, a line over its own `serialize_behind`: a trait of the two would be longer than both.
     pub fn serialize(
         self,
         services: &Services,

@@ -13,6 +13,7 @@ use std::io::{ErrorKind, Input, Read};
 // Counts up to this leave room for what a turn adds to them, and no run reaches it.
 const COUNT_MAX: usize = usize::MAX / 2;
 
+// Two flags, and no enum around the counts: both counts hold after the end and after a failure, and a write may fail after the end.
 #[derive(Clone, Copy, Debug, PartialEq, Eq)]
 pub(crate) struct Streams {
     got: usize,

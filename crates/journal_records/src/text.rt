@@ -56,7 +56,8 @@ impl<'a> Line<'a> {
         self.octet(b'0' + (v % 10) as u8);
     }
 
-    // As many hexadecimal digits: those in front of the last are those of a sixteenth.
+    // As many hexadecimal digits: those in front of the last are those of a sixteenth. By recursion, as `hex` is defined: a `for` would need
+    // an invariant of the digits so far.
     #[tactic(auto, using(crate::proofs::TextLaws::hex_length))]
     fn hex(&mut self, v: u64, digits: usize)
         requires { self.old.len + digits ≤ place_most }

@@ -29,7 +29,8 @@ pub fn byte_at(s: &[u8], at: usize) -> u8
 }
 
 #[tactic(auto, unfolding(crate::specs::Mark::is_marked))]
-// Whether the first octets of `s` are those of a file's mark.
+// Whether the first octets of `s` are those of a file's mark. Octets past the end count as 0, as `is_marked` has it:
+// `starts_with` says no of a shorter slice.
 pub fn has_mark(s: &[u8], mark: [u8; 3]) -> bool
     ensures { result ≡ is_marked mark s.now }
 {

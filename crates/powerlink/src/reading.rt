@@ -54,6 +54,8 @@ fn read_kind(
     }
 }
 
+// The five readers are of one shape, and stay so for that speed: what `judge` hands on is of another type in each, and one function behind
+// them all is the one store.
 fn read_soc(s: &[u8], values: &mut [u64; 16], octet: &mut u8) -> u8
     ensures { SectionRead (read_soc s.now) s.now result values.old values.new octet.old octet.new }
 {

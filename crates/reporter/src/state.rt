@@ -25,6 +25,7 @@ pub(crate) fn start(state: &Reporter) -> u8
     state[START_AT] % PLACES
 }
 
+// This and `waiting` are a line each: one for both would take the place and the most of each, and every caller would name them.
 #[tactic(auto, unfolding(crate::specs::Layout::open_of))]
 pub(crate) fn open(state: &Reporter) -> u8
     ensures { result ≡ open_of state.now }

@@ -28,7 +28,8 @@ pub fn fits(entries: &[u8], len: usize) -> bool
     crate::entries::fits(entries.len() / ENTRY_LEN, len)
 }
 
-// Four entries, terminators in the place of those that are not there.
+// Four entries, terminators in the place of those that are not there. They are written out for the reason that `reporter` has for its
+// four (`batch::first_four`): of a `map` over the places the check does not find what it gives.
 fn four(s: &[u8]) -> [ErrorEntry; 4]
     ensures { result ≡ batch_of 4 s.now }
 {
