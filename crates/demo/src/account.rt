@@ -55,7 +55,8 @@ impl Head {
         }
     }
 
-    // Heads 0 to 3 are ours; 4 is another supplier's.
+    // Heads 0 to 3 are ours; 4 is another supplier's. It goes by the number, which is the place on the line too: an enum beside it could
+    // say otherwise.
     pub fn is_ours(&self) -> bool {
         self.number < 4
     }
