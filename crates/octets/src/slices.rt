@@ -29,7 +29,7 @@ pub fn byte_at(s: &[u8], at: usize) -> u8
 }
 
 #[tactic(auto, unfolding(crate::specs::Mark::is_marked))]
-// Whether the first octets of `s` are those of a file's mark.
+// Whether the first octets of `s` are those of a file's mark. Not `starts_with`: here too, what lies past the end reads as 0.
 pub fn has_mark(s: &[u8], mark: [u8; 3]) -> bool
     ensures { result ≡ is_marked mark s.now }
 {
