@@ -55,7 +55,7 @@ pub fn fields(s: &[u8], nmt_state: NmtState, payload_size: u16) -> PResFrame
     }
 }
 
-// The flags in octets 4 and 5.
+// The flags in octets 4 and 5. No `From`: of a pair of octets it would not say which is which.
 fn flags_of(octet4: u8, octet5: u8) -> PResFlags
     ensures { result ≡ pres_flags_of octet4 octet5 }
 {

@@ -12,6 +12,7 @@ pub type Space = [u8; ROOM];
 const FILL: u8 = 0xFC;
 
 // What is lent to a writer: the first octets of a space.
+// The array with a number: `is_clean` looks at what lies behind the octets that are lent.
 #[derive(Clone, Copy)]
 pub struct Target {
     space: Space,

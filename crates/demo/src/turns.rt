@@ -1,4 +1,5 @@
 // The turns of the simulation: a call for a head, judged by what 01 has it come to, and counted in the head's account.
+// World and node come apart, as the scene lends them: a struct of both would be made for each turn.
 use crate::cause::Cause;
 use crate::entries::{Kind, entry};
 use crate::expected::{self, FRAME_LEN, answer_len};
@@ -144,6 +145,7 @@ pub fn head_reads_odd(w: &mut World, node: &mut Node, chance: u64) {
 }
 
 // Calls for a node that is not registered, and registering that is refused.
+// A `match`, as in `simulate::act`: closures would have to take all that any of them needs.
 pub fn box_refuses(w: &mut World, node: &Node, chance: u64) {
     let (got, cause) = match chance % 5 {
         0 => (outcome(w.take(STRANGER)), Cause::NotRegistered),

@@ -73,6 +73,7 @@ impl PowerlinkFrame {
         Ok(asnd)
     }
 
+    // Table and payload come apart, here and in `write`: a struct of both would be made for the call alone.
     // Writes the section with its payload, if it fits and the table holds an ASnd's service. SoC and SoA have no payload: what
     // is lent as one is left aside. As of `ASndFrame`, a line over its own `serialize_behind`: a trait of the two would be longer than both.
     pub fn serialize(

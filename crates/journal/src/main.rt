@@ -40,6 +40,7 @@ fn rest_after(answer: Result<Stop, ListError>, phase: Phase, at: usize) -> Optio
     }
 }
 
+// What these functions are lent comes one by one: a struct of it would be made in `main` for one call, and taken apart in each.
 // Lists a part, and writes `out` as often as it fills.
 fn list(
     rt: &(impl Print + Eprint),
@@ -69,6 +70,7 @@ fn list(
 }
 
 // Lists the first `n` octets, and moves what is left of them to the front.
+// An array, and a number beside it that says how much is held: a Vec would have to be allocated, and could fail.
 fn list_held(
     rt: &(impl Print + Eprint),
     streams: &mut Streams,

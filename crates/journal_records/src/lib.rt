@@ -37,6 +37,7 @@ pub enum WholeLenError {
 }
 
 // Writes one record, if it fits and is one that listing takes.
+// Node and entry come apart, as C gives them and `collector::take` has them: a struct of both would be made for the call alone.
 pub fn write(node: NodeId, entry: ErrorEntry, target: &mut [u8]) -> Result<usize, JournalError>
     ensures { WritesRecord node entry result target.old target.new }
 {

@@ -48,6 +48,7 @@ pub enum ListError {
 
 // What was done with a part: how many of its octets are dealt with, how many of text were written, why it was no more,
 // and what is to come if calls go on. The answer stands beside the counts, which a refusal has too.
+// Counts and no slices: the caller moves what is left within its buffer, which a slice of it would keep lent.
 #[derive(Clone, Copy, Debug, PartialEq, Eq)]
 pub struct Part {
     pub answer: Result<Stop, ListError>,
@@ -58,6 +59,7 @@ pub struct Part {
 
 // Lists as much of a part as there is room for: octets behind it are to come, unless it is the last. No iterator: each step goes
 // on where the one before has ended, in the octets and in the text.
+// Phase, octets and room come apart: the phase is kept from one call to the next, and the other two are lent for one.
 pub fn list_part(phase: Phase, bytes: &[u8], last: bool, out: &mut [u8]) -> Part
     ensures { Lists phase bytes.now last result out.old out.new }
 {
@@ -103,7 +105,7 @@ fn later(answer: Result<Stop, ListError>) -> Result<Stop, ListError>
     }
 }
 
-// One line, or none: the header's, that of the first record, or a refusal's.
+// One line, or none: the header's, that of the first record, or a refusal's. Two arms: a closure for each phase is no plainer.
 fn step(phase: Phase, bytes: &[u8], last: bool, out: &mut [u8]) -> Part
     ensures { Prints (step_of phase bytes.now last (length out.old)) result out.old out.new }
 {
@@ -219,7 +221,7 @@ fn refuse(error: ListError, phase: Phase, out: &mut [u8]) -> Part
     }
 }
 
-// 01's number.
+// 01's number. No `From`: the name says what the number is, and `refuse` alone asks for it.
 fn cause(error: ListError) -> u8
     ensures { result ≡ (list_cause (Err error)).number }
 {

@@ -10,6 +10,7 @@ use types::NodeId;
 
 // A text that is written to the front of a buffer, and how long it is. What would lie past the buffer's end is dropped.
 // Digits are made here: `{:X}` states no output, and `write!` to a slice is of `std::io`, which no library crate here needs.
+// Each call asks for room under `place_most` for what it adds: an invariant of `len` could not say how much that is.
 #[derive(Drop)]
 pub(crate) struct Line<'a> {
     out: &'a mut [u8],

@@ -1,5 +1,6 @@
 // The frames of a cycle's isochronous part: PReq and PRes (powerlink-rs: frame/poll).
 // Each has its `to_bytes` and `serialize`, as there: a trait of them would need as many blocks, and no caller takes either.
+// A frame holds its payload's size and no payload: the size is sent, and may be any number, as there.
 #![tactic(auto)]
 
 pub mod preq;

@@ -1,4 +1,5 @@
 // Error entries in lent octets, each at the front of a record: the store of both ends of the error exchange.
+// Octets and a place in them come apart, as in `octets`.
 #![tactic(auto)]
 
 ghost use Rattle.std.specs.Prelude.{◌≡◌, drop};

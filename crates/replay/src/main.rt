@@ -36,7 +36,7 @@ const READERS: u8 = 7;
 
 const CALLS: u8 = 22;
 
-// Makes the call of a record.
+// Makes the call of a record: by its number, for the reason that `writers::call` has.
 fn replay(s: &[u8]) -> Result<(), Difference> {
     let n = byte_at(s, CALL);
     if n <= READERS {

@@ -17,6 +17,7 @@ pub const MIN_SECTION: usize = 46;
 pub const MIN_FRAME: usize = ETH_LEN + MIN_SECTION;
 
 // The weight of a flag in its octet where it is set, and 0 where it is not.
+// Not `weight * u8::from(on)`, which is no plainer: the two cases are what is meant.
 pub fn flag(on: bool, weight: u8) -> u8
     ensures { (result ≡ pick on weight 0) × (result ≤ weight) }
 {

@@ -1,11 +1,12 @@
 -- The entries behind the front of a StatusResponse: reading them, by list and by step, and their octets.
 -- Assumes nothing.
-use Rattle.std.specs.Prelude.{ℕ, zero, suc, ◌+◌, ◌*◌, ◌-◌, List, [], ◌∷◌, ◌++◌, length, drop, replicate, leb, Option, Some, None}
+use Rattle.std.specs.Prelude.{ℕ, zero, suc, ◌+◌, ◌*◌, ◌-◌, ◌≡◌, List, [], ◌∷◌, ◌++◌, length, drop, replicate, leb, Option, Some, None, MatchOption}
 use Rattle.types.specs.Codes.{need}
 pub use Rattle.types.specs.Modes.{unless_terminator}
 use Rattle.error_entry.specs.Entry.{entry_length, entry_of, entry_bytes}
 use Rattle.error_entry.specs.declared.ErrorEntry.{ErrorEntry}
 use Rattle.status_response.specs.Fields.{front_length}
+use Rattle.status_response.specs.declared.walk.EntryWalk.{EntryWalk}
 
 -- at most n entries: reading stops at mode 0 or with fewer octets left than an entry has
 abbrev pub entries_in : ℕ → List ℕ → List ErrorEntry
@@ -28,6 +29,12 @@ step_at s offset =
     need (leb entry_length (length s)) None
     (need (leb offset (length s - entry_length)) None
     (unless_terminator (entry_of (drop offset s)).entry_type.mode (Some ((entry_of (drop offset s)), (offset + entry_length))) None))
+
+-- a walk's step: it gives the entry at the walk's offset and stands behind it, or gives the end and stands where it stood
+abbrev pub Walks : EntryWalk → Option ErrorEntry → EntryWalk → Type 0
+Walks w given left =
+    MatchOption given ((step_at w.payload.now w.offset ≡ None) × (left ≡ w))
+    (λ e. (step_at w.payload.now w.offset ≡ Some (e, left.offset)) × (left.payload ≡ w.payload))
 
 -- the octets of entries, one after the other
 abbrev pub entries_bytes : List ErrorEntry → List ℕ

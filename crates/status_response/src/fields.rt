@@ -79,7 +79,7 @@ fn fields(payload: &[u8], nmt_state: NmtState) -> StatusFields
 }
 
 impl StatusFields {
-    // The octets, with the error field.
+    // The octets, with the error field. No `From`: a pair of both would be made for the call alone.
     pub fn to_bytes(self, field: StaticErrorBitField) -> [u8; FRONT_LEN]
         ensures { result ≡ head_bytes self field }
     {

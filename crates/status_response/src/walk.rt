@@ -2,7 +2,7 @@
 ghost use Rattle.std.specs.Prelude.{◌≡◌};
 ghost use Rattle.std.specs.Iterator.{YieldsFirst, item_count};
 ghost use Rattle.status_response.specs.Fields.{front_length};
-ghost use Rattle.status_response.specs.Steps.{entries_from, step_at};
+ghost use Rattle.status_response.specs.Steps.{Walks, entries_from, step_at};
 
 use crate::fields::FRONT_LEN;
 use error_entry::{ENTRY_LEN, ErrorEntry};
@@ -29,7 +29,7 @@ impl<'a> EntryWalk<'a> {
 impl<'a> Iterator for EntryWalk<'a> {
     type Item = ErrorEntry;
 
-    ghost next_gives = { YieldsFirst (λ w. entries_from w.payload.now w.offset) };
+    ghost next_gives = { λ w given left. YieldsFirst (λ w. entries_from w.payload.now w.offset) w given left × Walks w given left };
 
     ghost remaining = { item_count (λ w. entries_from w.payload.now w.offset) };
 

@@ -21,6 +21,7 @@ pub enum PowerlinkError {
 
 impl PowerlinkError {
     // The number of the cause in 01's table, as C is told it.
+    // No `From`: an error has two octets, this one and `byte`, and the names say which is meant.
     pub fn number(self) -> u8
         ensures { result ≡ cause_number self }
     {

@@ -22,6 +22,7 @@ pub struct NodeId(pub u8);
 
 impl NodeId {
     // Whether it is the ID of a controlled node (01: a head): 1 to 239.
+    // Two compares: `contains` of a range is no plainer, as it takes the octet by reference.
     pub fn is_cn(self) -> bool
         ensures { result ≡ is_cn_node_id self.0 }
     {
