@@ -12,15 +12,13 @@ const TAKES: u64 = BOOK_LEN + 1;
 // How many entries of a head are booked: what was handed out, then what a copy of the box hands out until it refuses. They have to be
 // entries 0, 1, 2, .. of the head.
 fn booked(head: Head, mut at_box: Collector) -> Option<u64> {
-    let mut n = head.taken;
-    for _ in 0..TAKES {
+    for n in head.taken..head.taken.saturating_add(TAKES) {
         let Ok(e) = collector::take(&mut at_box, NodeId(head.id)) else {
             return Some(n);
         };
         if e != entry(head.number, n) {
             return None;
         }
-        n = n.saturating_add(1);
     }
     None
 }

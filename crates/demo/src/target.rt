@@ -66,10 +66,10 @@ impl Frame {
     // The node that a frame of the managing node is for: a PReq's destination, an SoA's target.
     pub fn addressed(&self) -> u8 {
         let octets = &self.octets;
-        if octets[14] == 3 {
-            octets[15]
+        if octets[MESSAGE_AT] == u8::from(MessageType::PReq) {
+            octets[DESTINATION_AT]
         } else {
-            octets[21]
+            octets[TARGET_AT]
         }
     }
 }
