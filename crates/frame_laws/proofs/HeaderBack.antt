@@ -21,7 +21,7 @@ use Rattle.frame_laws.proofs.Elements.{elements, elements_are}
 six : (l : List ℕ) → length l ≡ 6 → elements 6 0 l ≡ l
 six l e = elements_are 6 0 l (omega arith) ∙ take_all 6 l (omega arith)
 
-header_back : (h : EthernetHeader) (s : List ℕ) → IsHeader h → eth_header_of (eth_bytes h ++ s) ≡ h
+pub header_back : (h : EthernetHeader) (s : List ℕ) → IsHeader h → eth_header_of (eth_bytes h ++ s) ≡ h
 unfolding eth_header_of eth_bytes be_at
 header_back h s is =
     rw (six h.destination_mac.0 is.destination, six h.source_mac.0 is.source, is.ethertype)

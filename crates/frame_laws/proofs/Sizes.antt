@@ -18,7 +18,7 @@ use Rattle.frame.specs.declared.PowerlinkFrame.TheVariants.{PReq, PRes}
 use Rattle.codec.specs.Frame.{read_section, place_in_frame, payload_of}
 use Rattle.frame_laws.specs.ReadBack.{ReadsAs, IsHeader}
 use Rattle.frame_laws.specs.Sizes.{behind_fields, SizeReadsBack, SizesReadBack}
-use Rattle.frame_laws.proofs.HeaderBack.{frame_back, refused_back}
+use Rattle.frame_laws.proofs.HeaderBack.{header_back, frame_back, refused_back}
 use Rattle.frame_laws.proofs.PReqBack.{preq_back, preq_cut, preq_payload}
 use Rattle.frame_laws.proofs.PResBack.{pres_back, pres_cut, pres_payload}
 
@@ -40,6 +40,7 @@ module _ (services : List ℕ) (h : EthernetHeader) (f : PowerlinkFrame) (p s : 
       record {
         enough = λ fits. from_section (take n (behind_fields p)) (read (omega arith)) place;
         too_few = λ lacks. rw es (refused_back services h s is long BufferTooShort (cut (omega arith)));
+        header = λ lacks. rw es (header_back h s is);
       }
 
 pub sizes_read_back : SizesReadBack

@@ -2,6 +2,7 @@
 -- Assumes nothing.
 use Rattle.std.specs.Prelude.{ℕ, ◌+◌, ◌-◌, ◌^◌, ◌≤◌, ◌<◌, ◌≡◌, List, ◌++◌, length, take, replicate, Err}
 use Rattle.types.specs.Nodes.{broadcast_node}
+use Rattle.types.specs.Header.{eth_header_of}
 use Rattle.types.specs.declared.basic.EthernetHeader.{EthernetHeader}
 use Rattle.types.specs.declared.hal.PowerlinkError.TheVariants.{BufferTooShort}
 use Rattle.section.specs.Write.{min_section}
@@ -18,11 +19,12 @@ use Rattle.frame_laws.specs.ReadBack.{ReadsAs, IsHeader}
 abbrev pub behind_fields : List ℕ → List ℕ
 behind_fields payload = payload ++ replicate (min_section - (poll_fields_length + length payload)) 0
 
--- a frame of the size n: the first n of these octets are read as its payload, or are too few, which is 01's cause 1
+-- a frame of the size n: the first n of these octets are read as its payload, or are too few, which is 01's cause 1; the header reads as itself then too
 pub record SizeReadsBack (services : List ℕ) (h : EthernetHeader) (f : PowerlinkFrame) (n : ℕ) (payload : List ℕ) : Type 0 where
   pub enough : n ≤ length (behind_fields payload) → ReadsAs services (frame_bytes h f payload) h f (take n (behind_fields payload))
   pub too_few : length (behind_fields payload) < n
       → deserialize_frame services (frame_bytes h f payload) ≡ Err BufferTooShort
+  pub header : length (behind_fields payload) < n → eth_header_of (frame_bytes h f payload) ≡ h
 
 -- the size is a number of 16 bits; PRes goes to node 255, with rs at most 7, as in `Faithful`
 pub record SizesReadBack : Type 0 where
