@@ -13,7 +13,7 @@ loop-e-init c =
 pub loop-e-preserved-then-takes_place : goal.loop-e-preserved-then-takes_place
 loop-e-preserved-then-takes_place c =
     join_one c.args.block _ c.loop-e.state _ c.loop-e.invariant c.in-Some.e (entries_from c.next.new.self.payload.now c.next.new.self.offset)
-    c.in-Some.ensures.steps (sym c.if-takes_place.ensures) c.push.new.state c.push.ensures.0 c.push.ensures.1
+    c.in-Some.ensures.steps.0 (sym c.if-takes_place.ensures) c.push.new.state c.push.ensures.0 c.push.ensures.1
 
 pub returns : goal.returns
-returns c = join_end c.args.block _ c.loop-e.state _ c.loop-e.invariant c.in-None.ensures.steps.0
+returns c = join_end c.args.block _ c.loop-e.state _ c.loop-e.invariant c.in-None.ensures.steps.0.0
