@@ -35,7 +35,8 @@ pub fn powerlink_deserialize_frame_v2(
 }
 
 // The section `s` of a frame of a kind. It is matched, as in `codec`: no table of functions says that plainer.
-// Tried: Result<[u64; 16], PowerlinkError>. It proves, but SoC and ASnd are read 8 to 16 % slower: all kinds then share one store.
+// The answers from here on are the number that C gets: a Result<[u64; 16], PowerlinkError> was tried and proves, but is taken apart again
+// at once, and SoC and ASnd are read 8 to 16 % slower, since all kinds then share one store.
 fn read_kind(
     services: &Services,
     kind: MessageType,

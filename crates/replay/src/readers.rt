@@ -55,6 +55,7 @@ fn eth_header(s: &[u8]) -> Result<(), Difference> {
     )
 }
 
+// It and `frame` differ in the call and in how many numbers it gives: one for both would take the call as a closure and be no shorter.
 fn pl_header(s: &[u8]) -> Result<(), Difference> {
     let mut octet = fill(s);
     let mut values = [many(s); 3];
