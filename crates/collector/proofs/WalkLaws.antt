@@ -8,7 +8,6 @@ use native.Mathlib.Omega.{arith}
 use lib.ListN.{length, drop}
 use lib.Seq.{get_or-drop}
 use lib.Dec.{leb}
-use Rattle.std.specs.Iterator.{YieldsFirst}
 use Rattle.std.proofs.lemmas.Iterator.{YieldsList}
 use Rattle.std.proofs.lemmas.Iterator.Consumers.{YieldsList-from_shown}
 use Rattle.octets.proofs.NumberBack.{Octets}
@@ -18,7 +17,7 @@ use Rattle.types.specs.declared.error_mode.ErrorEntryMode.TheVariants.{Terminato
 use Rattle.error_entry.specs.Entry.{entry_of}
 use Rattle.error_entry.specs.declared.ErrorEntry.{ErrorEntry}
 use Rattle.status_response.specs.ReadBack.{EachInRange}
-use Rattle.status_response.specs.Steps.{Walks, entries_in, entries_from, status_entries, unless_terminator}
+use Rattle.status_response.specs.Steps.{Walks, left_of, entries_in, entries_from, status_entries, unless_terminator}
 use Rattle.status_response.specs.declared.walk.EntryWalk.{EntryWalk}
 use Rattle.records.proofs.RecordLaws.{in_range}
 
@@ -55,11 +54,6 @@ pub entries_in_range : (s : List ℕ) → Octets s → EachInRange (status_entri
 unfolding status_entries
 entries_in_range s o = each_in (length s) (drop 14 s) (λ i. rw (get_or-drop 14 s i 0) (o (14 + i)))
 
-abbrev left_of : EntryWalk → List ErrorEntry
-left_of w = entries_from w.payload.now w.offset
-
-pub walk_yields : (w : EntryWalk) (es : List ErrorEntry) → left_of w ≡ es
-    → YieldsList (λ v given left. YieldsFirst left_of v given left × Walks v given left) (λ e. e) w es
+pub walk_yields : (w : EntryWalk) (es : List ErrorEntry) → left_of w ≡ es → YieldsList Walks (λ e. e) w es
 walk_yields w es is =
-    subst (YieldsList (λ v given left. YieldsFirst left_of v given left × Walks v given left) (λ e. e) w) is
-    (YieldsList-from_shown _ (λ e. e) left_of (λ v u h. ap length h.0.0) (λ v e u h. h.0) w)
+    subst (YieldsList Walks (λ e. e) w) is (YieldsList-from_shown _ (λ e. e) left_of (λ v u h. ap length h.0.0) (λ v e u h. h.0) w)

@@ -1,6 +1,7 @@
 -- The entries behind the front of a StatusResponse: reading them, by list and by step, and their octets.
 -- Assumes nothing.
 use Rattle.std.specs.Prelude.{ℕ, zero, suc, ◌+◌, ◌*◌, ◌-◌, ◌≡◌, List, [], ◌∷◌, ◌++◌, length, drop, replicate, leb, Option, Some, None, MatchOption}
+use Rattle.std.specs.Iterator.{YieldsFirst}
 use Rattle.types.specs.Codes.{need}
 pub use Rattle.types.specs.Modes.{unless_terminator}
 use Rattle.error_entry.specs.Entry.{entry_length, entry_of, entry_bytes}
@@ -30,11 +31,17 @@ step_at s offset =
     (need (leb offset (length s - entry_length)) None
     (unless_terminator (entry_of (drop offset s)).entry_type.mode (Some ((entry_of (drop offset s)), (offset + entry_length))) None))
 
--- a walk's step: it gives the entry at the walk's offset and stands behind it, or gives the end and stands where it stood
+-- the entries that a walk has left
+abbrev pub left_of : EntryWalk → List ErrorEntry
+left_of w = entries_from w.payload.now w.offset
+
+-- a walk's step: it gives the first of the entries that are left, which is that at the walk's offset, and stands behind it; or it gives
+-- the end, and stands where it stood
 abbrev pub Walks : EntryWalk → Option ErrorEntry → EntryWalk → Type 0
-Walks w given left =
-    MatchOption given ((step_at w.payload.now w.offset ≡ None) × (left ≡ w))
-    (λ e. (step_at w.payload.now w.offset ≡ Some (e, left.offset)) × (left.payload ≡ w.payload))
+Walks w given after =
+    YieldsFirst left_of w given after
+    × MatchOption given ((step_at w.payload.now w.offset ≡ None) × (after ≡ w))
+    (λ e. (step_at w.payload.now w.offset ≡ Some (e, after.offset)) × (after.payload ≡ w.payload))
 
 -- the octets of entries, one after the other
 abbrev pub entries_bytes : List ErrorEntry → List ℕ

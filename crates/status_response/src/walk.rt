@@ -1,8 +1,8 @@
 // The walk over the entries of a payload: it holds the payload's bytes and the offset of the next entry.
 ghost use Rattle.std.specs.Prelude.{◌≡◌};
-ghost use Rattle.std.specs.Iterator.{YieldsFirst, item_count};
+ghost use Rattle.std.specs.Iterator.{item_count};
 ghost use Rattle.status_response.specs.Fields.{front_length};
-ghost use Rattle.status_response.specs.Steps.{Walks, entries_from, step_at};
+ghost use Rattle.status_response.specs.Steps.{Walks, left_of, step_at};
 
 use crate::fields::FRONT_LEN;
 use error_entry::{ENTRY_LEN, ErrorEntry};
@@ -29,9 +29,9 @@ impl<'a> EntryWalk<'a> {
 impl<'a> Iterator for EntryWalk<'a> {
     type Item = ErrorEntry;
 
-    ghost next_gives = { λ w given left. YieldsFirst (λ w. entries_from w.payload.now w.offset) w given left × Walks w given left };
+    ghost next_gives = { Walks };
 
-    ghost remaining = { item_count (λ w. entries_from w.payload.now w.offset) };
+    ghost remaining = { item_count left_of };
 
     fn next(&mut self) -> Option<ErrorEntry> {
         let (entry, offset) = step_from(self.payload, self.offset)?;
