@@ -15,7 +15,7 @@ use Rattle.journal_records.specs.Listing.{listing, version1}
 use Rattle.journal_records.specs.Parts.{text_from}
 use Rattle.journal_records.specs.declared.listing.Phase.{Phase}
 use Rattle.journal_records.specs.declared.listing.Phase.TheVariants.{Header}
-use Rattle.journal.specs.Rest.{Stands, Goes, Left, Waits, buffer_len, record_len}
+use Rattle.journal.specs.Rest.{Stands, Goes, Left, Waits, Buffer, buffer_len, record_len}
 use Rattle.journal.specs.Streams.{fresh, got_more}
 use Rattle.journal.specs.declared.Rest.{Rest}
 use Rattle.journal.specs.declared.streams.Failed.{Failed}
@@ -61,21 +61,27 @@ module _ (text : List ℕ) (n : ℕ) {q : Phase} {before after : Streams} {at : 
 
 -- ---- a read of n octets into the buffer, behind those that are held
 
-module _ (text part : List ℕ) (held n : ℕ) (e : length part ≡ length (mid_of held (length text - held) text)) (few : held ≤ length text) (within : n ≤ length part) where
+module _ (text part : List ℕ) (held n : ℕ) (size : Buffer text) (e : length part ≡ length (mid_of held (buffer_len - held) text)) (few : held < record_len) (within : n ≤ length part) where
+  fits : held ≤ length text
+  fits = omega (arith, record_fits, few, size)
+
   abbrev filled : List ℕ
-  filled = put_mid held (length text - held) text part
+  filled = put_mid held (buffer_len - held) text part
 
   abbrev got : List ℕ
   got = take n (drop held filled)
 
+  pub read_fits : held + n ≤ buffer_len
+  read_fits = omega (arith, e, fits, size, mid_len held buffer_len text (omega (arith, fits, size)))
+
   pub read_within : held + n ≤ length filled
-  read_within = omega (arith, same_len_mid held (length text - held) text part e, e, mid_len held (length text) text (omega arith))
+  read_within = omega (arith, same_len_mid held (buffer_len - held) text part e, e, fits, size, mid_len held buffer_len text (omega (arith, fits, size)))
 
   got_length : length got ≡ n
   got_length = length-take-le n (drop held filled) (omega (arith, length-drop held filled, read_within))
 
   all_held : take (held + n) filled ≡ take held text ++ got
-  all_held = take-add held n filled ∙ ap (λ (l : List ℕ). l ++ got) (take_put held (length text - held) text part few)
+  all_held = take-add held n filled ∙ ap (λ (l : List ℕ). l ++ got) (take_put held (buffer_len - held) text part fits)
 
   -- octets may follow those that were read before: these do
   pub stands_read : {p : Phase} {before read : Streams} → Stands before p (take held text) → before.ended ≡ false → read ≡ got_more before n

@@ -6,7 +6,7 @@
 mod streams;
 
 ghost use Rattle.std.specs.Prelude.{◌-◌, ◌≤◌, ◌<◌, true, false, ◌≡◌, length, take};
-ghost use Rattle.journal.specs.Rest.{rest_after, buffer_len, record_len, Buffer, Stands, Listed, Left, Waits, InAll};
+ghost use Rattle.journal.specs.Rest.{rest_after, buffer_len, record_len, Stands, Listed, Left, Waits, InAll};
 ghost use Rattle.journal.specs.Streams.{fresh, count_most, has_room};
 ghost use Rattle.journal.specs.declared.End.TheVariants as End·cases;
 ghost use Rattle.journal_records.specs.Parts.{crowded};
@@ -15,6 +15,11 @@ use journal_records::listing::{ListError, Phase, Stop, list_part};
 use octets::slices::{front, tail};
 use std::io::Input;
 use streams::{Failed, Streams, tell_too_long};
+
+const BUFFER_LEN: usize = 65536;
+
+// What is read into, and what is written: many records, of which one turn lists all.
+type Buffer = [u8; BUFFER_LEN];
 
 // What follows a part of the journal: octets that go on from `at`.
 #[derive(Clone, Copy, Debug, PartialEq, Eq)]
@@ -47,10 +52,10 @@ fn list(
     streams: &mut Streams,
     phase: Phase,
     bytes: &[u8],
-    out: &mut [u8],
+    out: &mut Buffer,
 ) -> Result<Option<Rest>, Failed>
     requires stands { Stands streams.old phase bytes.now }
-    requires counted { (streams.old.said ≤ count_most) × ((length bytes.now ≤ buffer_len) × Buffer out.old) }
+    requires counted { (streams.old.said ≤ count_most) × (length bytes.now ≤ buffer_len) }
     ensures { Listed bytes.now streams.old streams.new result }
 {
     let mut to_come = phase;
@@ -75,12 +80,12 @@ fn list_held(
     rt: &(impl Print + Eprint),
     streams: &mut Streams,
     phase: Phase,
-    text: &mut [u8],
+    text: &mut Buffer,
     n: usize,
-    out: &mut [u8],
+    out: &mut Buffer,
 ) -> Result<Option<Rest>, Failed>
     requires stands { Stands streams.old phase (take n text.old) }
-    requires counted { (streams.old.said ≤ count_most) × ((n ≤ length text.old) × (Buffer text.old × Buffer out.old)) }
+    requires counted { (streams.old.said ≤ count_most) × (n ≤ length text.old) }
     ensures { Left streams.old streams.new result text.new }
 {
     let rest = list(rt, streams, phase, front(text, n), out)?;
@@ -100,12 +105,12 @@ fn turn(
     rt: &(impl Input + Print + Eprint),
     streams: &mut Streams,
     phase: Phase,
-    text: &mut [u8],
+    text: &mut Buffer,
     held: usize,
-    out: &mut [u8],
+    out: &mut Buffer,
 ) -> Result<Option<Rest>, Failed>
     requires stands { Stands streams.old phase (take held text.old) × (streams.old.ended ≡ false) }
-    requires room { (has_room streams.old ≡ true) × ((held < record_len) × (Buffer text.old × Buffer out.old)) }
+    requires room { (has_room streams.old ≡ true) × (held < record_len) }
     ensures { Waits streams.old streams.new result text.new }
 {
     let got = streams.read(rt, &mut text[held..])?;
@@ -133,10 +138,10 @@ impl From<Failed> for End {
 fn all_turns(
     rt: &(impl Input + Print + Eprint),
     streams: &mut Streams,
-    text: &mut [u8],
-    out: &mut [u8],
+    text: &mut Buffer,
+    out: &mut Buffer,
 ) -> Result<(), End>
-    requires { (streams.old ≡ fresh) × (Buffer text.old × Buffer out.old) }
+    requires { streams.old ≡ fresh }
     ensures { InAll streams.new result }
 {
     let mut to_come = Phase::Header;
@@ -153,17 +158,10 @@ fn all_turns(
     Err(End::TooLong)
 }
 
-// 65,536 zeros.
-fn large_buffer() -> [u8; 65536]
-    ensures { 65536 ≡ length result }
-{
-    [0; 65536]
-}
-
 fn main(rt: HostRuntime) {
     let mut streams = Streams::new();
-    let mut text = large_buffer();
-    let mut out = large_buffer();
+    let mut text = [0; BUFFER_LEN];
+    let mut out = [0; BUFFER_LEN];
     // What has failed is said on standard error.
     let _ = all_turns(&rt, &mut streams, &mut text, &mut out);
 }

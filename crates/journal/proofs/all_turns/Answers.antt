@@ -3,7 +3,6 @@
 -- Assumes nothing.
 use mathlib.Core.Path.{sym, ap, ◌∙◌}
 use native.Mathlib.Omega.{arith}
-use borrow.Author.Rules.{rules}
 use Rattle.std.specs.Prelude.{Ok}
 use Rattle.journal.specs.declared.streams.Streams.{Streams}
 use Rattle.journal.proofs.Counts.{room_got}
@@ -12,8 +11,7 @@ use Rattle.journal.proofs.all_turns.Goals as goal
 
 pub loop-to_come-init : goal.loop-to_come-init
 loop-to_come-init g c =
-    let e = c.requires.0 in
-    ((at_start e, ap (λ (x : Streams). x.ended) e), (record_some, (search rules, search rules)))
+    ((at_start c.requires, ap (λ (x : Streams). x.ended) c.requires), record_some)
 
 pub loop-to_come-smaller : goal.loop-to_come-smaller
 loop-to_come-smaller g c =
@@ -23,4 +21,4 @@ loop-to_come-smaller g c =
 pub loop-to_come-preserved : goal.loop-to_come-preserved
 loop-to_come-preserved g c =
     let k = (waited c.loop-to_come.streams _ _ _ _ c.in_ok-rest.ensures (ap Ok c.in-Some.is)).0 in
-    ((k.stands, k.more), (k.few, (search rules, search rules)))
+    ((k.stands, k.more), k.few)

@@ -17,11 +17,10 @@ list-requires g c =
     let n = c.requires.counted.1 in
     record {
       stands = subst (λ (l : List ℕ). Stands c.args.streams.now c.args.phase l) (sym c.front.ensures.octets) c.requires.stands;
-      counted =
-          (c.requires.counted.0, (omega (arith, ap length c.front.ensures.octets, length-take-le c.args.n c.args.text.now n.0, n.1.0), n.1.1));
+      counted = (c.requires.counted.0, omega (arith, ap length c.front.ensures.octets, length-take-le c.args.n c.args.text.now n));
     }
 
 pub returns : goal.returns
 returns g c =
-    keeps c.args.text.now c.args.n (listed_as _ _ _ _ _ _ c.front.ensures.octets (ap Ok c.in-Some.is) c.in_ok-rest.ensures) c.requires.counted.1.0 refl
+    keeps c.args.text.now c.args.n (listed_as _ _ _ _ _ _ c.front.ensures.octets (ap Ok c.in-Some.is) c.in_ok-rest.ensures) c.requires.counted.1 refl
     c.copy_within.ensures.after
