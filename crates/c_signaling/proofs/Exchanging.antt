@@ -7,6 +7,7 @@ use mathlib.Core.List.{List, [], ◌∷◌}
 use lib.ListN.{length}
 use lib.Dec.{eqb, leb}
 use borrow.Author.Tests.{eqb-true, eqb-false}
+use Rattle.section.proofs.CausesTell.{refused_number}
 use Rattle.std.specs.Prelude.{Result, Ok, Err, Option}
 use Rattle.types.specs.Codes.{pick}
 use Rattle.types.specs.Modes.{mode_of}
@@ -32,7 +33,7 @@ use Rattle.c_signaling.specs.Exchanges as ex
 use Rattle.c_signaling.specs.Exchanges.{CQuiet, CAnswerAgain, CRequestAgain, CNoRepeat, CQuietly, CExchange, CExchanges, CFound}
 use Rattle.c_signaling.specs.Log.{Raising, Call, reporter_raise, reporter_answer, reporter_read, collector_register, collector_read, collector_request, collector_take, host_sends, raised_entry, raise_events, answer_events, request_events, reading, events_of}
 use Rattle.c_signaling.proofs.Steps.{called, the_step}
-use Rattle.c_signaling.proofs.Told.{unnamed_number, unasked_number, box_row}
+use Rattle.c_signaling.proofs.Told.{unasked_number, box_row}
 use Rattle.types.specs.declared.hal.PowerlinkError.{PowerlinkError}
 use Rattle.types.specs.declared.error_mode.UnknownMode.{UnknownMode}
 use Rattle.types.specs.declared.error_mode.ErrorEntryMode.{ErrorEntryMode}
@@ -48,7 +49,7 @@ not_0 n e h = absurd (eqb-false n 0 h (sym e))
 module _ {i : ℕ} {w v : World} where
   answer_written : (m : Result NmtState PowerlinkError) (k : ℕ) (f : NmtState → Coded) (t t' : List ℕ) (n n' o o' : ℕ) → WritesCoded (stated k m f) 0 t t' n n' o o'
       → Translated i w (answer_events m 0 t' n') v → Step i w (answered (Ok n') t') v
-  answer_written (Err x) k f t t' n n' o o' c s = not_0 _ c.cause (unnamed_number (leb k (length t)) x)
+  answer_written (Err x) k f t t' n n' o o' c s = not_0 _ c.cause (refused_number (leb k (length t)) x)
   answer_written (Ok m) k f t t' n n' o o' c s = the_step s
 
   request_written : (j : ℕ) (f : NmtState → RequestFields) (m : Result NmtState PowerlinkError) (p : Option Account) (t t' : List ℕ) (n n' o o' : ℕ)

@@ -79,10 +79,6 @@ request_row j f t (Some p) r n n' o o' y =
 
 -- ---- a code that names no state does not answer 0
 
-pub unnamed_number : (fits : Bool) (e : PowerlinkError) → eqb (write_cause (need fits (Err BufferTooShort) (Err e))).number 0 ≡ false
-unnamed_number true e = no_0 e
-unnamed_number false e = refl
-
 unasked_by : (fits : Bool) (e : PowerlinkError) → eqb (rules.request_cause (rules.as_request (need fits (Err BufferTooShort) (Err e)))).number 0 ≡ false
 unasked_by true e = no_0 e
 unasked_by false e = refl

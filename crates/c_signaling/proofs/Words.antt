@@ -6,6 +6,7 @@ use mathlib.Core.Path.{◌≡◌, refl, ap, ◌∙◌}
 use mathlib.Core.List.{List, [], ◌∷◌, ◌++◌}
 use lib.ListN.{length, take}
 use lib.Dec.{eqb, leb, ltb}
+use Rattle.section.proofs.CausesTell.{refused_number}
 use Rattle.std.specs.Prelude.{Result, Ok, Err, Option}
 use Rattle.types.specs.Codes.{pick}
 use Rattle.types.specs.Modes.{mode_of}
@@ -31,7 +32,7 @@ use Rattle.c_signaling.specs.Calls as c
 use Rattle.c_signaling.specs.Calls.{Site, CStep, CRun, seen_in, CallsAreSteps}
 use Rattle.c_signaling.specs.Log.{Raising, Call, Seen, seen_with, seen, if_zero, raised_entries, raised_entry, raise_events, answer_events, request_events, events_of, events}
 use Rattle.c_signaling.proofs.Steps.{called, runs}
-use Rattle.c_signaling.proofs.Told.{unnamed_number, unasked_number}
+use Rattle.c_signaling.proofs.Told.{unasked_number}
 use Rattle.types.specs.declared.error_mode.UnknownMode.{UnknownMode}
 use Rattle.types.specs.declared.error_mode.ErrorEntryMode.{ErrorEntryMode}
 
@@ -86,7 +87,7 @@ module _ (i : ℕ) (l : Log) where
   answer_seen : (m : Result NmtState PowerlinkError) (k : ℕ) (f : NmtState → Coded) (r : ℕ) (t t' : List ℕ) (n : ℕ)
       → r ≡ (write_cause (coded_answer (stated k m f) t)).number
       → seen_in i (answer_events m r t' n ++ l) ≡ with_answers (if_zero r (answers_sent i l ++ (take n t' ∷ [])) (answers_sent i l))
-  answer_seen (Err x) k f r t t' n e = rw (e, unnamed_number (leb k (length t)) x)
+  answer_seen (Err x) k f r t t' n e = rw (e, refused_number (leb k (length t)) x)
   answer_seen (Ok m) k f r t t' n e = ap with_answers (answered_if n _ t' (answers_sent i l) (eqb r 0))
 
   request_seen : (j : ℕ) (f : NmtState → RequestFields) (m : Result NmtState PowerlinkError) (p : Option Account) (r : ℕ) (t t' : List ℕ) (n : ℕ)

@@ -2,10 +2,10 @@
 -- Assumes nothing.
 use mathlib.Core.Path.{◌≡◌, refl, ap}
 use lib.ListN.{get_or}
+use mathlib.Mathlib.Logic.Function.Defs.{LeftInverse-Injective}
 use Rattle.std.specs.Prelude.{Result, Ok, Err}
 use Rattle.types.specs.Causes.{Cause, cause_of}
 use Rattle.types.specs.Messages.{message_of}
-use Rattle.types.proofs.Apart.{apart}
 use Rattle.types.proofs.CausesTell.{error_told_lem, error_of, refused_not_0, refused_or, refused_back}
 use Rattle.types.proofs.ReadBack.{message_known}
 use Rattle.codec.specs.CausesTell.{CausesTell}
@@ -34,13 +34,13 @@ causes_tell =
     record {
       frame = λ f. refl;
       no_frame = λ e. refl;
-      frames_apart = apart cause_of error_of (λ e. error_told_lem e 0);
+      frames_apart = LeftInverse-Injective error_of cause_of (λ e. error_told_lem e 0);
       frame_or_not = λ f e. refused_not_0 e _;
       eth_header = λ h. refl;
       no_eth_header = λ e. refl;
-      eth_headers_apart = apart cause_of error_of (λ e. error_told_lem e 0);
+      eth_headers_apart = LeftInverse-Injective error_of cause_of (λ e. error_told_lem e 0);
       eth_header_or_not = λ h e. refused_not_0 e _;
       pl_header = λ h. refl;
       no_pl_header = λ e. refl;
-      pl_headers_apart = apart pl_header_cause pl_back pl_back_lem;
+      pl_headers_apart = LeftInverse-Injective pl_back pl_header_cause pl_back_lem;
     }

@@ -2,7 +2,7 @@
 -- Assumes nothing.
 use Prim.Native.Nat.{ℕ, zero, suc, ◌+◌, ◌≤◌, ◌<◌}
 use mathlib.Core.Path.{◌≡◌}
-use mathlib.Core.Bool.{Bool, true, false, beq}
+use mathlib.Core.Bool.{Bool, true, false, beq, true≢false}
 use mathlib.Core.List.{List}
 use native.Mathlib.Omega.{arith}
 use lib.ListN.{length}
@@ -23,7 +23,7 @@ use Rattle.collector.proofs.RegisterLaws.{free_none, free_some}
 -- ---- register
 
 pub cn_low : (i : ℕ) → is_cn_node_id i ≡ true → 1 ≤ i
-cn_low zero cn = let z : ◌≡◌ {A = ℕ} 0 1 = cc in absurd (omega arith)
+cn_low zero cn = absurd (true≢false cc)
 cn_low (suc i) cn = omega arith
 
 module _ (s : List ℕ) (i : ℕ) where

@@ -4,10 +4,10 @@ use Prim.Native.Nat.{ℕ}
 use mathlib.Core.Path.{◌≡◌, refl, sym, ap, ◌∙◌}
 use mathlib.Core.Logic.{inl, inr}
 use mathlib.Core.List.{List}
-use native.Mathlib.Omega.{arith}
 use lib.ListN.{get_or, drop}
 use lib.Seq.{get_or-drop}
 use borrow.Author.Tests.{ne_eqb}
+use mathlib.Core.Bool.{true≢false}
 use Rattle.std.specs.Prelude.{Result, Ok, Err, Some, None, Option}
 use Rattle.types.specs.Header.{eth_length}
 use Rattle.types.specs.declared.NodeId.{NodeId}
@@ -40,8 +40,8 @@ source_or (Err e) = None
 
 source_back : (x : Result (Option NodeId) PowerlinkError) (source : NodeId) → source_or x ≡ Some source → x ≡ Ok (Some source)
 source_back (Ok (Some s)) source e = ap Ok e
-source_back (Ok None) source e = let z : ◌≡◌ {A = ℕ} 0 1 = cc in absurd (omega arith)
-source_back (Err x) source e = let z : ◌≡◌ {A = ℕ} 0 1 = cc in absurd (omega arith)
+source_back (Ok None) source e = absurd (true≢false cc)
+source_back (Err x) source e = absurd (true≢false cc)
 
 pub any_table : AnyTable
 unfolding read_answer

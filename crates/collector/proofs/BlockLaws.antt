@@ -8,7 +8,7 @@ use native.Mathlib.Omega.{arith}
 use lib.ListN.{get_or, set}
 use lib.Seq.{get_or-set_other}
 use lib.Dec.{eqb}
-use Rattle.octets.proofs.Order.{le_or_lt}
+use Rattle.std.proofs.lemmas.Bool.{cases_lt}
 use Rattle.error_entry.specs.declared.ErrorEntry.{ErrorEntry}
 use Rattle.records.specs.Records.{with_record}
 use Rattle.records.specs.Ring.{ring}
@@ -45,9 +45,9 @@ kept_set s k a x small o j ne h = get_or-set_other s (block k + a) (block o + j)
 pub kept_record : (s : List ℕ) (k p : ℕ) (e : ErrorEntry) → Kept s (with_record s (record_place k p) e) k
 kept_record s k p e o j ne h =
     ⊎_elim
-    (λ (l : o ≤ k). octet_record s (record_place k p) e (block o + j) (let d : o < k = omega arith in omega arith))
     (λ (l : k < o). octet_record_above s (record_place k p) e (block o + j) (omega arith))
-    (le_or_lt o k)
+    (λ (l : o ≤ k). octet_record s (record_place k p) e (block o + j) (let d : o < k = omega arith in omega arith))
+    (cases_lt k o)
 
 module _ (s t : List ℕ) (k : ℕ) (kept : Kept s t k) (o : ℕ) (ne : o ≡ k → ⊥) where
   pub node_kept : node_in t o ≡ node_in s o

@@ -2,13 +2,13 @@
 -- Assumes nothing.
 use Prim.Native.Nat.{ℕ, ◌+◌, ◌≤◌}
 use mathlib.Core.Path.{◌≡◌, refl, sym, ap, ◌∙◌}
-use mathlib.Core.Bool.{Bool, true, false, not}
+use mathlib.Core.Bool.{Bool, true, false, not, true≢false}
 use mathlib.Core.List.{List, [], ◌∷◌}
 use native.Mathlib.Omega.{arith}
 use lib.ListN.{length}
 use denote.Ref.{Bor}
 use Rattle.std.specs.List.{filter}
-use Rattle.octets.proofs.Cases.{either}
+use borrow.Table.Steps.{cases as either}
 use Rattle.octets.proofs.NumberBack.{Octets}
 use Rattle.types.specs.Codes.{pick}
 use Rattle.error_entry.specs.declared.ErrorEntry.{ErrorEntry}
@@ -45,7 +45,7 @@ booked_in_range s o = bookable_range (status_entries s) (entries_in_range s o)
 
 passes : (b : Bool) → not b ≡ true → (l m : List ErrorEntry) → pick b l m ≡ m
 passes false h l m = refl
-passes true h l m = let z : ◌≡◌ {A = ℕ} 0 1 = cc in absurd (omega arith)
+passes true h l m = absurd (true≢false cc)
 
 -- ---- entries join a book one by one: t is the state that all have joined
 

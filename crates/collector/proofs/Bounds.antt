@@ -1,7 +1,7 @@
 -- The bounds of a box.
 -- Assumes nothing.
 use Prim.Native.Nat.{ℕ, ◌+◌, ◌≤◌, ◌<◌}
-use mathlib.Core.Bool.{Bool, true, false, ◌&&◌}
+use mathlib.Core.Bool.{Bool, true, false, ◌&&◌, true≢false}
 use mathlib.Core.Path.{◌≡◌, refl, sym, ap, ◌∙◌}
 use mathlib.Core.List.{List, [], ◌∷◌}
 use native.Mathlib.Omega.{arith}
@@ -9,7 +9,7 @@ use lib.ListN.{length}
 use lib.Dec.{eqb, leb, ltb}
 use borrow.Author.Tests.{eqb-true, leb-true, ltb-true}
 use Rattle.std.specs.Prelude.{Result, Ok, Err, Some, None, Option}
-use Rattle.octets.proofs.Cases.{either}
+use borrow.Table.Steps.{cases as either}
 use Rattle.types.specs.Codes.{need}
 use Rattle.error_entry.specs.declared.ErrorEntry.{ErrorEntry}
 use Rattle.collector.specs.Bounds.{BoxRun, fresh, registers, reads, takes, is_in, EachOnce, OfHeads, BoxBounds}
@@ -102,13 +102,13 @@ vacant_by false e = cc
 
 free_by : (o : Option Account) (n : ℕ) → Registered (register_vacant o n) → (is_registered o ≡ false) × (0 < n)
 free_by None n e = (refl, ltb-true 0 n (vacant_by (ltb 0 n) e))
-free_by (Some p) n e = let z : ◌≡◌ {A = ℕ} 0 1 = cc in absurd (omega arith)
+free_by (Some p) n e = absurd (true≢false cc)
 
 ok_by : (low high : Bool) (o : Option Account) (n : ℕ) → Registered (need (low && high) (Err IdOutOfRange) (register_vacant o n))
     → (low ≡ true) × (high ≡ true) × (is_registered o ≡ false) × (0 < n)
 ok_by true true o n e = let f = free_by o n e in (refl, refl, f.0, f.1)
-ok_by true false o n e = let z : ◌≡◌ {A = ℕ} 0 1 = cc in absurd (omega arith)
-ok_by false high o n e = let z : ◌≡◌ {A = ℕ} 0 1 = cc in absurd (omega arith)
+ok_by true false o n e = absurd (true≢false cc)
+ok_by false high o n e = absurd (true≢false cc)
 
 why : (i : ℕ) (b : Box) → Registered (register_answer i b) → WhyRegistered i b
 unfolding register_answer

@@ -1,8 +1,8 @@
 -- Number and values of an answer tell which it is.
 -- Assumes nothing.
 use mathlib.Core.Path.{◌≡◌, refl, ap, ◌∙◌}
+use mathlib.Mathlib.Logic.Function.Defs.{LeftInverse-Injective}
 use Rattle.std.specs.Prelude.{Result, Ok, Err, Option, Some, None, ℕ}
-use Rattle.types.proofs.Apart.{apart}
 use Rattle.types.specs.declared.hal.PowerlinkError.{PowerlinkError}
 use Rattle.types.proofs.CausesTell.{not_0, below_8, error_told_lem}
 use Rattle.error_entry.proofs.Values.{flag_told_lem, values_tell}
@@ -73,9 +73,9 @@ causes_tell =
       taken = λ e. refl;
       take_not_registered = refl;
       nothing_booked = refl;
-      register = apart register_cause register_told register_told_lem;
-      read = apart read_cause read_told read_told_lem;
-      flags = apart flags_cause flags_told flags_told_lem;
-      request = apart request_cause request_told request_told_lem;
-      take = apart take_cause take_told take_told_lem;
+      register = LeftInverse-Injective register_told register_cause register_told_lem;
+      read = LeftInverse-Injective read_told read_cause read_told_lem;
+      flags = LeftInverse-Injective flags_told flags_cause flags_told_lem;
+      request = LeftInverse-Injective request_told request_cause request_told_lem;
+      take = LeftInverse-Injective take_told take_cause take_told_lem;
     }

@@ -2,25 +2,18 @@
 -- Assumes nothing.
 use Prim.Native.Nat.{ℕ, zero, suc, ◌≤◌, ◌<◌}
 use mathlib.Core.Path.{◌≡◌, refl, sym, ap, ◌∙◌}
-use mathlib.Core.Bool.{Bool, true, false}
+use mathlib.Core.Bool.{Bool, true, false, true≢false}
 use mathlib.Core.List.{List}
-use mathlib.Core.Logic.{◌⊎◌, inl, inr, ⊎_elim}
+use mathlib.Core.Logic.{⊎_elim}
 use native.Mathlib.Omega.{arith}
 use lib.Dec.{eqb, ltb}
-use borrow.Author.Tests.{eqb-true, eqb-false, eq-eqb, ne_eqb, lt-ltb, le-ltb}
+use borrow.Author.Tests.{eqb-true, eq-eqb, ne_eqb, lt-ltb, le-ltb}
+use Rattle.std.proofs.lemmas.Bool.{cases_lt, cases_eq}
 use Rattle.std.specs.Prelude.{is_some, Some, None}
-use Rattle.octets.proofs.Order.{le_or_lt}
 use Rattle.types.specs.Codes.{pick}
 use Rattle.collector.specs.Rules.{heads, Account, Same, with_account}
 use Rattle.collector.specs.Layout.{node_in, find_of, slot_of, account_in, account_of, vacant_of, box_of, block_found}
 use Rattle.collector.proofs.BlockLaws.{Kept, node_kept, place_kept}
-
-pub eq_or_ne : (a b : ℕ) → (a ≡ b) ⊎ (a ≡ b → ⊥)
-eq_or_ne a b = split (eqb a b) refl
-  where
-    split : (t : Bool) → eqb a b ≡ t → (a ≡ b) ⊎ (a ≡ b → ⊥)
-    split true e = inl (eqb-true a b e)
-    split false e = inr (eqb-false a b e)
 
 -- the first of four tests that holds, or 4
 abbrev pub first : Bool → Bool → Bool → Bool → ℕ
@@ -73,16 +66,16 @@ found_block k h = rw (lt-ltb k heads h)
 pub found_is : (k b : ℕ) → Some b ≡ block_found k → (k ≡ b) × (k < heads)
 found_is k b e =
     ⊎_elim
-    (λ (out : heads ≤ k). let q : Some b ≡ None = rw (le-ltb k heads out) at e in let z : ◌≡◌ {A = ℕ} 0 1 = cc in absurd (omega arith))
     (λ (below : k < heads). let q : Some b ≡ Some k = e ∙ found_block k below in let z : k ≡ b = cc in (z, below))
-    (le_or_lt heads k)
+    (λ (out : heads ≤ k). let q : Some b ≡ None = rw (le-ltb k heads out) at e in absurd (true≢false cc))
+    (cases_lt k heads)
 
 pub found_not : (k : ℕ) → None ≡ block_found k → heads ≤ k
 found_not k e =
     ⊎_elim
+    (λ (below : k < heads). let q : None ≡ Some k = e ∙ found_block k below in absurd (true≢false cc))
     (λ (out : heads ≤ k). out)
-    (λ (below : k < heads). let q : None ≡ Some k = e ∙ found_block k below in let z : ◌≡◌ {A = ℕ} 0 1 = cc in absurd (omega arith))
-    (le_or_lt heads k)
+    (cases_lt k heads)
 
 -- whether one was found
 pub found_any : (k : ℕ) (b : Bool) → b ≡ is_some (block_found k) → b ≡ ltb k heads
@@ -129,10 +122,10 @@ pub place_stays : (s t : List ℕ) (i : ℕ) → slot_of t i ≡ slot_of s i →
     → account_of t i ≡ account_of s i
 place_stays s t i e same =
     ⊎_elim
-    (λ (h : heads ≤ slot_of s i). place_none t i (omega arith) ∙ sym (place_none s i h))
     (λ (h : slot_of s i < heads).
     place_some t i (omega arith) ∙ ap (λ (k : ℕ). Some (account_in t k)) e ∙ ap (λ (p : Account). Some p) (same h) ∙ sym (place_some s i h))
-    (le_or_lt heads (slot_of s i))
+    (λ (h : heads ≤ slot_of s i). place_none t i (omega arith) ∙ sym (place_none s i h))
+    (cases_lt (slot_of s i) heads)
 
 -- ---- the block of a node changes, and its ID stays
 
@@ -142,7 +135,7 @@ module _ (s t : List ℕ) (i : ℕ) (known : slot_of s i < heads) (kept : Kept s
       ⊎_elim
       (λ (e : o ≡ slot_of s i). ap (node_in t) e ∙ node ∙ ap (node_in s) (sym e))
       (λ (ne : o ≡ slot_of s i → ⊥). node_kept s t (slot_of s i) kept o ne)
-      (eq_or_ne o (slot_of s i))
+      (cases_eq o (slot_of s i))
 
   slots : (j : ℕ) → slot_of t j ≡ slot_of s j
   unfolding slot_of find_of
@@ -164,4 +157,4 @@ module _ (s t : List ℕ) (i : ℕ) (known : slot_of s i < heads) (kept : Kept s
           (λ (ne : j ≡ i → ⊥).
           rw (ne_eqb j i ne)
           (place_stays s t j (slots j) (λ h. place_kept s t (slot_of s i) kept (slot_of s j) (slots_apart s j i h known ne))))
-          (eq_or_ne j i)
+          (cases_eq j i)

@@ -1,18 +1,19 @@
 -- What the calls make of a state, by node ID: laws over plain lists of octets.
 -- Assumes nothing.
-use Prim.Native.Nat.{ℕ, zero, suc, ◌+◌, ◌≤◌, ◌<◌}
+use Prim.Native.Nat.{ℕ, ◌+◌, ◌≤◌, ◌<◌}
 use mathlib.Core.Path.{◌≡◌, refl, sym, ap, ◌∙◌}
-use mathlib.Core.Bool.{Bool, true, false, beq}
+use mathlib.Core.Bool.{Bool, true, false, beq, true≢false}
 use mathlib.Core.List.{List}
 use mathlib.Core.Logic.{⊎_elim}
 use native.Mathlib.Omega.{arith}
-use lib.ListN.{length, get_or, replicate}
+use lib.ListN.{length}
 use lib.Seq.{get_or-drop}
 use lib.Dec.{leb}
 use borrow.Author.Tests.{leb-true}
+use Rattle.octets.proofs.Elements.{zeros}
+use Rattle.std.proofs.lemmas.Bool.{cases_lt}
 use Rattle.std.specs.Prelude.{Result, Ok, Err, Option, Some, None}
 use Rattle.octets.proofs.NumberBack.{Octets}
-use Rattle.octets.proofs.Order.{le_or_lt}
 use Rattle.types.specs.Codes.{need, pick}
 use Rattle.types.specs.Header.{eth_bytes}
 use Rattle.types.specs.Nodes.{is_cn_node_id}
@@ -48,12 +49,12 @@ same_box b = record { accounts = λ i. refl; vacant = refl }
 pub book_bound : (s : List ℕ) (i : ℕ) (p : Account) → account_of s i ≡ Some p → length p.book ≤ book_length
 book_bound s i p e =
     ⊎_elim
-    (λ (h : heads ≤ slot_of s i). absurd (let q : None ≡ Some p = sym (place_none s i h) ∙ e in let z : ◌≡◌ {A = ℕ} 0 1 = cc in omega arith))
     (λ (h : slot_of s i < heads).
     let q : Some (account_in s (slot_of s i)) ≡ Some p = sym (place_some s i h) ∙ e in
     let r : account_in s (slot_of s i) ≡ p = cc in
     omega (arith, book_most s (slot_of s i), ap (λ (x : Account). length x.book) r))
-    (le_or_lt heads (slot_of s i))
+    (λ (h : heads ≤ slot_of s i). absurd (let q : None ≡ Some p = sym (place_none s i h) ∙ e in let z : ◌≡◌ {A = ℕ} 0 1 = cc in omega arith))
+    (cases_lt (slot_of s i) heads)
 
 -- ---- a fresh state
 
@@ -65,18 +66,13 @@ no_nodes s z = record { accounts = λ i. place_none s i (unknown i); vacant = rw
     unknown : (i : ℕ) → heads ≤ slot_of s i
     unknown i =
         ⊎_elim
-        (λ (h : heads ≤ slot_of s i). h)
         (λ (h : slot_of s i < heads). absurd (slot_taken s i h (z (slot_of s i))))
-        (le_or_lt heads (slot_of s i))
-
-zeros : (n i : ℕ) → ◌≡◌ {A = ℕ} (get_or (replicate n 0) i 0) 0
-zeros zero i = refl
-zeros (suc n) zero = refl
-zeros (suc n) (suc i) = zeros n i
+        (λ (h : heads ≤ slot_of s i). h)
+        (cases_lt (slot_of s i) heads)
 
 pub fresh_means : Same (box_of fresh_bytes) fresh_box
 unfolding node_in
-fresh_means = no_nodes fresh_bytes (λ k. zeros collector_length (block k + node_at))
+fresh_means = no_nodes fresh_bytes (λ k. zeros (block k + node_at) collector_length)
 
 -- ---- register
 
@@ -89,13 +85,13 @@ register_means s size i = by_id (is_cn_node_id i) refl
     by_id false bad = rw (← register_bad s i bad) (same_box (box_of s))
     by_id true cn =
         ⊎_elim
+        (λ (known : find_of s i < heads). rw (← register_known s i cn known) (same_box (box_of s)))
         (λ (unknown : heads ≤ find_of s i).
         ⊎_elim
-        (λ (full : heads ≤ find_of s 0). rw (← register_full s i cn unknown full) (same_box (box_of s)))
         (λ (free : find_of s 0 < heads). rw (← register_new s i cn unknown free) (placed_means s i size (cn_low i cn) free unknown))
-        (le_or_lt heads (find_of s 0)))
-        (λ (known : find_of s i < heads). rw (← register_known s i cn known) (same_box (box_of s)))
-        (le_or_lt heads (find_of s i))
+        (λ (full : heads ≤ find_of s 0). rw (← register_full s i cn unknown full) (same_box (box_of s)))
+        (cases_lt (find_of s 0) heads))
+        (cases_lt (find_of s i) heads)
 
 pub register_length : (r : Result Unit RegisterError) (i : ℕ) (s : List ℕ) → length (register_bytes r i s) ≡ length s
 register_length (Ok _) i s = placed_length s (find_of s 0) i
@@ -114,13 +110,13 @@ pub take_means : (s : List ℕ) → length s ≡ collector_length → (i : ℕ)
     → Same (box_of (take_bytes (take_answer (account_of s i)) i s)) (after_take (take_answer (account_of s i)) i (box_of s))
 take_means s size i =
     ⊎_elim
-    (λ (unknown : heads ≤ slot_of s i). rw (← take_unknown s i unknown) (same_box (box_of s)))
     (λ (known : slot_of s i < heads).
     ⊎_elim
-    (λ (more : 1 ≤ count_in s (slot_of s i)). rw (← take_one s i known size more) (taken_means s i known size more))
     (λ (less : count_in s (slot_of s i) < 1). rw (← take_nothing s i known (omega arith)) (same_box (box_of s)))
-    (le_or_lt 1 (count_in s (slot_of s i))))
-    (le_or_lt heads (slot_of s i))
+    (λ (more : 1 ≤ count_in s (slot_of s i)). rw (← take_one s i known size more) (taken_means s i known size more))
+    (cases_lt (count_in s (slot_of s i)) 1))
+    (λ (unknown : heads ≤ slot_of s i). rw (← take_unknown s i unknown) (same_box (box_of s)))
+    (cases_lt (slot_of s i) heads)
 
 pub take_length : (r : Result ErrorEntry TakeError) (i : ℕ) (s : List ℕ) → length (take_bytes r i s) ≡ length s
 take_length (Ok e) i s = taken_length s (slot_of s i)
@@ -144,16 +140,16 @@ module _ (s : List ℕ) (i : ℕ) (known : slot_of s i < heads) (size : length s
   room_for : (a : Result StatusFields PowerlinkError) → status_answer a (booked_entries payload) (account_in s (slot_of s i)) ≡ Ok Booked
       → length (book_in s (slot_of s i)) + length (booked_entries payload) ≤ book_length
   unfolding book_answer
-  room_for (Err e) q = let z : ◌≡◌ {A = ℕ} 0 1 = cc in absurd (omega arith)
+  room_for (Err e) q = absurd (true≢false cc)
   room_for (Ok f) q =
       let book : List ErrorEntry = book_in s (slot_of s i) in
       let n : ℕ = length book + length (booked_entries payload) in
       leb-true n book_length (go (beq f.en_flag (account_in s (slot_of s i)).ea) (leb n book_length) q)
     where
       go : (same fits : Bool) → pick same (Ok Known) (need fits (Err BookFull) (Ok Booked)) ≡ Ok Booked → fits ≡ true
-      go true fits q = let z : ◌≡◌ {A = ℕ} 0 1 = cc in absurd (omega arith)
+      go true fits q = absurd (true≢false cc)
       go false true q = refl
-      go false false q = let z : ◌≡◌ {A = ℕ} 0 1 = cc in absurd (omega arith)
+      go false false q = absurd (true≢false cc)
 
 module _ (s : List ℕ) (size : length s ≡ collector_length) (payload : List ℕ) (octets : Octets payload) where
   booking_means : (h : Result (Option NodeId) PowerlinkError) → response_answer h (said_in payload) (box_of s) ≡ Ok Booked
@@ -163,12 +159,12 @@ module _ (s : List ℕ) (size : length s ≡ collector_length) (payload : List �
   booking_means (Ok (Some source)) q =
       let i : ℕ = source.0 in
       ⊎_elim
-      (λ (unknown : heads ≤ slot_of s i).
-      let r : (Err NotRegistered) ≡ (Ok Booked) = rw (place_none s i unknown) at q in
-      let z : ◌≡◌ {A = ℕ} 0 1 = cc in absurd (omega arith))
       (λ (known : slot_of s i < heads).
       booked_means s i known size payload octets (room_for s i known size payload octets (read_fields payload) (rw (place_some s i known) at q)))
-      (le_or_lt heads (slot_of s i))
+      (λ (unknown : heads ≤ slot_of s i).
+      let r : (Err NotRegistered) ≡ (Ok Booked) = rw (place_none s i unknown) at q in
+      absurd (true≢false cc))
+      (cases_lt (slot_of s i) heads)
 
 module _ (s : List ℕ) (size : length s ≡ collector_length) (services f : List ℕ) (octets : Octets f) where
   payload_octets : Octets (status_payload f)

@@ -9,12 +9,13 @@ use native.Mathlib.Omega.{arith}
 use lib.ListN.{length}
 use lib.Dec.{eqb}
 use borrow.Author.Tests.{eq-eqb, ne_eqb}
+use Rattle.std.proofs.lemmas.Bool.{cases_eq}
 use Rattle.std.specs.Prelude.{Some}
 use Rattle.types.specs.Codes.{pick}
 use Rattle.collector.specs.Rules.{heads, Account, Same, fresh_account, with_account}
 use Rattle.collector.specs.Layout.{collector_length, node_in, find_of, slot_of, account_in, account_of, is_vacant, vacant_of, box_of, placed_bytes}
 use Rattle.collector.proofs.BlockLaws.{node_kept, place_kept}
-use Rattle.collector.proofs.IdLaws.{first, found, find_first, eq_or_ne, slot_find, place_some, place_stays, slot_taken}
+use Rattle.collector.proofs.IdLaws.{first, found, find_first, slot_find, place_some, place_stays, slot_taken}
 use Rattle.collector.proofs.PlacedLaws.{placed_node, placed_kept, placed_fresh}
 
 -- ---- free blocks
@@ -104,8 +105,8 @@ module _ (s : List ℕ) (i : ℕ) (size : length s ≡ collector_length) (real :
       let c : node_in s o ≡ 0 = ap (node_in s) e ∙ found s 0 free in
       ne_eqb (node_in t o) j (λ q. ne (sym q ∙ a)) ∙ sym (ne_eqb (node_in s o) j (λ q. nz (sym q ∙ c))))
       (λ (n : o ≡ k → ⊥). ap (λ (x : ℕ). eqb x j) (node_kept s t k (placed_kept s k i) o n))
-      (eq_or_ne o k))))
-      (eq_or_ne j 0)
+      (cases_eq o k))))
+      (cases_eq j 0)
 
   module _ (unknown : heads ≤ find_of s i) where
     -- the new node's block is the one that was free
@@ -133,6 +134,6 @@ module _ (s : List ℕ) (i : ℕ) (size : length s ≡ collector_length) (real :
               rw (ne_eqb j i ne)
               (place_stays s t j (slot_other j ne)
               (λ h. place_kept s t k (placed_kept s k i) (slot_of s j) (λ q. slot_taken s j h (ap (node_in s) q ∙ found s 0 free)))))
-              (eq_or_ne j i);
+              (cases_eq j i);
           vacant = free_less s t k free (λ o ne. node_kept s t k (placed_kept s k i) o ne) (found s 0 free) (λ q. let z : i ≡ 0 = sym node ∙ q in omega arith);
         }

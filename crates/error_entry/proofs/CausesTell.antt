@@ -1,9 +1,9 @@
 -- The answer of reading an entry can be read back from its number and values.
 -- Assumes nothing.
 use mathlib.Core.Path.{◌≡◌, refl, ap}
+use mathlib.Mathlib.Logic.Function.Defs.{LeftInverse-Injective}
 use Rattle.std.specs.Prelude.{Result, Ok, Err}
 use Rattle.types.specs.Causes.{Cause}
-use Rattle.types.proofs.Apart.{apart}
 use Rattle.types.proofs.CausesTell.{refused_or, refused_back}
 use Rattle.error_entry.specs.CausesTell.{CausesTell}
 use Rattle.error_entry.specs.Entry.{entry_cause}
@@ -20,4 +20,4 @@ entry_back_lem (Ok e) = ap Ok (values_tell.entries e)
 entry_back_lem (Err e) = refused_back Err _ e
 
 pub causes_tell : CausesTell
-causes_tell = record { entry = λ e. refl; no_entry = λ e. refl; apart = apart entry_cause entry_back entry_back_lem }
+causes_tell = record { entry = λ e. refl; no_entry = λ e. refl; apart = LeftInverse-Injective entry_back entry_cause entry_back_lem }

@@ -9,9 +9,9 @@ use native.Mathlib.Omega.{arith}
 use lib.ListN.{length, take, drop}
 use lib.Seq.{take_at}
 use borrow.Author.Tests.{le-leb, eq-eqb, ne_eqb}
+use Rattle.std.proofs.lemmas.Bool.{cases_lt}
 use Rattle.std.specs.Prelude.{Ok}
 use Rattle.octets.specs.Trim.{trimmed_length}
-use Rattle.octets.proofs.Order.{le_or_lt}
 use Rattle.octets.proofs.Trim.{trimmed_padded}
 use Rattle.types.specs.Messages.{message_of}
 use Rattle.services.specs.Table.{holds}
@@ -48,7 +48,7 @@ module _ (f : ASndFrame) (p : List ℕ) where
         (omega (arith, section_length))
 
     pub asnd_length : asnd_payload_length (asnd_section f p) ≡ length p
-    asnd_length = ⊎_elim trimmed whole (le_or_lt (length p) 42)
+    asnd_length = ⊎_elim whole trimmed (cases_lt 42 (length p))
 
     pub asnd_payload : take (asnd_payload_length (asnd_section f p)) (drop 4 (asnd_section f p)) ≡ p
     unfolding asnd_section padded

@@ -24,7 +24,7 @@ use Rattle.codec.specs.SoA.{soa_of}
 use Rattle.codec.specs.SoC.{soc_of}
 use Rattle.frame_laws.specs.WriteBack.{Octets, Clear, type_unnamed, soc_unnamed, PlainSoC, preq_unnamed, PlainPReq, pres_unnamed, PlainPRes, soa_unnamed, PlainSoA, PlainASnd}
 use Rattle.frame_laws.proofs.Bits.{weight, eight, named_bits, seven_bits, poll_again}
-use Rattle.frame_laws.proofs.Elements.{elements, elements_are, joined}
+use Rattle.octets.proofs.Elements.{elements, elements_are, joined}
 
 module _ (s : List ℕ) (o : Octets s) where
   type_is : (n : ℕ) → Clear type_unnamed (get_or s 0 0) → get_or s 0 0 % 0x80 ≡ n → get_or s 0 0 ≡ n

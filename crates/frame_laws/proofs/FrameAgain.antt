@@ -17,7 +17,7 @@ use Rattle.codec.specs.Frame.{kind_of, kind_answer, read_section, read_frame, pl
 use Rattle.codec.specs.declared.DeserializedFrame.{DeserializedFrame}
 use Rattle.frame_laws.specs.WriteBack.{Octets, Plain, payload_in}
 use Rattle.frame_laws.proofs.HeldUnder.{Held}
-use Rattle.frame_laws.proofs.Elements.{elements, elements_are, joined}
+use Rattle.octets.proofs.Elements.{elements, elements_are, joined}
 use Rattle.frame_laws.proofs.Passed.{kind_found, by_tests}
 use Rattle.frame_laws.proofs.SectionAgain.{section_again}
 use Rattle.frame_laws.proofs.Tests.{passed, enough}

@@ -15,7 +15,7 @@ use Rattle.types.specs.declared.hal.PowerlinkError.{PowerlinkError}
 use Rattle.frame.specs.declared.PowerlinkFrame.{PowerlinkFrame}
 use Rattle.codec.specs.Frame.{kind_of, read_frame, read_section, place_in_frame, deserialize_frame}
 use Rattle.frame_laws.specs.ReadBack.{IsHeader}
-use Rattle.frame_laws.proofs.Elements.{elements, elements_are}
+use Rattle.octets.proofs.Elements.{elements, elements_are}
 
 -- a list of six is its six elements
 six : (l : List ℕ) → length l ≡ 6 → elements 6 0 l ≡ l

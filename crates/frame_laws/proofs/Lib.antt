@@ -1,7 +1,6 @@
 pub mod ASndBack
 pub mod Behind
 pub mod Bits
-pub mod Elements
 pub mod FieldsAgain
 pub mod FlagLines
 pub mod Flags

@@ -2,7 +2,7 @@
 -- Assumes nothing.
 use Prim.Native.Nat.{ℕ, ◌+◌, ◌*◌, ◌-◌, ◌/◌, ◌%◌, ◌^◌, ◌<◌}
 use mathlib.Core.Path.{◌≡◌, refl, sym, ap, ◌∙◌}
-use mathlib.Core.Bool.{Bool, true, false}
+use mathlib.Core.Bool.{Bool, true, false, true≢false}
 use mathlib.Core.List.{List, [], ◌∷◌, ◌++◌, append-nil}
 use native.Mathlib.Omega.{arith}
 use lib.Dec.{eqb}
@@ -43,7 +43,7 @@ all_clear (k ∷ ks) b = pick (bit k b) false (all_clear ks b)
 
 one_clear : (k : ℕ) (ks : List ℕ) (b : ℕ) (x : Bool) → bit k b ≡ x → (all_clear ks b ≡ true → Clear ks b) → pick x false (all_clear ks b) ≡ true
     → Clear (k ∷ ks) b
-one_clear k ks b true e rest t = let z : ◌≡◌ {A = ℕ} 0 1 = cc in absurd (omega arith)
+one_clear k ks b true e rest t = absurd (true≢false cc)
 one_clear k ks b false e rest t = (e, rest t)
 
 clears : (ks : List ℕ) (b : ℕ) → all_clear ks b ≡ true → Clear ks b

@@ -18,7 +18,7 @@ use Rattle.frame.specs.declared.PowerlinkFrame.{PowerlinkFrame}
 use Rattle.codec.specs.ASnd.{asnd_payload_length}
 use Rattle.codec.specs.Frame.{read_section}
 use Rattle.frame_laws.specs.WriteBack.{Octets, PaddedFrom, Plain, payload_in}
-use Rattle.frame_laws.proofs.Elements.{joined}
+use Rattle.octets.proofs.Elements.{joined}
 use Rattle.frame_laws.proofs.FieldsAgain.{soc_again, preq_again, pres_again, soa_again, asnd_again}
 use Rattle.frame_laws.proofs.Passed.{by_tests}
 use Rattle.frame_laws.proofs.Trimmed.{asnd_padding}

@@ -26,7 +26,7 @@ use Rattle.status_response.specs.Steps.{entries_in, status_entries, entries_byte
 use Rattle.status_response.specs.declared.fields.StatusFields.{StatusFields}
 use Rattle.frame_laws.specs.WriteBack.{Octets, status_unnamed, PlainStatus}
 use Rattle.frame_laws.proofs.Bits.{named_bits, poll_again}
-use Rattle.frame_laws.proofs.Elements.{elements, elements_are, joined}
+use Rattle.octets.proofs.Elements.{elements, elements_are, joined}
 use Rattle.frame_laws.proofs.FrameAgain.{octets_from}
 use Rattle.frame_laws.proofs.StatusPassed.{StatusPassed, status_passed}
 

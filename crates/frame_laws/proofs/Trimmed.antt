@@ -9,8 +9,8 @@ use native.Mathlib.Omega.{arith}
 use lib.ListN.{length, drop, replicate, length-drop, take-append-drop}
 use lib.Seq.{drop-drop, take_all, length-take-le}
 use borrow.Author.Tests.{eq-eqb, ne_eqb}
+use Rattle.std.proofs.lemmas.Bool.{cases_lt}
 use Rattle.octets.specs.Trim.{extended, trimmed_length}
-use Rattle.octets.proofs.Order.{le_or_lt}
 use Rattle.section.specs.Write.{padded}
 use Rattle.codec.specs.ASnd.{asnd_payload_length}
 use Rattle.frame_laws.specs.WriteBack.{PaddedFrom}
@@ -61,8 +61,8 @@ module _ (s : List ℕ) where
       rw (ne_eqb (length s) 46 other, all, take_all (length s) s (omega arith), none, append-nil s)
 
   pub asnd_padding : 46 ≤ length s → PaddedFrom (4 + asnd_payload_length s) s
-  asnd_padding h = split (le_or_lt (length s) 46)
+  asnd_padding h = split (cases_lt 46 (length s))
     where
-      split : (length s ≤ 46) ⊎ (46 < length s) → PaddedFrom (4 + asnd_payload_length s) s
-      split (inl k) = smallest (omega arith)
-      split (inr k) = longer k
+      split : (46 < length s) ⊎ (length s ≤ 46) → PaddedFrom (4 + asnd_payload_length s) s
+      split (inl k) = longer k
+      split (inr k) = smallest (omega arith)

@@ -7,6 +7,7 @@ use mathlib.Core.List.{List, [], ◌++◌, append_assoc, append-nil}
 use native.Mathlib.Omega.{arith}
 use lib.ListN.{length, take, drop, length-drop, length-append}
 use lib.Seq.{drop_at, drop-drop, length-take-le, take-append_seam}
+use borrow.Author.Clash.{clash}
 use Rattle.std.specs.Prelude.{Option, Result, Ok, Err}
 use Rattle.journal_records.specs.Listing.{version1, listing}
 use Rattle.journal_records.specs.Parts.{Lists, text_from, crowded, due_after, needed}
@@ -21,7 +22,6 @@ use Rattle.journal.specs.declared.streams.Failed.{Failed}
 use Rattle.journal.specs.declared.streams.Streams.{Streams}
 use Rattle.journal.specs.Rest.{Follows, Says, Stands, Done, Listed, buffer_len, record_len, rest_after}
 use Rattle.journal.specs.Streams.{said_more, count_most, Counted}
-use Rattle.journal.proofs.Counts.{not_both}
 use Rattle.journal_records.specs.declared.listing.Stop.{Stop}
 use Rattle.journal_records.specs.declared.listing.ListError.{ListError}
 
@@ -153,9 +153,9 @@ module _ {p : Phase} {s : List ℕ} {at : ℕ} {before now : Streams} {t : List 
               ends = ends_same ∙ F.ends;
               got = got_same ∙ F.got;
             }
-        by_answer (Ok stop.Full) e c = not_both refl c
+        by_answer (Ok stop.Full) e c = clash _ refl c
         by_answer (Ok stop.End) e c = over (then_by e)
-        by_answer (Err refused.BufferTooShort) e c = not_both refl c
+        by_answer (Err refused.BufferTooShort) e c = clash _ refl c
         by_answer (Err refused.NotAJournal) e c = over (then_by e)
         by_answer (Err refused.UnknownVersion) e c = over (then_by e)
         by_answer (Err refused.RecordInvalid) e c = over (then_by e)
@@ -163,13 +163,13 @@ module _ {p : Phase} {s : List ℕ} {at : ℕ} {before now : Streams} {t : List 
   -- where the room is used up, something was consumed
   module _ (c : crowded r.answer ≡ true) (room : buffer_len ≡ length out) where
     some : (a : Result Stop ListError) → r.answer ≡ a → crowded a ≡ true → (0 < r.consumed) × ((x : List ℕ) → due_after a r.phase x ≡ text_from r.phase x)
-    some (Ok stop.More) e d = not_both d refl
+    some (Ok stop.More) e d = clash _ d refl
     some (Ok stop.Full) e d = ((lists_in_parts.full L e).0, λ x. refl)
-    some (Ok stop.End) e d = not_both d refl
+    some (Ok stop.End) e d = clash _ d refl
     some (Err refused.BufferTooShort) e d = let z : ⊥ = omega (arith, (lists_in_parts.short L e).0) in absurd z
-    some (Err refused.NotAJournal) e d = not_both d refl
-    some (Err refused.UnknownVersion) e d = not_both d refl
-    some (Err refused.RecordInvalid) e d = not_both d refl
+    some (Err refused.NotAJournal) e d = clash _ d refl
+    some (Err refused.UnknownVersion) e d = clash _ d refl
+    some (Err refused.RecordInvalid) e d = clash _ d refl
 
     pub less : length s - (at + r.consumed) < length s - at
     less = let k = (some r.answer refl c).0 in omega (arith, further)

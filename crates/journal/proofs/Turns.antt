@@ -10,6 +10,7 @@ use lib.ListN.{length, take, drop, length-drop, length-append}
 use lib.Seq.{paste, take-paste, take-add, drop_at, length-take-le}
 use borrow.Author.Tests.{eqb-false}
 use borrow.Rule.Slice.PartMut.{mid_of, put_mid, same_len_mid, mid_len, take_put}
+use borrow.Author.Clash.{clash}
 use Rattle.std.specs.Prelude.{Option, Some, None, Result, Ok, Err}
 use Rattle.journal_records.specs.Listing.{listing, version1}
 use Rattle.journal_records.specs.Parts.{text_from}
@@ -20,7 +21,6 @@ use Rattle.journal.specs.Streams.{fresh, got_more}
 use Rattle.journal.specs.declared.Rest.{Rest}
 use Rattle.journal.specs.declared.streams.Failed.{Failed}
 use Rattle.journal.specs.declared.streams.Streams.{Streams}
-use Rattle.journal.proofs.Counts.{not_both}
 
 -- what is held leaves room in the buffer
 pub record_fits : record_len < buffer_len
@@ -94,7 +94,7 @@ module _ (text part : List ℕ) (held n : ℕ) (size : Buffer text) (e : length 
         text = S.text;
         said = S.said ∙ sym (ap (λ (x : Streams). x.said) er);
         due = λ rest l. ap listing (append_assoc S.input got rest)
-            ∙ S.due (got ++ rest) (λ t. not_both t goes)
+            ∙ S.due (got ++ rest) (λ t. clash _ t goes)
             ∙ ap (λ (x : List ℕ). S.text ++ text_from p x) (sym (append_assoc (take held text) got rest) ∙ ap (λ (x : List ℕ). x ++ rest) (sym all_held));
       }
 

@@ -3,10 +3,10 @@
 use mathlib.Core.Path.{◌≡◌, refl}
 use lib.Dec.{eqb}
 use lib.ListN.{get_or}
+use mathlib.Mathlib.Logic.Function.Defs.{LeftInverse-Injective}
 use Rattle.std.specs.Prelude.{Result, Ok, Err, ℕ}
 use Rattle.types.specs.Causes.{Cause}
 use Rattle.types.specs.Codes.{pick}
-use Rattle.types.proofs.Apart.{apart}
 use Rattle.journal_records.specs.CausesTell.{CausesTell}
 use Rattle.journal_records.specs.Parts.{list_cause}
 use Rattle.journal_records.specs.Record.{journal_cause}
@@ -69,7 +69,7 @@ causes_tell =
       list_no_journal = refl;
       list_version = refl;
       list_invalid = refl;
-      journal = apart journal_cause journal_of journal_back;
-      whole_len = apart whole_len_cause whole_len_of whole_len_back;
-      list = apart list_cause list_of list_back;
+      journal = LeftInverse-Injective journal_of journal_cause journal_back;
+      whole_len = LeftInverse-Injective whole_len_of whole_len_cause whole_len_back;
+      list = LeftInverse-Injective list_of list_cause list_back;
     }

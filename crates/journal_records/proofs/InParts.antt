@@ -1,7 +1,7 @@
 -- Calls one after the other print the listing, however the journal is cut into parts.
 -- Assumes nothing.
 use Prim.Native.Nat.{ℕ, zero, suc, ◌+◌, ◌-◌, ◌≤◌, ◌<◌}
-use mathlib.Core.Bool.{Bool, true, false}
+use mathlib.Core.Bool.{Bool, true, false, true≢false}
 use mathlib.Core.Path.{◌≡◌, refl, sym, ap, subst, ◌∙◌}
 use mathlib.Core.List.{List, [], ◌++◌, append_assoc, append-nil}
 use native.Mathlib.Nat.{not-suc-le-zero}
@@ -10,6 +10,7 @@ use lib.Dec.{eqb}
 use lib.ListN.{length, take, drop, replicate, length-append, length-drop, length-replicate}
 use lib.Seq.{drop-drop, take-append_seam}
 use borrow.Author.Tests.{eqb-true, eqb-false}
+use borrow.Author.Clash.{clash}
 use Rattle.std.specs.Prelude.{Result, Ok, Err}
 use Rattle.journal_records.specs.InParts.{Run, over, call, EndsIn, ListsInParts}
 use Rattle.journal_records.specs.Listing.{refused_line}
@@ -34,9 +35,6 @@ some_sum (suc c) d f = omega arith
 
 never : ◌≡◌ {A = ℕ} 0 1 → ⊥
 never e = omega arith
-
-not_both : {A : Type 0} {b : Bool} → b ≡ true → b ≡ false → A
-not_both t f = let z : ◌≡◌ {A = ℕ} 0 1 = cc in let y : ⊥ = omega arith in absurd y
 
 lined_line : {p : Phase} {s : List ℕ} {last : Bool} {q : Piece} → Lined p s last q → (q.consumed ≡ 0 → ⊥) → q.answer ≡ Ok More
 lined_line (head_cut h) f = absurd (f refl)
@@ -107,10 +105,10 @@ refused_ahead c t q f k =
 -- what a step answers where there is no room
 view_crowded : {p : Phase} {s : List ℕ} {last : Bool} {room : ℕ} {q : Piece} → View p s last room q → crowded q.answer ≡ true
     → (room < 55) × (q ≡ stopped (Err BufferTooShort) p)
-view_crowded (waits h) e = not_both e refl
-view_crowded (ends h) e = not_both e refl
+view_crowded (waits h) e = clash _ e refl
+view_crowded (ends h) e = clash _ e refl
 view_crowded (full h) e = (h, refl)
-view_crowded (lined r l) e = not_both e (lined_room l).0
+view_crowded (lined r l) e = clash _ e (lined_room l).0
 
 view_full : {p : Phase} {s : List ℕ} {last : Bool} {room : ℕ} {q : Piece} → View p s last room q → crowded q.answer ≡ true → room < 55
 view_full v e = (view_crowded v e).0
@@ -335,7 +333,7 @@ module _ (room : ℕ) (line : 55 ≤ room) where
   runs (suc n) p s h = by_answer (last_call p s).answer refl (runs n)
     where
       by_answer : (a : Result Stop ListError) → (last_call p s).answer ≡ a → ((p : Phase) (s : List ℕ) → length s < n → Run room p s (text_from p s)) → Run room p s (text_from p s)
-      by_answer (Ok More) e ih = let f = (call_more (made p s) e).0 in let z : ◌≡◌ {A = ℕ} 0 1 = cc in let y : ⊥ = omega arith in absurd y
+      by_answer (Ok More) e ih = let f = (call_more (made p s) e).0 in absurd (true≢false cc)
       by_answer (Ok Full) e ih =
           one_call p s (ap goes_on e)
           (ih (last_call p s).phase (left_of p s)

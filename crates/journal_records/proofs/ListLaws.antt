@@ -3,13 +3,13 @@
 use Prim.Native.Nat.{ℕ, zero, suc, ◌≤◌, ◌<◌}
 use mathlib.Core.Bool.{true, false}
 use mathlib.Core.Path.{◌≡◌, refl, sym, ap, ◌∙◌}
-use mathlib.Core.List.{List, [], ◌∷◌, ◌++◌}
-use native.Mathlib.Nat.{not-suc-le-zero}
+use mathlib.Core.List.{List, [], ◌++◌}
 use native.Mathlib.Omega.{arith}
 use lib.Dec.{eqb}
 use lib.ListN.{length, drop, length-drop, get_or-append}
 use lib.Seq.{drop-append-le}
 use borrow.Author.Tests.{le-leb, lt-leb, eq-eqb, ne_eqb}
+use Rattle.std.proofs.lemmas.List.{nil_from_length}
 use Rattle.octets.specs.Mark.{is_marked}
 use Rattle.octets.specs.Numbers.{le_at}
 use Rattle.types.specs.Codes.{pick, need}
@@ -19,14 +19,10 @@ use Rattle.journal_records.specs.Record.{valid_record}
 
 -- ---- lines
 
-empty : (s : List ℕ) → length s ≤ 0 → s ≡ []
-empty [] h = refl
-empty (x ∷ s) h = absurd (not-suc-le-zero h)
-
 no_octets : (n : ℕ) (s : List ℕ) → length s ≤ 0 → lines_in version1 n s ≡ []
 unfolding lines_in
 no_octets zero s h = refl
-no_octets (suc n) s h = rw (empty s h)
+no_octets (suc n) s h = rw (nil_from_length s (omega arith))
 
 module _ (n : ℕ) (same : (m : ℕ) (s : List ℕ) → length s ≤ n → length s ≤ m → lines_in version1 n s ≡ lines_in version1 m s) where
   one_more : (m : ℕ) (s : List ℕ) → length s ≤ suc n → length s ≤ m → lines_in version1 (suc n) s ≡ lines_in version1 m s

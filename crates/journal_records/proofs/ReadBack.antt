@@ -1,7 +1,7 @@
 -- Records that are written are listed with their fields.
 -- Assumes nothing.
 use Prim.Native.Nat.{ℕ, ◌≤◌}
-use mathlib.Core.Bool.{Bool, true, false}
+use mathlib.Core.Bool.{Bool, true, false, true≢false}
 use mathlib.Core.Path.{◌≡◌, refl, sym, ap, ◌∙◌}
 use mathlib.Core.List.{List, [], ◌∷◌, ◌++◌}
 use native.Mathlib.Nat.{mod-eq_of_lt, mod-lt}
@@ -71,8 +71,8 @@ module _ {node : NodeId} {e : ErrorEntry} {r : (Result ℕ JournalError)} {n : �
       by_tests : (b v : Bool) → valid_record node.0 e ≡ v → r ≡ need b (Err BufferTooShort) (need v (Err RecordInvalid) (Ok 21))
           → (valid_record node.0 e ≡ true) × (n ≡ 21)
       by_tests true true h a = (h, (cc))
-      by_tests true false h a = let z : ◌≡◌ {A = ℕ} 0 1 = cc in let y : ⊥ = omega arith in absurd y
-      by_tests false v h a = let z : ◌≡◌ {A = ℕ} 0 1 = cc in let y : ⊥ = omega arith in absurd y
+      by_tests true false h a = absurd (true≢false cc)
+      by_tests false v h a = absurd (true≢false cc)
 
   pub at_front : take n after ≡ record_bytes node.0 e
   at_front = rw (W.holds, w) (take_at (record_bytes node.0 e) (drop n target) n (record_length node.0 e ∙ sym tested.1))

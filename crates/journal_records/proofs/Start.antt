@@ -1,12 +1,13 @@
 -- The first five octets of a journal.
 -- Assumes nothing.
 use Prim.Native.Nat.{ℕ, ◌+◌, ◌*◌}
-use mathlib.Core.Bool.{Bool, true, false, ◌&&◌}
+use mathlib.Core.Bool.{Bool, true, false, ◌&&◌, true≢false}
 use mathlib.Core.Path.{◌≡◌, refl, sym, ◌∙◌}
 use mathlib.Core.List.{List, [], ◌∷◌}
 use native.Mathlib.Omega.{arith}
 use lib.Dec.{eqb}
 use borrow.Author.Tests.{eqb-true}
+use Rattle.std.proofs.lemmas.Bool.{and_parts}
 use Rattle.octets.specs.Mark.{is_marked}
 use Rattle.octets.specs.Numbers.{le_at}
 use Rattle.types.specs.Codes.{pick}
@@ -24,15 +25,11 @@ start_version : (a b c : ℕ) (s : List ℕ) → layout_of (le_at 2 3 (a ∷ b �
 unfolding layout_of le_at
 start_version a b c s = refl
 
-both : (x y : Bool) → (x && y) ≡ true → (x ≡ true) × (y ≡ true)
-both true y e = (refl, e)
-both false y e = let z : ◌≡◌ {A = ℕ} 0 1 = cc in let w : ⊥ = omega arith in absurd w
-
 mark_alone : (a b c d e : ℕ) (s : List ℕ) → marked (a ∷ b ∷ c ∷ d ∷ e ∷ s) ≡ true → (a ≡ 0x50) × ((b ≡ 0x4C) × (c ≡ 0x42))
 unfolding marked is_marked
 mark_alone a b c d e s m =
-    let t = both (eqb a 0x50) (eqb b 0x4C && eqb c 0x42) m in
-    let u = both (eqb b 0x4C) (eqb c 0x42) t.1 in
+    let t = and_parts (eqb a 0x50) (eqb b 0x4C && eqb c 0x42) m in
+    let u = and_parts (eqb b 0x4C) (eqb c 0x42) t.1 in
     (eqb-true a 0x50 t.0, (eqb-true b 0x4C u.0, eqb-true c 0x42 u.1))
 
 version_alone : (v : ℕ) → layout_of v ≡ known version1 → v ≡ 1
@@ -41,7 +38,7 @@ version_alone v e = by_test (eqb v 1) refl e
   where
     by_test : (b : Bool) → eqb v 1 ≡ b → pick b (known version1) other ≡ known version1 → v ≡ 1
     by_test true t h = eqb-true v 1 t
-    by_test false t h = let z : ◌≡◌ {A = ℕ} 0 1 = cc in let w : ⊥ = omega arith in absurd w
+    by_test false t h = absurd (true≢false cc)
 
 pub version_octets : (a b c d e : ℕ) (s : List ℕ) → le_at 2 3 (a ∷ b ∷ c ∷ d ∷ e ∷ s) ≡ d + 256 * e
 unfolding le_at

@@ -10,7 +10,7 @@ use lib.Dec.{leb, ltb}
 use lib.ListN.{length, drop, length-drop}
 use borrow.Author.Tests.{le-leb, lt-leb, leb-true, leb-false, eq-eqb, ne_eqb}
 use Rattle.std.specs.Prelude.{Result, Ok, Err}
-use Rattle.octets.proofs.Cases.{either}
+use borrow.Table.Steps.{cases as either}
 use Rattle.octets.specs.Numbers.{le_at}
 use Rattle.error_entry.specs.Entry.{read_entry}
 use Rattle.error_entry.specs.declared.ErrorEntry.{ErrorEntry}

@@ -1,13 +1,14 @@
 -- The cases of a step: what is known of the octets in each.
 -- Assumes nothing.
 use Prim.Native.Nat.{ℕ, ◌≤◌, ◌<◌}
-use mathlib.Core.Bool.{Bool, true, false}
+use mathlib.Core.Bool.{Bool, true, false, true≢false}
 use mathlib.Core.Path.{◌≡◌, refl}
 use mathlib.Core.List.{List}
 use lib.Dec.{leb, ltb, eqb}
 use lib.ListN.{length}
 use native.Mathlib.Omega.{arith}
 use borrow.Author.Tests.{leb-true, leb-false, ltb-true, ltb-false, eqb-true, eqb-false}
+use borrow.Author.Clash.{clash<}
 use Rattle.std.specs.Prelude.{Ok, Err}
 use Rattle.octets.specs.Numbers.{le_at}
 use Rattle.journal_records.specs.Listing.{node_of, recorded_entry, version1, header_line, fields_line, marked}
@@ -36,9 +37,6 @@ pub data View : Phase → List ℕ → Bool → ℕ → Piece → Type 0 where
   full : {p : Phase} {s : List ℕ} {last : Bool} {room : ℕ} → room < 55 → View p s last room (stopped (Err BufferTooShort) p)
   lined : {p : Phase} {s : List ℕ} {last : Bool} {room : ℕ} {q : Piece} → 55 ≤ room → Lined p s last q → View p s last room q
 
-few : {A : Type 0} {n m : ℕ} → m < n → n ≤ m → A
-few h k = let z : ⊥ = omega arith in absurd z
-
 seen : {p : Phase} {s : List ℕ} {last : Bool} {q q' : Piece} → q ≡ q' → Lined p s last q' → Lined p s last q
 seen e h = rw e h
 
@@ -56,7 +54,7 @@ header_view s last enough = by_length (leb 5 (length s)) refl last enough
     by_length : (b : Bool) → leb 5 (length s) ≡ b → (last : Bool) → (last ≡ false → 5 ≤ length s) → Lined Header s last (header_step s)
     by_length true e last f = by_mark (marked s) last (leb-true _ _ e) refl
     by_length false e true f = seen (header_cut s (leb-false _ _ e)) (head_cut (leb-false _ _ e))
-    by_length false e false f = few (leb-false _ _ e) (f refl)
+    by_length false e false f = clash< _ _ (leb-false _ _ e) (f refl)
 
 record_view : (s : List ℕ) (last : Bool) → (last ≡ false → 21 ≤ length s) → (length s ≡ 0 → ⊥) → Lined Records s last (record_step s)
 record_view s last enough some = by_length (leb 21 (length s)) refl last enough
@@ -68,7 +66,7 @@ record_view s last enough some = by_length (leb 21 (length s)) refl last enough
     by_length : (b : Bool) → leb 21 (length s) ≡ b → (last : Bool) → (last ≡ false → 21 ≤ length s) → Lined Records s last (record_step s)
     by_length true e last f = by_fault (valid_record (node_of s) (recorded_entry s)) last (leb-true _ _ e) refl
     by_length false e true f = seen (record_cut s (leb-false _ _ e)) (short (leb-false _ _ e) some)
-    by_length false e false f = few (leb-false _ _ e) (f refl)
+    by_length false e false f = clash< _ _ (leb-false _ _ e) (f refl)
 
 -- a step that has octets enough
 module _ (s : List ℕ) (last : Bool) (room : ℕ) where
@@ -99,7 +97,7 @@ module _ (s : List ℕ) (last : Bool) (room : ℕ) where
 
 pub view : (p : Phase) (s : List ℕ) (last : Bool) (room : ℕ) → View p s last room (step_of p s last room)
 unfolding awaits
-view p s true room = enough_view s true room p refl (λ e. let z : ◌≡◌ {A = ℕ} 0 1 = cc in let y : ⊥ = omega arith in absurd y)
+view p s true room = enough_view s true room p refl (λ e. absurd (true≢false cc))
 view p s false room = by_length (ltb (length s) (needed p)) refl
   where
     by_length : (b : Bool) → ltb (length s) (needed p) ≡ b → View p s false room (step_of p s false room)

@@ -1,7 +1,6 @@
-pub mod Cases
+pub mod Elements
 pub mod Le
 pub mod NumberBack
-pub mod Order
 pub mod ReadBack
 pub mod Sets
 pub mod Trim

@@ -1,6 +1,6 @@
 -- Two calls, a section's and then the header's, are one that writes the whole frame.
 -- Assumes nothing.
-use Prim.Native.Nat.{ℕ, ◌+◌, ◌-◌, ◌≤◌, ◌<◌}
+use Prim.Native.Nat.{ℕ, ◌+◌, ◌≤◌, ◌<◌}
 use mathlib.Core.Path.{◌≡◌, refl, sym, ap, ◌∙◌}
 use mathlib.Core.Bool.{Bool, true, false}
 use mathlib.Core.Logic.{⊎_elim}
@@ -10,20 +10,20 @@ use lib.Dec.{leb, eqb}
 use lib.ListN.{length, take, drop, length-append, length-take, length-drop, take-append-drop}
 use lib.Seq.{drop_at, drop-drop, drop-append-le, length-take-le}
 use borrow.Author.Tests.{le-leb, lt-leb}
+use Rattle.section.proofs.Sections.{fits_behind}
+use Rattle.section.proofs.CausesTell.{refused_number}
+use Rattle.std.proofs.lemmas.Bool.{cases_lt}
 use Rattle.std.specs.Prelude.{Result, Ok, Err}
-use Rattle.octets.proofs.Order.{le_or_lt}
-use Rattle.types.specs.Causes.{cause_number}
-use Rattle.types.specs.Codes.{pick, need}
+use Rattle.types.specs.Codes.{pick}
 use Rattle.types.specs.Header.{eth_bytes}
 use Rattle.types.specs.RequestedServices.{requested_of}
 use Rattle.types.specs.States.{state_of}
 use Rattle.types.specs.declared.basic.EthernetHeader.{EthernetHeader}
 use Rattle.types.specs.declared.hal.PowerlinkError.{PowerlinkError}
-use Rattle.types.specs.declared.hal.PowerlinkError.TheVariants.{BufferTooShort, InvalidEthernetFrame, InvalidPlFrame, InvalidMessageType, InvalidNmtState, InvalidServiceId, InvalidRequestedServiceId}
 use Rattle.types.specs.declared.requested_service.RequestedServiceId.{RequestedServiceId}
 use Rattle.types.specs.declared.states.NmtState.{NmtState}
 use Rattle.services.specs.Table.{holds}
-use Rattle.section.specs.Write.{write_answer, write_cause, overwritten, Coded, octets, unnamed}
+use Rattle.section.specs.Write.{write_answer, overwritten, Coded, octets, unnamed}
 use Rattle.frame.specs.Write.{frame_bytes}
 use Rattle.powerlink.specs.AnyHeader.{behind_header, after_section, after_header, target_left, length_told, TwoCalls, OneCall, AnyHeader, FiveBehindHeader}
 use Rattle.powerlink.specs.Writing.{stated, requested, WritesTo, WritesCoded}
@@ -115,39 +115,15 @@ module _ (h : EthernetHeader) (bs t u v : List ℕ) (m r q n n' k k' o o' : ℕ)
       rw (p.0, p.1, take-append-drop 14 t, same_octet)
       (with_octet (eth_bytes h ++ bs) t 1 n _ _ (writes_none (eth_bytes h ++ bs) t n short) o)
 
--- no cause has the number 0
-some_cause : (e : PowerlinkError) → eqb (cause_number e) 0 ≡ false
-some_cause BufferTooShort = refl
-some_cause InvalidEthernetFrame = refl
-some_cause InvalidPlFrame = refl
-some_cause (InvalidMessageType b) = refl
-some_cause (InvalidNmtState b) = refl
-some_cause (InvalidServiceId b) = refl
-some_cause (InvalidRequestedServiceId b) = refl
-
-refused_cause : (b : Bool) (e : PowerlinkError) → eqb (write_cause (need b (Err BufferTooShort) (Err e))).number 0 ≡ false
-refused_cause true e = some_cause e
-refused_cause false e = refl
-
--- 14 octets more are needed of a target that has 14 more
-shifted : (j : ℕ) (t : List ℕ) → 14 ≤ length t → leb j (length (drop 14 t)) ≡ leb (14 + j) (length t)
-shifted j t room = rw (length-drop 14 t) (⊎_elim small large (le_or_lt (14 + j) (length t)))
-  where
-    small : 14 + j ≤ length t → leb j (length t - 14) ≡ leb (14 + j) (length t)
-    small h = le-leb j (length t - 14) (omega arith) ∙ sym (le-leb (14 + j) (length t) h)
-
-    large : length t < 14 + j → leb j (length t - 14) ≡ leb (14 + j) (length t)
-    large h = lt-leb j (length t - 14) (omega arith) ∙ sym (lt-leb (14 + j) (length t) h)
-
 module _ (h : EthernetHeader) (t u v : List ℕ) (m r q n n' k k' o o' : ℕ) where
   whole : (w : Coded) → TwoCalls h w t u v m r q n n' k k' o o'
       → WritesCoded (behind_header h w) r t (target_left r m t u v) n (length_told r n n' k') o o'
   whole (octets bs) c =
-      ⊎_elim (frame_written h bs t u v m r q n n' k k' o o' c) (frame_refused h bs t u v m r q n n' k k' o o' c)
-      (le_or_lt (length bs) (length (drop 14 t)))
+      ⊎_elim (frame_refused h bs t u v m r q n n' k k' o o' c) (frame_written h bs t u v m r q n n' k k' o o' c)
+      (cases_lt (length (drop 14 t)) (length bs))
   whole (unnamed j e) c =
-      let s = shifted j t (omega (arith, c.room)) in
-      let refuses : eqb r 0 ≡ false = rw c.section.cause (refused_cause (leb j (length (drop 14 t))) e) in
+      let s : leb j (length (drop 14 t)) ≡ leb (14 + j) (length t) = rw (length-drop 14 t) (fits_behind 14 j (length t) (omega (arith, c.room))) in
+      let refuses : eqb r 0 ≡ false = rw c.section.cause (refused_number (leb j (length (drop 14 t))) e) in
       rw (refuses, c.section.target, take-append-drop 14 t)
       (refuses_coded (unnamed (14 + j) e) t r n o o' (14 + j) e refl (c.section.cause ∙ rw s, c.section.octet ∙ rw s))
 

@@ -1,10 +1,10 @@
 -- What a caller of a reader is told, from what the reader answers.
 -- Assumes nothing.
 use Prim.Native.Nat.{ℕ}
-use native.Mathlib.Omega.{arith}
 use mathlib.Core.Path.{◌≡◌, refl, sym, ap, ◌∙◌}
 use mathlib.Core.List.{List, [], ◌∷◌}
 use lib.ListN.{drop}
+use mathlib.Core.Bool.{true≢false}
 use Rattle.std.specs.Prelude.{Result, Ok, Err, Some, None}
 use Rattle.types.specs.Causes.{cause_number}
 use Rattle.types.specs.Messages.{message_code}
@@ -66,14 +66,14 @@ module _ (s : List ℕ) (v : List ℕ) where
 -- the fields of what was read with an error field
 fields_refused : (field : StaticErrorBitField) (a : Result StatusFields PowerlinkError) (e : PowerlinkError) → with_field field a ≡ Err e → a ≡ Err e
 fields_refused field (Err x) e q = cc
-fields_refused field (Ok f) e q = let z : ◌≡◌ {A = ℕ} 0 1 = cc in absurd (omega arith)
+fields_refused field (Ok f) e q = absurd (true≢false cc)
 
 fields_read : (field : StaticErrorBitField) (a : Result StatusFields PowerlinkError) (d : DeserializedStatus) → with_field field a ≡ Ok d
     → (a ≡ Ok d.fields) × (field ≡ d.static_error_bit_field)
 fields_read field (Ok f) d q =
     let same : record { fields = f; static_error_bit_field = field } ≡ d = cc in
     (ap (λ (x : DeserializedStatus). Ok x.fields) same, ap (λ (x : DeserializedStatus). x.static_error_bit_field) same)
-fields_read field (Err e) d q = let z : ◌≡◌ {A = ℕ} 0 1 = cc in absurd (omega arith)
+fields_read field (Err e) d q = absurd (true≢false cc)
 
 pub read_in : (s : List ℕ) (d : DeserializedStatus) → read_status s ≡ Ok d → Ok d.fields ≡ read_fields s
 read_in s d q = sym (fields_read _ (read_fields s) d q).0

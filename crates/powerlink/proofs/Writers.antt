@@ -1,12 +1,11 @@
 -- What a caller of a writer is told, from what the writer promises.
 -- Assumes nothing.
 use Prim.Native.Nat.{ℕ, ◌/◌, ◌%◌, ◌≤◌, ◌<◌}
-use mathlib.Core.Bool.{Bool, true, false}
+use mathlib.Core.Bool.{Bool, true, false, true≢false}
 use mathlib.Core.Path.{◌≡◌, refl, ap, ◌∙◌}
 use mathlib.Core.List.{List}
 use lib.ListN.{length}
 use lib.Dec.{eqb, leb}
-use native.Mathlib.Omega.{arith}
 use borrow.Author.Tests.{le-leb, lt-leb}
 use Rattle.std.specs.Prelude.{Result, Ok, Err}
 use Rattle.types.specs.Causes.{cause_number}
@@ -109,7 +108,7 @@ module _ (w : Coded) (t : List ℕ) (n o : ℕ) (s : List ℕ) where
   refused : (b : Bool) (e : PowerlinkError) (r o' : ℕ) → Next b (unnamed needed e) → need b false (leb needed (length t)) ≡ true
       → (r ≡ cause_number e) × (o' ≡ error_octet e o) → WritesCoded w r t t n n o o'
   refused true e r o' q h told = refuses_coded w t r n o o' needed e q (rw h told)
-  refused false e r o' q h told = let z : ◌≡◌ {A = ℕ} 0 1 = cc in absurd (omega arith)
+  refused false e r o' q h told = absurd (true≢false cc)
 
   -- and where it fits
   pub given_refused : (e : PowerlinkError) (r o' : ℕ) → Next are_whole (unnamed needed e) → given_fit s (length t) ≡ true

@@ -11,10 +11,11 @@ use lib.Dec.{leb}
 use lib.ListN.{length, take, drop, get_or, set, length-drop}
 use borrow.Author.Tests.{le-leb}
 use lib.Seq.{sets, length-sets, get_or-drop, get_or-set_other}
+use native.Mathlib.Numerals.{one-add}
+use Rattle.std.proofs.lemmas.Bool.{cases_lt}
 use Rattle.std.specs.Prelude.{Result}
 use Rattle.octets.specs.Numbers.{le, le_at}
 use Rattle.octets.proofs.NumberBack.{Octets, number_small}
-use Rattle.octets.proofs.Order.{le_or_lt}
 use Rattle.octets.proofs.ReadBack.{drop_sets}
 use Rattle.types.specs.Codes.{pick}
 use Rattle.error_entry.specs.Entry.{entry_type_of, entry_of, entry_bytes, read_entry, or_terminator}
@@ -37,12 +38,9 @@ le_same zero s t same = refl
 le_same (suc n) s t same =
     let front : get_or s 0 0 ≡ get_or t 0 0 = same 0 (omega arith) in
     let behind : le (take n (drop 1 s)) ≡ le (take n (drop 1 t)) =
-    le_same n (drop 1 s) (drop 1 t) (λ i h. get_or-drop 1 s i 0 ∙ ap (λ (k : ℕ). get_or s k 0) (one_add i) ∙ same (suc i) (omega arith)
-    ∙ ap (λ (k : ℕ). get_or t k 0) (sym (one_add i)) ∙ sym (get_or-drop 1 t i 0)) in
+    le_same n (drop 1 s) (drop 1 t) (λ i h. get_or-drop 1 s i 0 ∙ ap (λ (k : ℕ). get_or s k 0) (one-add i) ∙ same (suc i) (omega arith)
+    ∙ ap (λ (k : ℕ). get_or t k 0) (sym (one-add i)) ∙ sym (get_or-drop 1 t i 0)) in
     rw (le_front n s, le_front n t, front, behind)
-  where
-    one_add : (i : ℕ) → 1 + i ≡ suc i
-    one_add i = omega arith
 
 number_same : (s t : List ℕ) → ((i : ℕ) → i < entry_length → get_or s i 0 ≡ get_or t i 0) → (n at : ℕ) → at + n ≤ entry_length → le_at n at s ≡ le_at n at t
 unfolding le_at
@@ -124,13 +122,13 @@ pub record_other : (s : List ℕ) (e : ErrorEntry) (base width i j : ℕ) → en
     → record_at (with_record s (base + width * i) e) (base + width * j) ≡ record_at s (base + width * j)
 record_other s e base width i j wide ne =
     ⊎_elim
-    (λ (h : j ≤ i).
-    let m : width * suc j ≤ width * i = mul-le-mul_left width (omega arith) in
-    record_below s (base + width * i) e (base + width * j) (omega (arith, mul-suc width j)))
     (λ (h : i < j).
     let m : width * suc i ≤ width * j = mul-le-mul_left width (omega arith) in
     record_above s (base + width * i) e (base + width * j) (omega (arith, mul-suc width i)))
-    (le_or_lt j i)
+    (λ (h : j ≤ i).
+    let m : width * suc j ≤ width * i = mul-le-mul_left width (omega arith) in
+    record_below s (base + width * i) e (base + width * j) (omega (arith, mul-suc width j)))
+    (cases_lt i j)
 
 module _ (s : List ℕ) (i x at : ℕ) where
   pub record_set : i < at → record_at (set s i x) at ≡ record_at s at

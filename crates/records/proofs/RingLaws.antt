@@ -8,7 +8,7 @@ use native.Mathlib.Nat.{add-zero, zero-add, add-suc, suc-add, mod-mod, suc-mod, 
 use native.Mathlib.Omega.{arith}
 use lib.ListN.{length, take, drop}
 use lib.Seq.{take_at, drop_at}
-use Rattle.octets.proofs.Order.{le_or_lt}
+use Rattle.std.proofs.lemmas.Bool.{cases_lt}
 use Rattle.records.specs.Ring.{ring}
 
 -- two places of which one is 1 to size - 1 steps past the other differ
@@ -18,11 +18,11 @@ apart size x d pos small e =
     let below : r < size = mod-lt x (omega arith) in
     let e' : r ≡ (r + d) % size = e ∙ sym (mod-add-mod x size d) in
     ⊎_elim
+    (λ (lt : r + d < size). omega (arith, e' ∙ mod-eq_of_lt lt))
     (λ (ge : size ≤ r + d).
     let lt : r + d - size < size = omega arith in
     omega (arith, e' ∙ mod-eq-sub-mod ge ∙ mod-eq_of_lt lt))
-    (λ (lt : r + d < size). omega (arith, e' ∙ mod-eq_of_lt lt))
-    (le_or_lt size (r + d))
+    (cases_lt (r + d) size)
 
 module _ {A : Type 0} (el : ℕ → A) (size : ℕ) where
   -- a start is known up to whole turns

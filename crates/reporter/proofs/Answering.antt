@@ -2,9 +2,10 @@
 -- Assumes nothing.
 use Prim.Native.Nat.{ℕ, ◌+◌, ◌*◌, ◌-◌}
 use mathlib.Core.Path.{◌≡◌, refl}
-use mathlib.Core.List.{List, [], ◌∷◌}
+use mathlib.Core.List.{List}
 use native.Mathlib.Omega.{arith}
 use lib.ListN.{length, length-append}
+use Rattle.status_response.proofs.WriteLaws.{entries_length}
 use Rattle.control.specs.ASnd.{asnd_bytes, asnd_section}
 use Rattle.section.proofs.Sections.{padded_length}
 use Rattle.types.specs.Header.{eth_bytes}
@@ -12,16 +13,11 @@ use Rattle.error_entry.specs.declared.ErrorEntry.{ErrorEntry}
 use Rattle.frame.specs.Write.{frame_bytes}
 use Rattle.status_response.specs.BitField.{field_bytes}
 use Rattle.status_response.specs.Fields.{head_bytes}
-use Rattle.status_response.specs.Steps.{entries_bytes, status_bytes}
+use Rattle.status_response.specs.Steps.{status_bytes}
 use Rattle.status_response.specs.declared.bit_field.StaticErrorBitField.{StaticErrorBitField}
 use Rattle.status_response.specs.declared.fields.StatusFields.{StatusFields}
 use Rattle.reporter.specs.Rules.{Head, answer_payload, answer_asnd, answer_frame}
 use Rattle.reporter.specs.declared.AnswerFields.{AnswerFields}
-use Rattle.records.proofs.RecordLaws.{bytes_length}
-
-entries_length : (es : List ErrorEntry) → length (entries_bytes es) ≡ 20 * length es
-entries_length [] = refl
-entries_length (e ∷ es) = simp length-append (omega (arith, bytes_length e, entries_length es))
 
 front_length : (f : StatusFields) (field : StaticErrorBitField) → length (head_bytes f field) ≡ 14
 unfolding head_bytes field_bytes

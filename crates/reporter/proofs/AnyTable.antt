@@ -1,11 +1,10 @@
 -- The table makes no difference to an answer, to EA and to the head.
 -- Assumes nothing.
 use Prim.Native.Nat.{ℕ}
-use mathlib.Core.Bool.{Bool}
+use mathlib.Core.Bool.{Bool, true≢false}
 use mathlib.Core.Path.{◌≡◌, refl, sym, ap, ◌∙◌}
 use mathlib.Core.Logic.{inl, inr}
 use mathlib.Core.List.{List}
-use native.Mathlib.Omega.{arith}
 use lib.Seq.{get_or-drop}
 use Rattle.std.specs.Prelude.{Result, Ok, Err, Option, Some, None}
 use Rattle.types.specs.Header.{eth_length}
@@ -38,7 +37,7 @@ ea_or (Err e) = None
 
 ea_back : (x : Result (Option Bool) PowerlinkError) (ea : Bool) → ea_or x ≡ Some ea → x ≡ Ok (Some ea)
 ea_back (Ok x) ea e = ap Ok e
-ea_back (Err x) ea e = let z : ◌≡◌ {A = ℕ} 0 1 = cc in absurd (omega arith)
+ea_back (Err x) ea e = absurd (true≢false cc)
 
 pub any_table : AnyTable
 any_table =

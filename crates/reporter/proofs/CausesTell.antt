@@ -1,9 +1,9 @@
 -- Number and values of an answer tell which it is.
 -- Assumes nothing.
 use mathlib.Core.Path.{◌≡◌, refl, ap, ◌∙◌}
+use mathlib.Mathlib.Logic.Function.Defs.{LeftInverse-Injective}
 use Rattle.std.specs.Prelude.{Result, Ok, Err, ℕ}
 use Rattle.section.specs.Write.{write_cause}
-use Rattle.types.proofs.Apart.{apart}
 use Rattle.types.proofs.CausesTell.{not_0, error_told_lem}
 use Rattle.reporter.specs.CausesTell.{new_told, raise_told, write_told, read_told, CausesTell}
 use Rattle.reporter.specs.Rules.{new_cause, raise_cause, read_cause}
@@ -50,8 +50,8 @@ causes_tell =
       kept = refl;
       closed = refl;
       refused = λ e. refl;
-      new = apart new_cause new_told new_told_lem;
-      raise = apart raise_cause raise_told raise_told_lem;
-      answer = apart write_cause write_told write_told_lem;
-      read = apart read_cause read_told read_told_lem;
+      new = LeftInverse-Injective new_told new_cause new_told_lem;
+      raise = LeftInverse-Injective raise_told raise_cause raise_told_lem;
+      answer = LeftInverse-Injective write_told write_cause write_told_lem;
+      read = LeftInverse-Injective read_told read_cause read_told_lem;
     }

@@ -8,7 +8,7 @@ use native.Mathlib.Nat.{mod-mod}
 use native.Mathlib.Omega.{arith}
 use lib.ListN.{length, take, drop, set, drop_of_length-le}
 use lib.Seq.{take_all}
-use Rattle.octets.proofs.Order.{le_or_lt}
+use Rattle.std.proofs.lemmas.Bool.{cases_lt}
 use Rattle.error_entry.specs.ReadBack.{InRange}
 use Rattle.error_entry.specs.declared.ErrorEntry.{ErrorEntry}
 use Rattle.records.specs.Records.{record_at, with_record}
@@ -57,9 +57,9 @@ module _ (el : ℕ → ErrorEntry) (at n k : ℕ) where
   pub ring_first : take k (ring el places at n) ≡ ring el places at (min n k)
   ring_first =
       ⊎_elim
-      (λ (h : k ≤ n). let e : min n k ≡ k = omega arith in rw e (ring_take el places at k n h))
       (λ (h : n < k). let e : min n k ≡ n = omega arith in rw e (take_all k (ring el places at n) (rw (length_ring el places at n) (omega arith))))
-      (le_or_lt k n)
+      (λ (h : k ≤ n). let e : min n k ≡ k = omega arith in rw e (ring_take el places at k n h))
+      (cases_lt n k)
 
   none_left : n < k → drop k (ring el places at n) ≡ ring el places (at + min n k) (n - min n k)
   unfolding ring
@@ -70,6 +70,6 @@ module _ (el : ℕ → ErrorEntry) (at n k : ℕ) where
   pub ring_others : drop k (ring el places at n) ≡ ring el places (at + min n k) (n - min n k)
   ring_others =
       ⊎_elim
-      (λ (h : k ≤ n). let e : min n k ≡ k = omega arith in rw e (ring_drop el places at k n h))
       none_left
-      (le_or_lt k n)
+      (λ (h : k ≤ n). let e : min n k ≡ k = omega arith in rw e (ring_drop el places at k n h))
+      (cases_lt n k)

@@ -2,14 +2,14 @@
 -- Assumes nothing.
 use Prim.Native.Nat.{ℕ, zero, suc, ◌+◌, ◌*◌, ◌-◌, ◌≤◌, ◌<◌}
 use mathlib.Core.Path.{◌≡◌, refl, sym, ◌∙◌}
-use mathlib.Core.Bool.{Bool, true, false}
+use mathlib.Core.Bool.{Bool, true, false, true≢false}
 use mathlib.Core.List.{List}
 use native.Mathlib.Omega.{arith}
 use lib.ListN.{length, take}
 use lib.Dec.{ltb}
 use borrow.Author.Tests.{ltb-true}
 use Rattle.std.specs.Prelude.{Result, Ok, Err}
-use Rattle.octets.proofs.Cases.{either}
+use borrow.Table.Steps.{cases as either}
 use Rattle.types.specs.declared.error_mode.ErrorEntryMode.{ErrorEntryMode}
 use Rattle.types.specs.declared.error_mode.ErrorEntryMode.TheVariants.{Terminator, ErrorActive, ErrorCleared, EventOccurred}
 use Rattle.error_entry.specs.ReadBack.{InRange}
@@ -51,7 +51,7 @@ new_length i s = refl
 -- ---- Raise
 
 profile_small : (m : ErrorEntryMode) (p : ℕ) → unless_terminator m (ltb p 4096) false ≡ true → p < 4096
-profile_small Terminator p e = let z : ◌≡◌ {A = ℕ} 0 1 = cc in absurd (omega arith)
+profile_small Terminator p e = absurd (true≢false cc)
 profile_small ErrorActive p e = ltb-true p 4096 e
 profile_small ErrorCleared p e = ltb-true p 4096 e
 profile_small EventOccurred p e = ltb-true p 4096 e

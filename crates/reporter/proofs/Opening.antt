@@ -2,7 +2,7 @@
 -- Assumes nothing.
 use Prim.Native.Nat.{ℕ, ◌+◌, ◌-◌, ◌%◌, min}
 use mathlib.Core.Path.{◌≡◌, refl, sym, ap, ◌∙◌}
-use mathlib.Core.Bool.{Bool, true, false, not, ◌&&◌}
+use mathlib.Core.Bool.{Bool, true, false, not}
 use mathlib.Core.List.{List}
 use native.Mathlib.Nat.{add-zero}
 use native.Mathlib.Omega.{arith}
@@ -10,16 +10,13 @@ use lib.ListN.{length, get_or, set, length-set}
 use lib.Seq.{get_or-set_same, get_or-set_other}
 use lib.Dec.{eqb, ltb}
 use borrow.Author.Tests.{eqb-true}
+use Rattle.std.proofs.lemmas.Bool.{and_parts}
 use Rattle.types.specs.Codes.{pick}
 use Rattle.records.specs.Ring.{ring}
 use Rattle.reporter.specs.Layout.{waiting_at, open_at, start_at, en_at, id_at, reporter_length, places, en_of, start_of, open_of, waiting_of, entry_in, head_of, opens_in, carried_in, opened_bytes}
 use Rattle.reporter.specs.Rules.{with_new_batch, batch_length, Head, opened}
 use Rattle.reporter.proofs.Entries.{entry_set, ring_kept, ring_first, ring_others}
 use Rattle.reporter.proofs.Ranges.{waiting_small, open_of_lem, waiting_of_lem, batch_empty, waiting_filled, head_same}
-
-both_left : (a b : Bool) → (a && b) ≡ true → a ≡ true
-both_left true b e = refl
-both_left false b e = e
 
 flipped : (b : Bool) → eqb (pick b 0 1 % 2) 1 ≡ not b
 flipped true = refl
@@ -58,7 +55,7 @@ module _ (s : List ℕ) (opens : opens_in s ≡ true) where
   octets = set (set (set s en_at (pick (en_of s) 0 1)) open_at few) waiting_at (waiting_of s - few)
 
   none_open : open_of s ≡ 0
-  none_open = eqb-true (open_of s) 0 (both_left (eqb (open_of s) 0) (ltb 0 (waiting_of s)) opens)
+  none_open = eqb-true (open_of s) 0 (and_parts (eqb (open_of s) 0) (ltb 0 (waiting_of s)) opens).0
 
   octets_are : opened_bytes s ≡ octets
   unfolding opened_bytes carried_in

@@ -2,7 +2,7 @@
 -- Assumes nothing.
 use Prim.Native.Nat.{ℕ, ◌+◌, ◌-◌, ◌≤◌, ◌<◌}
 use mathlib.Core.Path.{◌≡◌, refl, sym, ap, ◌∙◌}
-use mathlib.Core.Bool.{Bool, true, false}
+use mathlib.Core.Bool.{Bool, true, false, true≢false}
 use mathlib.Core.List.{List, ◌++◌, append_assoc, append-nil}
 use native.Mathlib.Omega.{arith}
 use lib.Dec.{leb}
@@ -27,7 +27,7 @@ module _ (bs t : List ℕ) where
     where
       split : (b : Bool) → leb (length bs) (length t) ≡ b → Err e ≡ pick b (Ok (length bs)) (Err BufferTooShort)
           → after ≡ pick b (bs ++ drop (length bs) t) t → (length t < length bs) × ((e ≡ BufferTooShort) × (after ≡ t))
-      split true k a h = let z : ◌≡◌ {A = ℕ} 0 1 = cc in absurd (omega arith)
+      split true k a h = absurd (true≢false cc)
       split false k a h = (leb-false (length bs) (length t) k, (cc, h))
 
   pub written : (r : Result ℕ PowerlinkError) (n : ℕ) (after : List ℕ) → Writes bs r t after → r ≡ Ok n
@@ -38,7 +38,7 @@ module _ (bs t : List ℕ) where
       split : (b : Bool) → leb (length bs) (length t) ≡ b → Ok n ≡ pick b (Ok (length bs)) (Err BufferTooShort)
           → after ≡ pick b (bs ++ drop (length bs) t) t → (length bs ≤ length t) × ((n ≡ length bs) × (after ≡ bs ++ drop (length bs) t))
       split true k a h = (leb-true (length bs) (length t) k, (cc, h))
-      split false k a h = let z : ◌≡◌ {A = ℕ} 0 1 = cc in absurd (omega arith)
+      split false k a h = absurd (true≢false cc)
 
 module _ (front bs t : List ℕ) (k : ℕ) (ek : length front ≡ k) (h : k ≤ length t) (r : Result ℕ PowerlinkError) (after : List ℕ)
     (w : Writes bs r (mid_of k (length t - k) t) after) where

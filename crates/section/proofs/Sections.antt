@@ -1,27 +1,22 @@
 -- Octets and a section behind them are written by copies: zeros, and over them the octets, the header and the payload.
 -- Assumes nothing.
-use Prim.Native.Nat.{ℕ, zero, suc, ◌+◌, ◌-◌, ◌≤◌, ◌<◌}
+use Prim.Native.Nat.{ℕ, ◌+◌, ◌-◌, ◌≤◌, ◌<◌}
 use mathlib.Core.Bool.{Bool, true, false}
 use mathlib.Core.Path.{◌≡◌, refl, sym, ap, ◌∙◌}
 use mathlib.Core.List.{List, ◌++◌, append_assoc, append-nil}
 use native.Mathlib.Nat.{zero-add, le_of_lt}
-use native.Mathlib.Numerals.{unary_clauses}
 use native.Mathlib.Omega.{arith}
 use lib.Dec.{leb, ltb}
 use lib.ListN.{length, drop, replicate, length-append, length-replicate}
 use lib.Seq.{sets, length-sets, drop-drop, drop-append-le}
 use borrow.Author.Tests.{le-leb, lt-leb, leb-true, leb-false, ltb-true, ltb-false}
+use Rattle.std.proofs.lemmas.List.{drop-replicate}
 use Rattle.std.specs.Prelude.{Ok, Err}
 use Rattle.octets.proofs.ReadBack.{drop_sets}
 use Rattle.octets.proofs.Sets.{sets_append, sets_front}
 use Rattle.types.specs.Codes.{pick}
 use Rattle.types.specs.declared.hal.PowerlinkError.TheVariants.{BufferTooShort}
 use Rattle.section.specs.Write.{min_section, padded, write_answer, overwritten, Writes}
-
-drop_replicate : (k n a : ℕ) → drop k (replicate n a) ≡ replicate (n - k) a
-drop_replicate zero n a = simp unary_clauses
-drop_replicate (suc k) zero a = let e : 0 - suc k ≡ 0 = omega arith in rw e
-drop_replicate (suc k) (suc n) a = simp unary_clauses (drop_replicate k n a)
 
 -- a section of at least n octets
 module _ (n : ℕ) (f h p : List ℕ) where
@@ -45,7 +40,7 @@ module _ (n : ℕ) (f h p : List ℕ) where
         sym (drop-drop m (length f) (sets t (length f) zeros))
         ∙ ap (drop m) (drop_sets t (length f) zeros (omega (arith, filled_length)))
         ∙ drop-append-le m zeros (drop (length f + length zeros) t) (omega arith)
-        ∙ rw (drop_replicate m n, ln)
+        ∙ rw (drop-replicate {X = ℕ} m n 0, ln)
 
     over_zeros : length h + length p ≤ n → sets (sets t (length f) (replicate n 0)) 0 (f ++ (h ++ p)) ≡ sets t 0 filled
     over_zeros few =

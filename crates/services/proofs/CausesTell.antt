@@ -2,10 +2,10 @@
 -- Assumes nothing.
 use mathlib.Core.Path.{◌≡◌, refl}
 use lib.Dec.{eqb}
+use mathlib.Mathlib.Logic.Function.Defs.{LeftInverse-Injective}
 use Rattle.std.specs.Prelude.{Result, Ok, Err}
 use Rattle.types.specs.Causes.{Cause}
 use Rattle.types.specs.Codes.{pick}
-use Rattle.types.proofs.Apart.{apart}
 use Rattle.services.specs.CausesTell.{CausesTell}
 use Rattle.services.specs.Load.{load_cause}
 use Rattle.services.specs.declared.load.LoadError.TheVariants.{NotATable, NotAscending, WithoutStatusResponse}
@@ -29,5 +29,5 @@ causes_tell =
       not_a_table = refl;
       not_ascending = refl;
       without_status_response = refl;
-      apart = apart load_cause load_back load_back_lem;
+      apart = LeftInverse-Injective load_back load_cause load_back_lem;
     }

@@ -10,8 +10,8 @@ use lib.ListN.{length, get_or, take, drop, length-append, length-take, length-dr
 use lib.Seq.{drop_at, drop-drop, take-append-add, drop-append-add}
 use lib.Dec.{leb}
 use borrow.Author.Tests.{le-leb, lt-leb}
+use Rattle.std.proofs.lemmas.Bool.{cases_lt}
 use Rattle.std.specs.Prelude.{Result}
-use Rattle.octets.proofs.Order.{le_or_lt}
 use Rattle.types.specs.Codes.{need}
 use Rattle.types.specs.declared.error_mode.ErrorEntryMode.{ErrorEntryMode}
 use Rattle.types.specs.declared.error_mode.ErrorEntryMode.TheVariants.{Terminator, ErrorActive, ErrorCleared, EventOccurred}
@@ -127,9 +127,9 @@ is_terminator EventOccurred = inr (λ e. clash cc)
 -- the entry that octets begin with, if they do not end the reading
 begins : (l : List ℕ) → Ends l ⊎ IsEntry (take 20 l)
 begins l =
-    elim (le_or_lt 20 (length l)) [
-      | inr few ↦ inl (inl few)
-      | inl more ↦
+    elim (cases_lt (length l) 20) [
+      | inl few ↦ inl (inl few)
+      | inr more ↦
           elim (is_terminator (entry_of l).entry_type.mode) [
             | inl over ↦ inl (inr over)
             | inr entry ↦

@@ -8,6 +8,7 @@ use native.Mathlib.Omega.{arith}
 use lib.ListN.{length, take, replicate}
 use lib.Dec.{ltb}
 use borrow.Author.Tests.{ltb-true}
+use Rattle.std.proofs.lemmas.Bool.{and_parts}
 use Rattle.std.specs.Prelude.{Ok, Err, Some, None}
 use Rattle.octets.proofs.NumberBack.{Octets}
 use Rattle.types.specs.Addresses.{multicast_asnd}
@@ -57,7 +58,7 @@ use Rattle.signaling.specs.Calls.{NotFrom, node}
 use Rattle.signaling.specs.Example.{example_entry, entry, shown, two_put_in, five, house, made_status}
 use Rattle.signaling.proofs.Arriving.{said_same, arrives_self, arrives_put}
 use Rattle.signaling.proofs.Calls.{request_here, request_else}
-use Rattle.signaling.proofs.Facts.{clash, either, both}
+use Rattle.signaling.proofs.Facts.{clash, either}
 use Rattle.signaling.proofs.Frames.{Says, is_status, answer_reads, answer_long, says_arrived}
 
 -- ---- the entries, and what the calls are given
@@ -105,8 +106,8 @@ below (b ∷ bs) = ltb b 256 && below bs
 
 octets : (bs : List ℕ) → below bs ≡ true → Octets bs
 octets [] e i = omega arith
-octets (b ∷ bs) e zero = ltb-true b 256 (both (ltb b 256) (below bs) e).0
-octets (b ∷ bs) e (suc i) = octets bs (both (ltb b 256) (below bs) e).1 i
+octets (b ∷ bs) e zero = ltb-true b 256 (and_parts (ltb b 256) (below bs) e).0
+octets (b ∷ bs) e (suc i) = octets bs (and_parts (ltb b 256) (below bs) e).1 i
 
 pub answer_octets : Octets (answer_frame fields first) × Octets (answer_frame fields second)
 unfolding fields answer_frame frame_bytes eth_bytes asnd_section padded answer_payload status_bytes head_bytes field_bytes entry_bytes type_number poll_octet

@@ -7,7 +7,7 @@ use mathlib.Core.Bool.{Bool, true, false, not, beq}
 use mathlib.Core.List.{List, [], ◌∷◌, ◌++◌, append_assoc}
 use native.Mathlib.Omega.{arith}
 use lib.ListN.{length}
-pub use Rattle.octets.proofs.Cases.{either, both}
+pub use borrow.Table.Steps.{cases as either}
 use Rattle.std.specs.Prelude.{Some, slice_get}
 use Rattle.types.specs.Codes.{pick}
 
@@ -16,12 +16,6 @@ pub clash : {X : Type 0} → ◌≡◌ {A = ℕ} 0 1 → X
 clash e = absurd (omega arith)
 
 -- ---- Booleans
-
-pub same_or_not : (a b : Bool) → (a ≡ b) ⊎ (a ≡ not b)
-same_or_not true true = inl refl
-same_or_not true false = inr refl
-same_or_not false true = inr refl
-same_or_not false false = inl refl
 
 -- a bit is not its own opposite
 pub opposite : {X : Type 0} (a : Bool) → a ≡ not a → X

@@ -7,6 +7,7 @@ use mathlib.Core.Logic.{inl, inr}
 use mathlib.Core.List.{List, [], ◌∷◌, ◌++◌}
 use lib.ListN.{length, take, drop, take-append-drop}
 use lib.Dec.{ltb}
+use Rattle.std.proofs.lemmas.Bool.{and_parts}
 use Rattle.std.specs.Prelude.{Result, Ok, Err, Option, Some, None, slice_get}
 use Rattle.std.proofs.lemmas.Option.{slice_get_within}
 use Rattle.types.specs.Codes.{pick}
@@ -18,7 +19,7 @@ use Rattle.reporter.specs.declared.RaiseError.{RaiseError}
 use Rattle.reporter.specs.declared.ReadOutcome.TheVariants.{Closed, Kept}
 use Rattle.collector.specs.Rules.{en_in}
 use Rattle.signaling.specs.Calls.{sent, raised, answered, Tally, on_entries, on_answers, on_requests, on_ruled, accepts, sends, gives, becomes, answers, adds}
-use Rattle.signaling.proofs.Facts.{clash, beq_same, beq_other, beq_true, both, at_snoc, join_more, no_batch, is_cons}
+use Rattle.signaling.proofs.Facts.{clash, beq_same, beq_other, beq_true, at_snoc, join_more, no_batch, is_cons}
 use Rattle.signaling.proofs.Frames.{Good, Says}
 use Rattle.signaling.proofs.Invariant.{en_said, batch_said, Inv}
 use Rattle.signaling.proofs.Transit.{answers_open, answers_send, answers_closed, requests_open, requests_later, requests_fresh, requests_closed}
@@ -177,7 +178,7 @@ module _ {i : ℕ} {ea : Bool} {book : List ErrorEntry} {c : Tally} (t : Inv i e
         → Inv i ea book (on_requests (gives (sent q)) (on_ruled (becomes (λ g. after_acknowledge (Ok (pick b Closed Kept)) g)) c))
     head_by x false me e = head_passes
     head_by x true me e =
-        head_closes (me ∙ ap (λ y. Ok (Some y)) (sym (beq_true h.en x (both (not (is_empty h.batch)) (beq h.en x) e).1)))
+        head_closes (me ∙ ap (λ y. Ok (Some y)) (sym (beq_true h.en x (and_parts (not (is_empty h.batch)) (beq h.en x) e).1)))
 
     pub head_reads_lem : (s : Result (Option Bool) PowerlinkError) → ea_told services i bs ≡ s
         → Inv i ea book (on_requests (gives (sent q)) (on_ruled (becomes (λ g. after_acknowledge (acknowledge_answer s g) g)) c))

@@ -7,12 +7,13 @@ use mathlib.Core.Logic.{inl, inr}
 use mathlib.Core.List.{List, [], ◌∷◌, ◌++◌}
 use native.Mathlib.Omega.{arith}
 use lib.ListN.{length, length-append}
+use mathlib.Mathlib.Data.Bool.Basic.{eq-or-eq-not}
+use Rattle.std.proofs.lemmas.Bool.{cases_lt}
 use Rattle.std.specs.Prelude.{Ok, Some, slice_get}
 use Rattle.std.proofs.lemmas.Option.{slice_get_within}
-use Rattle.octets.proofs.Order.{le_or_lt}
 use Rattle.error_entry.specs.declared.ErrorEntry.{ErrorEntry}
 use Rattle.reporter.specs.Rules.{ea_told}
-use Rattle.signaling.proofs.Facts.{same_or_not, opposite, at_snoc}
+use Rattle.signaling.proofs.Facts.{opposite, at_snoc}
 use Rattle.signaling.proofs.Invariant.{Carries, en_said, batch_said, Answers, Requests}
 
 -- ---- answers
@@ -61,14 +62,14 @@ module _ {en ea : Bool} {batch : List ErrorEntry} {sent : List (List ℕ)} {at o
   pub answers_fresh : (batch ≡ [] → ea ≡ en) → (p : ℕ) (a : List ℕ) → at ≤ p → slice_get sent p ≡ Some a → en_said a ≡ not ea
       → (ea ≡ not en) × (opened ≤ p) × (en_said a ≡ en) × (batch_said a ≡ batch) × (batch ≡ [] → ⊥)
   answers_fresh idle p a hp e fresh =
-      elim (same_or_not ea en) [
+      elim (eq-or-eq-not ea en) [
         | inl same ↦ opposite ea (same ∙ sym (t.new p a hp e (omega (arith, t.past same))) ∙ fresh)
         | inr differ ↦
             let bit : en_said a ≡ en = fresh ∙ ap not differ ∙ not-not en in
             let open? : batch ≡ [] → ⊥ = λ n. opposite en (sym (idle n) ∙ differ) in
-            elim (le_or_lt opened p) [
-              | inl le ↦ (differ, le, bit, t.carry p a hp e le open?, open?)
-              | inr lt ↦ opposite en (sym bit ∙ t.old p a hp e lt)
+            elim (cases_lt p opened) [
+              | inl lt ↦ opposite en (sym bit ∙ t.old p a hp e lt)
+              | inr le ↦ (differ, le, bit, t.carry p a hp e le open?, open?)
             ]
       ]
 
@@ -138,9 +139,9 @@ module _ {i : ℕ} {en ea : Bool} {batch : List ErrorEntry} {sent : List (List �
   pub requests_fresh : (q : ℕ) (f : List ℕ) → at ≤ q → slice_get sent q ≡ Some f → (services : List ℕ) → ea_told services i f ≡ Ok (Some en)
       → (ea ≡ en) × (turned ≤ q)
   requests_fresh q f hq e services me =
-      elim (same_or_not ea en) [
+      elim (eq-or-eq-not ea en) [
         | inl same ↦
-            elim (le_or_lt turned q) [ inl le ↦ (same, le) | inr lt ↦ opposite en (t.old q f hq e lt services en me ∙ ap not same) ]
+            elim (cases_lt q turned) [ inl lt ↦ opposite en (t.old q f hq e lt services en me ∙ ap not same) | inr le ↦ (same, le) ]
         | inr differ ↦ opposite en (t.new q f hq e (omega (arith, t.unread differ)) services en me ∙ differ)
       ]
 

@@ -1,8 +1,8 @@
 -- The answers of reading can be read back from their numbers and values.
 -- Assumes nothing.
 use mathlib.Core.Path.{refl}
+use mathlib.Mathlib.Logic.Function.Defs.{LeftInverse-Injective}
 use Rattle.types.specs.Causes.{cause_of}
-use Rattle.types.proofs.Apart.{apart}
 use Rattle.types.proofs.CausesTell.{error_told_lem, error_of, refused_not_0}
 use Rattle.status_response.specs.CausesTell.{CausesTell}
 
@@ -11,10 +11,10 @@ causes_tell =
     record {
       status = λ f. refl;
       no_status = λ e. refl;
-      statuses_apart = apart cause_of error_of (λ e. error_told_lem e 0);
+      statuses_apart = LeftInverse-Injective error_of cause_of (λ e. error_told_lem e 0);
       status_or_not = λ f e. refused_not_0 e _;
       error_field = λ f. refl;
       no_error_field = λ e. refl;
-      error_fields_apart = apart cause_of error_of (λ e. error_told_lem e 0);
+      error_fields_apart = LeftInverse-Injective error_of cause_of (λ e. error_told_lem e 0);
       error_field_or_not = λ f e. refused_not_0 e _;
     }

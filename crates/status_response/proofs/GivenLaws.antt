@@ -1,16 +1,17 @@
 -- Entries that are given as their octets: reading and writing them, four at a time, puts the octets.
 -- Assumes nothing.
-use Prim.Native.Nat.{ℕ, zero, suc, ◌+◌, ◌*◌, ◌-◌, ◌/◌, ◌%◌, ◌≤◌, ◌<◌}
-use mathlib.Core.Bool.{Bool, true, false}
+use Prim.Native.Nat.{ℕ, zero, suc, ◌+◌, ◌*◌, ◌-◌, ◌/◌, ◌%◌, ◌≤◌}
+use mathlib.Core.Bool.{Bool, true, false, true≢false}
 use mathlib.Core.Path.{◌≡◌, refl, sym, ap, ◌∙◌}
 use mathlib.Core.List.{List}
 use native.Mathlib.Nat.{zero-add}
 use native.Mathlib.Omega.{arith}
-use lib.ListN.{length, get_or, take, drop, replicate, length-append, length-drop}
+use lib.ListN.{length, take, drop, replicate, length-append, length-drop}
 use lib.Dec.{eqb, leb}
 use lib.Seq.{sets, length-sets, take-add, take_all, get_or-drop, length-take-le}
 use borrow.Author.Tests.{le-leb, eq-eqb, eqb-true, leb-true, leb-false}
 use borrow.Rule.Slice.PartMut.{mid_of, put_mid}
+use Rattle.octets.proofs.NumberBack.{Octets}
 use Rattle.std.specs.Prelude.{Ok, Err}
 use Rattle.octets.proofs.Sets.{sets_append}
 use Rattle.section.proofs.Sections.{refuses, writes}
@@ -33,9 +34,6 @@ use Rattle.status_response.proofs.WriteLaws.{put_is, status_length_lem}
 entries_count : (n : ℕ) (s : List ℕ) → length (entries_of n s) ≡ n
 entries_count zero s = refl
 entries_count (suc n) s = ap suc (entries_count n (drop entry_length s))
-
-abbrev Octets : List ℕ → Type 0
-Octets s = (i : ℕ) → get_or s i 0 < 256
 
 entries_octets : (n : ℕ) (s : List ℕ) → entry_length * n ≤ length s → Octets s → entries_bytes (entries_of n s) ≡ take (entry_length * n) s
 entries_octets zero s h o = refl
@@ -117,7 +115,7 @@ all_put at s t t₀ h e = e ∙ ap (sets t₀ front_length) (take_all at s h)
 
 both : (a b : Bool) → need a false b ≡ true → (a ≡ true) × (b ≡ true)
 both true b e = (refl, e)
-both false b e = let z : ◌≡◌ {A = ℕ} 0 1 = cc in absurd (omega arith)
+both false b e = absurd (true≢false cc)
 
 pub given_fits : (s : List ℕ) (len : ℕ) → given_fit s len ≡ true → (length s % entry_length ≡ 0) × (status_length (length s / entry_length) ≤ len)
 given_fits s len e =

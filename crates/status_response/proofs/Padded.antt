@@ -5,14 +5,9 @@ use mathlib.Core.Path.{◌≡◌, refl, ◌∙◌}
 use mathlib.Core.List.{List, [], ◌∷◌, ◌++◌}
 use lib.ListN.{length, get_or, drop, replicate, length-replicate}
 use lib.Seq.{sets, get_or-drop}
+use Rattle.octets.proofs.Elements.{zeros}
 use Rattle.octets.proofs.Sets.{sets_front}
 use Rattle.status_response.specs.BitField.{field_of}
-
--- zeros are zeros, from any place on
-zeros : (i k : ℕ) → ◌≡◌ {A = ℕ} (get_or (replicate k 0) i 0) 0
-zeros i zero = refl
-zeros zero (suc k) = refl
-zeros (suc i) (suc k) = zeros i k
 
 behind : (i j k : ℕ) (s : List ℕ) → get_or (s ++ drop j (replicate k 0)) i 0 ≡ get_or s i 0
 behind i j k [] = get_or-drop j (replicate k 0) i 0 ∙ zeros (j + i) k

@@ -7,7 +7,7 @@ use mathlib.Core.List.{List, ◌++◌, append_assoc}
 use native.Mathlib.Omega.{arith}
 use lib.Dec.{leb}
 use lib.ListN.{length, take, drop, length-drop, take-append-drop}
-use lib.Seq.{sets, length-sets, sets-eq, take_all, drop-drop, drop-append-le, length-take-le}
+use lib.Seq.{sets, length-sets, sets-eq, drop-drop, drop-append-le, length-take-le}
 use borrow.Author.Tests.{leb-true, leb-false, le-leb, lt-leb}
 use borrow.Rule.Slice.PartMut.{mid_of, put_mid}
 use Rattle.octets.proofs.Sets.{sets_front}
@@ -20,11 +20,8 @@ unfolding entry_bytes
 entry_length e = refl
 
 -- the rest of a list from a place on
-pub rest_is : (t : List ℕ) (at : ℕ) → take (length t - at) (drop at t) ≡ drop at t
-rest_is t at = take_all (length t - at) (drop at t) (simp length-drop (omega arith))
-
 pub rest_length : (t : List ℕ) (at : ℕ) → length (take (length t - at) (drop at t)) ≡ length t - at
-rest_length t at = ap length (rest_is t at) ∙ length-drop at t
+rest_length t at = length-take-le (length t - at) (drop at t) (simp length-drop (omega arith))
 
 -- a part of a list has its length
 pub part_length : (at k : ℕ) (t : List ℕ) → at + k ≤ length t → length (mid_of at k t) ≡ k

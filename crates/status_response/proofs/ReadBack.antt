@@ -1,13 +1,14 @@
 -- A StatusResponse that is written is read back.
 -- Assumes nothing.
-use Prim.Native.Nat.{ℕ, zero, suc, ◌+◌, ◌≤◌}
+use Prim.Native.Nat.{ℕ, ◌+◌, ◌≤◌}
 use mathlib.Core.Path.{◌≡◌, refl, ap, ◌∙◌}
 use mathlib.Core.Bool.{Bool, true, false}
-use mathlib.Core.List.{List, [], ◌∷◌, ◌++◌}
+use mathlib.Core.List.{List, ◌++◌}
 use native.Mathlib.Omega.{arith}
-use lib.ListN.{length, get_or, take, drop}
-use lib.Seq.{drop-cons, take_all}
+use lib.ListN.{length, drop}
+use lib.Seq.{take_all}
 use borrow.Author.Tests.{le-leb}
+use Rattle.octets.proofs.Elements.{elements, elements_are}
 use Rattle.std.specs.Prelude.{Ok}
 use Rattle.octets.specs.Numbers.{bit}
 use Rattle.types.proofs.ReadBack.{state_known}
@@ -34,16 +35,6 @@ ec_back true true = refl
 ec_back true false = refl
 ec_back false true = refl
 ec_back false false = refl
-
--- n elements of a list, from place i on
-abbrev elements : ℕ → ℕ → List ℕ → List ℕ
-elements zero i l = []
-elements (suc n) i l = get_or l i 0 ∷ elements n (suc i) l
-
-elements_are : (n i : ℕ) (l : List ℕ) → i + n ≤ length l → elements n i l ≡ take n (drop i l)
-elements_are zero i l h = refl
-elements_are (suc n) i l h =
-    rw (drop-cons l i 0 (omega arith)) (ap (λ (r : List ℕ). get_or l i 0 ∷ r) (elements_are n (suc i) l (omega arith)))
 
 module _ (f : StatusFields) (field : StaticErrorBitField) (es : List ErrorEntry) (behind : List ℕ) where
   fields_back : f.rs.0 ≤ 7 → read_fields (status_bytes (head_bytes f field) es ++ behind) ≡ Ok f

@@ -2,16 +2,16 @@
 -- Assumes nothing.
 use Prim.Native.Nat.{ℕ, ◌+◌, ◌-◌, ◌≤◌, ◌<◌}
 use mathlib.Core.Path.{◌≡◌, refl, sym, ap, ◌∙◌}
-use mathlib.Core.Bool.{Bool, true, false}
+use mathlib.Core.Bool.{Bool, true, false, true≢false}
 use mathlib.Core.List.{List}
 use mathlib.Core.Logic.{◌⊎◌, inl, inr}
 use lib.Dec.{leb}
 use lib.ListN.{length, drop, length-drop}
 use native.Mathlib.Omega.{arith}
 use borrow.Author.Tests.{leb-true, leb-false, le-leb, lt-leb}
+use Rattle.std.proofs.lemmas.Bool.{cases_lt}
 use Rattle.std.specs.Prelude.{Result, Ok, Err, Option, Some, None}
 use Rattle.std.specs.Result.{result_ok}
-use Rattle.octets.proofs.Order.{le_or_lt}
 use Rattle.types.specs.declared.error_mode.ErrorEntryMode.{ErrorEntryMode}
 use Rattle.types.specs.Codes.{need}
 use Rattle.types.specs.declared.hal.PowerlinkError.{PowerlinkError}
@@ -24,11 +24,11 @@ module _ (s : List ℕ) (offset : ℕ) where
   -- under 20 octets are left
   pub step_none : length s - offset < 20 → None ≡ step_at s offset
   unfolding step_at
-  step_none h = split (le_or_lt 20 (length s))
+  step_none h = split (cases_lt (length s) 20)
     where
-      split : (20 ≤ length s) ⊎ (length s < 20) → None ≡ step_at s offset
-      split (inl long) = rw (le-leb 20 (length s) long, lt-leb offset (length s - 20) (omega arith))
-      split (inr short) = rw (lt-leb 20 (length s) short)
+      split : (length s < 20) ⊎ (20 ≤ length s) → None ≡ step_at s offset
+      split (inl short) = rw (lt-leb 20 (length s) short)
+      split (inr long) = rw (le-leb 20 (length s) long, lt-leb offset (length s - 20) (omega arith))
 
   -- by the mode of the entry that stands there
   pub step_by_mode : (t : List ℕ) (e : ErrorEntry) (m : ErrorEntryMode) (r : Option (ErrorEntry × ℕ)) → 20 ≤ length s - offset → t ≡ drop offset s → e ≡ entry_of t
@@ -48,7 +48,7 @@ module _ (s : List ℕ) (offset : ℕ) where
     step_refused none = split (leb 20 (length t)) refl (ap result_ok (sym ea) ∙ none)
       where
         split : (b : Bool) → leb 20 (length t) ≡ b → result_ok (need b (Err BufferTooShort) (Ok (entry_of t))) ≡ None → None ≡ step_at s offset
-        split true k o = let z : ◌≡◌ {A = ℕ} 0 1 = cc in absurd (omega arith)
+        split true k o = absurd (true≢false cc)
         split false k o = step_none (omega (arith, rest, leb-false 20 (length t) k))
 
     -- by its mode
@@ -59,4 +59,4 @@ module _ (s : List ℕ) (offset : ℕ) where
       where
         split : (b : Bool) → leb 20 (length t) ≡ b → result_ok (need b (Err BufferTooShort) (Ok (entry_of t))) ≡ Some e → r ≡ step_at s offset
         split true k o = step_by_mode t e m r (omega (arith, rest, leb-true 20 (length t) k)) et (cc) em er
-        split false k o = let z : ◌≡◌ {A = ℕ} 0 1 = cc in absurd (omega arith)
+        split false k o = absurd (true≢false cc)

@@ -8,9 +8,9 @@ use native.Mathlib.Omega.{arith}
 use lib.ListN.{length, drop, replicate, length-append, length-drop}
 use lib.Seq.{drop_at, drop-drop}
 use borrow.Author.Tests.{le-leb, lt-leb}
+use Rattle.std.proofs.lemmas.Bool.{cases_lt}
 use Rattle.std.specs.Prelude.{Option, Some, None}
 use Rattle.octets.specs.Numbers.{le_at}
-use Rattle.octets.proofs.Order.{le_or_lt}
 use Rattle.types.specs.Modes.{mode_in}
 use Rattle.types.specs.declared.error_mode.ErrorEntryMode.{ErrorEntryMode}
 use Rattle.types.specs.declared.error_mode.ErrorEntryMode.TheVariants.{Terminator, ErrorActive, ErrorCleared, EventOccurred}
@@ -38,10 +38,11 @@ module _ (s : List ℕ) where
 
   walked_is : (n offset : ℕ) → walked n s offset ≡ entries_in n (drop offset s)
   walked_is zero offset = refl
-  walked_is (suc n) offset = cases (walked_is n (offset + 20)) (le_or_lt 20 (length s - offset))
+  walked_is (suc n) offset = cases (walked_is n (offset + 20)) (cases_lt (length s - offset) 20)
     where
-      cases : walked n s (offset + 20) ≡ entries_in n (drop (offset + 20) s) → (20 ≤ length s - offset) ⊎ (length s - offset < 20) → walked (suc n) s offset ≡ entries_in (suc n) (drop offset s)
-      cases more (inl h) =
+      cases : walked n s (offset + 20) ≡ entries_in n (drop (offset + 20) s) → (length s - offset < 20) ⊎ (20 ≤ length s - offset) → walked (suc n) s offset ≡ entries_in (suc n) (drop offset s)
+      cases more (inl h) = rw (← step_none s offset h, length-drop offset s, lt-leb 20 (length s - offset) h)
+      cases more (inr h) =
           rw (
             ← a_step offset h,
             by_mode (entry_of (drop offset s)).entry_type.mode (entry_of (drop offset s)) (offset + 20) (walked n s),
@@ -50,7 +51,6 @@ module _ (s : List ℕ) where
             le-leb 20 (length s - offset) h,
             drop-drop 20 offset s,
           )
-      cases more (inr h) = rw (← step_none s offset h, length-drop offset s, lt-leb 20 (length s - offset) h)
 
 -- a bound that is at least the length changes nothing
 bound_free : (n m : ℕ) (t : List ℕ) → length t ≤ n → length t ≤ m → entries_in n t ≡ entries_in m t

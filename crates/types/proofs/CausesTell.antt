@@ -7,6 +7,7 @@ use mathlib.Core.List.{List}
 use native.Mathlib.Omega.{arith}
 use lib.Dec.{eqb, ltb}
 use lib.ListN.{get_or}
+use mathlib.Mathlib.Logic.Function.Defs.{LeftInverse-Injective}
 use Rattle.std.specs.Prelude.{Result, Ok, Err}
 use Rattle.types.specs.Causes.{Cause, row, cause_of, error_told}
 use Rattle.types.specs.CausesTell.{NumbersTell, ErrorsTell, CodesTell}
@@ -18,7 +19,6 @@ use Rattle.types.specs.RequestedServices.{requested_of}
 use Rattle.types.specs.States.{state_of}
 use Rattle.types.specs.declared.hal.PowerlinkError.{PowerlinkError}
 use Rattle.types.specs.declared.hal.PowerlinkError.TheVariants.{BufferTooShort, InvalidEthernetFrame, InvalidPlFrame, InvalidMessageType, InvalidNmtState, InvalidServiceId, InvalidRequestedServiceId}
-use Rattle.types.proofs.Apart.{apart}
 use Rattle.types.proofs.ReadBack.{message_known, state_known, requested_known, mode_known}
 use Rattle.types.specs.declared.states.NmtState.{NmtState}
 use Rattle.types.specs.declared.message_type.MessageType.{MessageType}
@@ -116,7 +116,7 @@ errors_tell =
       invalid_nmt_state = λ b. refl;
       invalid_service_id = λ b. refl;
       invalid_requested_service_id = λ b. refl;
-      apart = apart cause_of error_of (λ e. error_told_lem e 0);
+      apart = LeftInverse-Injective error_of cause_of (λ e. error_told_lem e 0);
       told = error_told_lem;
     }
 
@@ -149,14 +149,14 @@ codes_tell =
     record {
       a_message = λ m. refl;
       no_message = λ b. refl;
-      messages_apart = apart message_cause (code_in message_of) message_back;
+      messages_apart = LeftInverse-Injective (code_in message_of) message_cause message_back;
       a_state = λ s. refl;
       no_state = λ b. refl;
-      states_apart = apart state_cause (code_in state_of) state_back;
+      states_apart = LeftInverse-Injective (code_in state_of) state_cause state_back;
       a_requested = λ s. refl;
       no_requested = λ b. refl;
-      requested_apart = apart requested_cause (code_in requested_of) requested_back;
+      requested_apart = LeftInverse-Injective (code_in requested_of) requested_cause requested_back;
       a_mode = λ m. refl;
       no_mode = λ b. refl;
-      modes_apart = apart mode_cause mode_in_row mode_back;
+      modes_apart = LeftInverse-Injective mode_in_row mode_cause mode_back;
     }

@@ -1,4 +1,3 @@
-pub mod Apart
 pub mod Broadcast
 pub mod CausesTell
 pub mod CodeCauses

@@ -1,7 +1,7 @@
 -- A mode's code has two bits, and the terminator's mode is told from those of entries.
 -- Assumes nothing.
-use Prim.Native.Nat.{ℕ, ◌≤◌}
-use mathlib.Core.Bool.{true, false}
+use Prim.Native.Nat.{◌≤◌}
+use mathlib.Core.Bool.{true, false, true≢false}
 use mathlib.Core.Path.{◌≡◌, refl}
 use native.Mathlib.Omega.{arith}
 use Rattle.types.specs.Modes.{mode_code, unless_terminator}
@@ -17,12 +17,12 @@ mode_small EventOccurred = omega arith
 module _ {A : Type 0} (a b : A) where
   pub is_terminator : (m : ErrorEntryMode) → true ≡ unless_terminator m false true → b ≡ unless_terminator m a b
   is_terminator Terminator e = refl
-  is_terminator ErrorActive e = let z : ◌≡◌ {A = ℕ} 0 1 = cc in absurd (omega arith)
-  is_terminator ErrorCleared e = let z : ◌≡◌ {A = ℕ} 0 1 = cc in absurd (omega arith)
-  is_terminator EventOccurred e = let z : ◌≡◌ {A = ℕ} 0 1 = cc in absurd (omega arith)
+  is_terminator ErrorActive e = absurd (true≢false cc)
+  is_terminator ErrorCleared e = absurd (true≢false cc)
+  is_terminator EventOccurred e = absurd (true≢false cc)
 
   pub is_entry : (m : ErrorEntryMode) → false ≡ unless_terminator m false true → a ≡ unless_terminator m a b
-  is_entry Terminator e = let z : ◌≡◌ {A = ℕ} 0 1 = cc in absurd (omega arith)
+  is_entry Terminator e = absurd (true≢false cc)
   is_entry ErrorActive e = refl
   is_entry ErrorCleared e = refl
   is_entry EventOccurred e = refl

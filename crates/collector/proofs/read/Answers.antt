@@ -5,8 +5,8 @@ use native.Mathlib.Omega.{arith}
 use borrow.Author.Rules.{rules}
 use lib.ListN.{length, drop, length-drop}
 use lib.Seq.{take_all}
-use Rattle.std.specs.Prelude.{Ok}
 use Rattle.types.proofs.Passed.{passed}
+use Rattle.std.specs.Prelude.{Ok}
 use Rattle.control.specs.ASnd.{asnd_payload_at}
 use Rattle.collector.proofs.CallLaws.{reads_refused, reads_other, reads_status}
 use Rattle.collector.proofs.read.Goals as goal

@@ -1,8 +1,8 @@
 -- `write_request` meets its contract.
 -- Assumes nothing.
 use mathlib.Core.Path.{◌∙◌}
-use Rattle.collector.proofs.CallLaws.{request_writes}
 use Rattle.types.proofs.Passed.{passed}
+use Rattle.collector.proofs.CallLaws.{request_writes}
 use Rattle.collector.proofs.asking.write_request.Goals as goal
 
 pub returns-in_err-len : goal.returns-in_err-len

@@ -4,7 +4,7 @@ use Prim.Native.Nat.{◌≤◌, ◌<◌}
 use mathlib.Core.Path.{◌≡◌, sym, ap, ◌∙◌}
 use mathlib.Core.Logic.{⊎_elim}
 use native.Mathlib.Omega.{arith}
-use Rattle.octets.proofs.Order.{le_or_lt}
+use Rattle.std.proofs.lemmas.Bool.{cases_lt}
 use Rattle.collector.specs.Layout.{node_in, block_found}
 use Rattle.collector.proofs.IdLaws.{find_first, find_none, found_block}
 use Rattle.collector.proofs.state.find.Goals as goal
@@ -21,9 +21,9 @@ unfolding node_in
 loop-number-preserved c o below =
     let k = c.loop-number.number in
     ⊎_elim
-    (λ (here : k ≤ o). let e : o ≡ k = omega arith in rw e c.if-state-number.false)
     (λ (before : o < k). c.loop-number.invariant o before)
-    (le_or_lt k o)
+    (λ (here : k ≤ o). let e : o ≡ k = omega arith in rw e c.if-state-number.false)
+    (cases_lt o k)
 
 pub returns : goal.returns
 returns c =

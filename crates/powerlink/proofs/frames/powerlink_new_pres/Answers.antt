@@ -1,11 +1,10 @@
 -- `frames::powerlink_new_pres` meets its contract.
 -- Assumes nothing.
-use mathlib.Core.Path.{ap, sym, ◌∙◌}
-use lib.ListN.{length, length-set}
+use mathlib.Core.Path.{sym, ◌∙◌}
 use Rattle.types.proofs.CodeCauses.{state_code_lem}
 use Rattle.poll.specs.PRes.{pres_section}
 use Rattle.frame.specs.Write.{frame_bytes}
-use Rattle.powerlink.proofs.Writers.{writes_coded, refuses_coded}
+use Rattle.powerlink.proofs.Writers.{writes_coded}
 use Rattle.powerlink.proofs.frames.powerlink_new_pres.Goals as goal
 
 pub returns-in-Ok : goal.returns-in-Ok

@@ -2,7 +2,7 @@
 -- Assumes nothing.
 use Rattle.control.specs.SoA.{soa_section}
 use Rattle.frame.specs.Write.{frame_bytes}
-use Rattle.powerlink.proofs.Writers.{writes_coded, refuses_coded}
+use Rattle.powerlink.proofs.Writers.{writes_coded}
 use Rattle.powerlink.proofs.frames.powerlink_new_soa.Goals as goal
 
 pub returns-in-Ok-try_from : goal.returns-in-Ok-try_from

@@ -1,7 +1,7 @@
 -- `reading::read_soa` meets its contract: each verdict is told as its answer.
 -- Assumes nothing.
 use Rattle.frame.specs.declared.PowerlinkFrame.TheVariants.{SoA}
-use Rattle.powerlink.proofs.Readers.{section_refused, section_frame}
+use Rattle.powerlink.proofs.Readers.{section_frame}
 use Rattle.powerlink.proofs.States.{soa_told}
 use Rattle.powerlink.proofs.reading.read_soa.Goals as goal
 

@@ -1,6 +1,6 @@
 -- `sections::powerlink_serialize_soa` meets its contract.
 -- Assumes nothing.
-use Rattle.powerlink.proofs.Writers.{writes_coded, refuses_coded}
+use Rattle.powerlink.proofs.Writers.{writes_coded}
 use Rattle.powerlink.proofs.sections.powerlink_serialize_soa.Goals as goal
 
 pub returns-in-Ok-try_from : goal.returns-in-Ok-try_from

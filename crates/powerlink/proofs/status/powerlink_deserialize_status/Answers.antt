@@ -1,9 +1,8 @@
 -- `status::powerlink_deserialize_status` meets its contract.
 -- Assumes nothing.
 use mathlib.Core.Path.{sym, ◌∙◌}
-use native.Mathlib.Omega.{arith}
-use Rattle.powerlink.proofs.Readers.{status_refused, status_read_lem, read_in}
-use Rattle.powerlink.proofs.States.{front_there, state_told}
+use Rattle.powerlink.proofs.Readers.{status_read_lem, read_in}
+use Rattle.powerlink.proofs.States.{state_told}
 use Rattle.powerlink.proofs.status.powerlink_deserialize_status.Goals as goal
 
 pub returns-in-Ok : goal.returns-in-Ok

@@ -2,7 +2,6 @@
 -- Assumes nothing.
 use native.Mathlib.Omega.{arith}
 use Rattle.types.specs.PollFlags.{poll_octet}
-use Rattle.types.proofs.Priorities.{priority_small}
 use Rattle.types.proofs.poll_flags.poll_octet.Goals as goal
 
 pub returns : goal.returns

@@ -1,10 +1,10 @@
--- A part of a list, element by element, and parts that stand one behind the other.
+-- A part of a list, element by element, and parts that stand one behind the other; zeros.
 -- Assumes nothing.
 use Prim.Native.Nat.{ℕ, zero, suc, ◌+◌, ◌≤◌}
 use mathlib.Core.Path.{◌≡◌, refl, ap}
 use mathlib.Core.List.{List, [], ◌∷◌, ◌++◌}
 use native.Mathlib.Omega.{arith}
-use lib.ListN.{length, get_or, take, drop}
+use lib.ListN.{length, get_or, take, drop, replicate}
 use lib.Seq.{drop-cons, take-add}
 
 -- n elements of a list, from place i on
@@ -19,3 +19,9 @@ elements_are (suc n) i l h =
 
 pub joined : (n m : ℕ) (l u v : List ℕ) → u ≡ take n l → v ≡ take m (drop n l) → u ++ v ≡ take (n + m) l
 joined n m l u v eu ev = rw (eu, ev, take-add n m l)
+
+-- an element of zeros, or past their end
+pub zeros : (i k : ℕ) → ◌≡◌ {A = ℕ} (get_or (replicate k 0) i 0) 0
+zeros i zero = refl
+zeros zero (suc k) = refl
+zeros (suc i) (suc k) = zeros i k
