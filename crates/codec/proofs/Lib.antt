@@ -1,10 +1,4 @@
-pub mod ASndLaws
 pub mod AnyTable
 pub mod CausesTell
 pub mod FrameLaws
-pub mod HeaderLaws
-pub mod PReqLaws
-pub mod PResLaws
-pub mod PollLaws
-pub mod SoALaws
 pub mod SoCLaws

@@ -13,6 +13,7 @@ use types::NodeId;
 use types::hal::PowerlinkError;
 
 // The tests of a section: that it is read, or why it is refused.
+#[tactic(auto, unfolding(crate::specs::ASnd::read_asnd))]
 pub fn judge(services: &Services, s: &[u8]) -> Result<(), PowerlinkError>
     ensures { asnd_answer result s.now ≡ read_asnd services.now s.now }
 {
@@ -46,6 +47,7 @@ pub fn fields(s: &[u8]) -> ASndFrame
 }
 
 // The length of the payload: a section of the smallest size may be padded, so it loses the zeros at its end.
+#[tactic(auto, unfolding(crate::specs::ASnd::asnd_payload_length))]
 pub(crate) fn payload_len(s: &[u8]) -> usize
     ensures { result ≡ asnd_payload_length s.now }
 {

@@ -36,6 +36,7 @@ fn mac_at(s: &[u8]) -> MacAddress
 }
 
 // The header that the first octets are, those past the end counting as 0.
+#[tactic(auto, unfolding(types::specs::Header::eth_header_of))]
 pub fn eth_header_at(buffer: &[u8]) -> EthernetHeader
     ensures { result ≡ eth_header_of buffer.now }
 {
@@ -57,6 +58,7 @@ pub fn deserialize_eth_header(buffer: &[u8]) -> Result<EthernetHeader, Powerlink
 }
 
 // Reads what every section begins with.
+#[tactic(auto, unfolding(crate::specs::Headers::deserialize_pl_header))]
 pub fn deserialize_pl_header(s: &[u8]) -> Result<PlHeader, PowerlinkError>
     ensures { ReadsPlHeader s.now result }
 {

@@ -49,6 +49,7 @@ impl DeserializedFrame {
 }
 
 // Reads a frame, from its Ethernet header on; an ASnd is read where the table holds its service.
+#[tactic(auto, unfolding(crate::specs::Frame::deserialize_frame))]
 pub fn deserialize_frame(
     services: &Services,
     buffer: &[u8],
@@ -75,6 +76,7 @@ pub fn payload(place: PayloadPlace, buffer: &[u8]) -> &[u8]
 
 // The frame, or why it is refused: for a caller that wants neither header nor payload. The table and the octets come apart, here and
 // in the exchange: who lends the one does not own the other.
+#[tactic(auto, unfolding(crate::specs::Frame::read_frame))]
 pub fn read_frame(services: &Services, buffer: &[u8]) -> Result<PowerlinkFrame, PowerlinkError>
     ensures { ReadsFrame services.now buffer.now result }
 {
@@ -83,6 +85,7 @@ pub fn read_frame(services: &Services, buffer: &[u8]) -> Result<PowerlinkFrame, 
 }
 
 // The tests of a frame before those of its kind. What a caller does for each kind then is its own.
+#[tactic(auto, unfolding(crate::specs::Frame::kind_of))]
 pub fn kind_of(buffer: &[u8]) -> Result<MessageType, PowerlinkError>
     ensures { result ≡ kind_of buffer.now }
 {

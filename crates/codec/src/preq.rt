@@ -13,6 +13,7 @@ use types::hal::PowerlinkError;
 use types::mapping::PDOVersion;
 
 // The tests of a section: the size that its fields are read with, or why it is refused.
+#[tactic(auto, unfolding(crate::specs::PReq::read_preq))]
 pub fn judge(s: &[u8]) -> Result<u16, PowerlinkError>
     ensures { preq_answer result s.now ≡ read_preq s.now }
 {

@@ -15,6 +15,7 @@ use types::states::NmtState;
 use types::{C_ADR_BROADCAST_NODE_ID, NodeId};
 
 // The tests of a section: the state and the size that its fields are read with, or why it is refused.
+#[tactic(auto, unfolding(crate::specs::PRes::read_pres))]
 pub fn judge(s: &[u8]) -> Result<(NmtState, u16), PowerlinkError>
     ensures { pres_answer result s.now ≡ read_pres s.now }
 {
@@ -56,6 +57,7 @@ pub fn fields(s: &[u8], nmt_state: NmtState, payload_size: u16) -> PResFrame
 }
 
 // The flags in octets 4 and 5. No `From`: of a pair of octets it would not say which is which.
+#[tactic(auto, unfolding(crate::specs::PRes::pres_flags_of))]
 fn flags_of(octet4: u8, octet5: u8) -> PResFlags
     ensures { result ≡ pres_flags_of octet4 octet5 }
 {

@@ -12,6 +12,7 @@ use types::states::NmtState;
 use types::{EPLVersion, NodeId};
 
 // The tests of a section: the codes that its fields are read with, or why it is refused.
+#[tactic(auto, unfolding(crate::specs::SoA::read_soa))]
 pub fn judge(s: &[u8]) -> Result<(NmtState, RequestedServiceId), PowerlinkError>
     ensures { soa_answer result s.now ≡ read_soa s.now }
 {

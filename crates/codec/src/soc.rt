@@ -12,6 +12,7 @@ use types::common::{NetTime, RelativeTime};
 use types::hal::PowerlinkError;
 
 // The tests of a section: its times, which are read where its length is known, or why it is refused.
+#[tactic(auto, using(crate::proofs::SoCLaws::soc_read, crate::proofs::SoCLaws::soc_short))]
 pub fn judge(s: &[u8]) -> Result<(NetTime, RelativeTime), PowerlinkError>
     ensures { soc_answer result s.now ≡ read_soc s.now }
 {

@@ -79,3 +79,5 @@ module _ (s : List ℕ) (k : ℕ) (en : Bool) (es : List ErrorEntry) where
     pub book_room : count_in s k + length es ≤ book_length → (Ok Booked) ≡ book_answer en es (account_in s k)
     unfolding book_answer
     book_room h = rw (new, book_length_lem s k, le-leb (count_in s k + length es) book_length h)
+
+pub ruleset book_laws = (book_known, book_full, book_room)

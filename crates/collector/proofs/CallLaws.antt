@@ -2,25 +2,18 @@
 -- Assumes nothing.
 use Prim.Native.Nat.{ℕ, ◌≤◌, ◌<◌}
 use mathlib.Core.Path.{◌≡◌, refl, ap, ◌∙◌}
-use mathlib.Core.Bool.{Bool}
-use mathlib.Core.List.{List, [], ◌++◌}
+use mathlib.Core.List.{List}
 use lib.ListN.{length}
+use Rattle.collector.proofs.AnswerLaws.{take_unknown, take_nothing, take_one}
 use Rattle.std.specs.Prelude.{Result, Ok, Err, Some, None}
 use Rattle.octets.proofs.NumberBack.{Octets}
 use Rattle.types.specs.declared.NodeId.{NodeId}
 use Rattle.types.specs.declared.hal.PowerlinkError.{PowerlinkError}
-use Rattle.types.specs.Header.{eth_bytes}
-use Rattle.section.specs.Write.{padded, write_answer, overwritten, Writes}
-use Rattle.control.specs.SoA.{soa_bytes, soa_section}
-use Rattle.types.specs.declared.basic.NewFrame.{NewFrame}
-use Rattle.control.specs.declared.soa.SoAFrame.{SoAFrame}
-use Rattle.frame.specs.Write.{frame_bytes}
-use Rattle.frame.specs.declared.PowerlinkFrame.TheVariants.{SoA}
 use Rattle.status_response.specs.Fields.{read_fields}
 use Rattle.status_response.specs.declared.fields.StatusFields.{StatusFields}
 use Rattle.collector.specs.Calls.{Registers, Reads, Requests, Takes, ReadsStatus, Books}
 use Rattle.collector.specs.Layout.{collector_length, slot_of, account_in, account_of, box_of, register_bytes, response_bytes, take_bytes}
-use Rattle.collector.specs.Rules.{heads, register_answer, register_cause, en_in, status_payload, book_answer, said_in, account_answer, read_answer, read_cause, request_soa, request_frame, as_request, request_written, request_answer, request_cause, after_request, take_answer, take_cause, response_in, booked_entries}
+use Rattle.collector.specs.Rules.{heads, register_answer, register_cause, en_in, status_payload, book_answer, said_in, account_answer, read_answer, read_cause, request_answer, request_cause, after_request, take_answer, take_cause, response_in, booked_entries}
 use Rattle.collector.specs.declared.ReadError.TheVariants.{Frame, NotStatusResponse, NotRegistered}
 use Rattle.collector.specs.declared.RegisterError.TheVariants.{IdOutOfRange}
 use Rattle.collector.specs.declared.RequestFields.{RequestFields}
@@ -99,17 +92,9 @@ module _ (services s f : List ℕ) where
 
 -- ---- request
 
--- the answer and the octets of writing the SoA that `new` makes
-module _ (i : ℕ) (f : RequestFields) (ea : Bool) (soa : NewFrame SoAFrame) (made : soa ≡ request_soa i f ea) (r : Result ℕ PowerlinkError) (target after : List ℕ) where
-  pub request_writes : Writes (eth_bytes soa.eth_header ++ padded (soa_bytes soa.frame ++ [])) r target after
-      → (as_request r ≡ request_written (request_frame i f ea) target) × (after ≡ overwritten (request_frame i f ea) target)
-  unfolding request_frame frame_bytes soa_section
-  request_writes w =
-      let e : frame_bytes soa.eth_header (SoA soa.frame) [] ≡ request_frame i f ea =
-      ap (λ (x : NewFrame SoAFrame). frame_bytes x.eth_header (SoA x.frame) []) made in
-      (ap as_request w.answer ∙ ap (λ (bs : List ℕ). as_request (write_answer bs target)) e, w.holds ∙ ap (λ (bs : List ℕ). overwritten bs target) e)
-
 pub requests : (i : NodeId) (f : RequestFields) → length f.source_mac.0 ≡ 6 → (r : Result ℕ RequestError) (s target written : List ℕ)
     → r ≡ request_answer i.0 f target (account_of s i.0) → written ≡ after_request i.0 f target (account_of s i.0) → Requests i f r s target written
 requests i f six r s target written a h =
     record { answer = a; cause = ap request_cause a; source = six; size = λ ea. request_size i.0 f ea; holds = h }
+
+pub ruleset take_laws = (takes, take_unknown, take_nothing, take_one)

@@ -48,17 +48,6 @@ find_first s b (suc (suc (suc zero))) h e f =
     )
 find_first s b (suc (suc (suc (suc k)))) h e f = absurd (let z : ⊥ = omega arith in z)
 
--- and none, where no block has it
-pub find_none : (s : List ℕ) (b : ℕ) → ((o : ℕ) → o < heads → node_in s o ≡ b → ⊥) → find_of s b ≡ heads
-unfolding find_of
-find_none s b f =
-    rw (
-      ne_eqb (node_in s 0) b (f 0 (omega arith)),
-      ne_eqb (node_in s 1) b (f 1 (omega arith)),
-      ne_eqb (node_in s 2) b (f 2 (omega arith)),
-      ne_eqb (node_in s 3) b (f 3 (omega arith)),
-    )
-
 pub found_block : (k : ℕ) → k < heads → block_found k ≡ Some k
 found_block k h = rw (lt-ltb k heads h)
 

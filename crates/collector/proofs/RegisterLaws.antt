@@ -13,7 +13,7 @@ use Rattle.std.proofs.lemmas.Bool.{cases_eq}
 use Rattle.std.specs.Prelude.{Some}
 use Rattle.types.specs.Codes.{pick}
 use Rattle.collector.specs.Rules.{heads, Account, Same, fresh_account, with_account}
-use Rattle.collector.specs.Layout.{collector_length, node_in, find_of, slot_of, account_in, account_of, is_vacant, vacant_of, box_of, placed_bytes}
+use Rattle.collector.specs.Layout.{collector_length, node_in, find_of, slot_of, account_in, account_of, vacant_of, box_of, placed_bytes}
 use Rattle.collector.proofs.BlockLaws.{node_kept, place_kept}
 use Rattle.collector.proofs.IdLaws.{first, found, find_first, slot_find, place_some, place_stays, slot_taken}
 use Rattle.collector.proofs.PlacedLaws.{placed_node, placed_kept, placed_fresh}
@@ -47,9 +47,6 @@ unfolding find_of vacant_of
 free_none s h = none_holds (eqb (node_in s 0) 0) (eqb (node_in s 1) 0) (eqb (node_in s 2) 0) (eqb (node_in s 3) 0) h
 
 module _ (s t : List ℕ) where
-  free_same : (o : ℕ) → node_in t o ≡ node_in s o → is_vacant t o ≡ is_vacant s o
-  free_same o e = rw e
-
   -- a free block is given to a node
   free_less : (k : ℕ) → k < heads → ((o : ℕ) → (o ≡ k → ⊥) → node_in t o ≡ node_in s o) → node_in s k ≡ 0 → (node_in t k ≡ 0 → ⊥)
       → vacant_of t ≡ vacant_of s - 1

@@ -10,6 +10,7 @@ use types::NodeId;
 use types::requested_service::RequestedServiceId;
 
 // Writes the SoA to the node `id` with EA, if it fits.
+#[tactic(auto, unfolding(control::specs::SoA::soa_section, crate::specs::Rules::request_frame, frame::specs::Write::frame_bytes))]
 pub(crate) fn write_request(
     id: NodeId,
     fields: RequestFields,

@@ -10,6 +10,7 @@ use records::{get, put};
 use status_response::walk::EntryWalk;
 
 // Hands out the oldest entry.
+#[tactic(auto, unfolding(crate::specs::Layout::taken_bytes, records::specs::Records::record_at))]
 pub(crate) fn take_first(state: &mut Collector, block: Block) -> ErrorEntry
     requires { 0 < count_in state.old block }
     ensures { (result ≡ entry_in state.old block (start_in state.old block)) × (state.new ≡ taken_bytes state.old block) }
@@ -23,6 +24,7 @@ pub(crate) fn take_first(state: &mut Collector, block: Block) -> ErrorEntry
 }
 
 // An entry joins the book, last.
+#[tactic(auto, unfolding(crate::specs::Layout::count_in, crate::specs::Layout::pushed_bytes))]
 fn push(state: &mut Collector, block: Block, e: ErrorEntry)
     requires { count_in state.old block < book_length }
     ensures { (state.new ≡ pushed_bytes state.old block e) × (count_in state.new block ≡ count_in state.old block + 1) }

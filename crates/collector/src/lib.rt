@@ -159,6 +159,7 @@ pub fn register(state: &mut Collector, id: NodeId) -> Result<(), RegisterError>
 }
 
 // Whether a node is registered.
+#[tactic(auto, unfolding(crate::specs::Layout::account_of))]
 pub fn is_registered(state: &Collector, id: NodeId) -> bool
     ensures { result ≡ is_registered (account_of state.now id.0) }
 {
@@ -187,6 +188,7 @@ pub fn read(
 
 // What every frame of the managing node to a registered node has to carry: EA in a PReq to it, EA and ER in an SoA with it as
 // target. Any other EA can close a batch that is not booked.
+#[tactic(auto, unfolding(crate::specs::Layout::account_of))]
 pub fn flags(state: &Collector, id: NodeId) -> Option<SoAFlags>
     ensures { Flags id result state.now }
 {
@@ -213,6 +215,7 @@ pub fn request(
 }
 
 // Hands out the oldest entry of a node's book; its place is used again.
+#[tactic(auto, using(crate::proofs::CallLaws::take_laws))]
 pub fn take(state: &mut Collector, id: NodeId) -> Result<ErrorEntry, TakeError>
     ensures { Takes id result state.old state.new }
 {

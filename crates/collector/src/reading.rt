@@ -44,6 +44,7 @@ pub(crate) fn read_status(
 }
 
 // Books what is to be booked of a payload with the bit EN: all of it, or nothing.
+#[tactic(auto, using(crate::proofs::AnswerLaws::book_laws), unfolding(crate::specs::Layout::booked_bytes))]
 fn book(
     state: &mut Collector,
     block: Block,

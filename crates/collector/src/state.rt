@@ -28,6 +28,7 @@ impl Model for Block {
 }
 
 // The first block whose node ID is `id`.
+#[tactic(auto, unfolding(crate::specs::Layout::find_of, crate::specs::Layout::node_in))]
 pub(crate) fn find(state: &Collector, id: u8) -> Option<Block>
     ensures { result ≡ block_found (find_of state.now id) }
 {
@@ -40,6 +41,7 @@ pub(crate) fn find(state: &Collector, id: u8) -> Option<Block>
 }
 
 // The block of a registered node. No node has the ID 0.
+#[tactic(auto, unfolding(crate::specs::Layout::slot_of))]
 pub(crate) fn slot(state: &Collector, id: u8) -> Option<Block>
     ensures { result ≡ block_found (slot_of state.now id) }
 {

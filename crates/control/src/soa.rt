@@ -88,6 +88,7 @@ impl SoAFrame {
     }
 
     // Writes the section, if it fits.
+    #[tactic(auto, unfolding(crate::specs::SoA::soa_section))]
     pub fn serialize(self, target: &mut [u8]) -> Result<usize, PowerlinkError>
         ensures { Writes (soa_section self) result target.old target.new }
     {

@@ -1,5 +1,4 @@
 pub mod CausesTell
-pub mod Fields
 pub mod Front
 pub mod Places
 pub mod ReadBack

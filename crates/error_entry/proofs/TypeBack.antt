@@ -7,8 +7,7 @@ use native.Mathlib.Omega.{arith}
 use lib.Dec.{eqb}
 use borrow.Author.Tests.{eqb-true, eqb-false}
 use Rattle.octets.specs.Numbers.{bit}
-use Rattle.std.specs.Int.{from_bool}
-use Rattle.types.specs.Codes.{pick, decoded}
+use Rattle.types.specs.Codes.{decoded}
 use Rattle.types.specs.Modes.{mode_code, modes, mode_in}
 use Rattle.types.specs.declared.error_mode.ErrorEntryMode.{ErrorEntryMode}
 use Rattle.types.specs.declared.error_mode.ErrorEntryMode.TheVariants.{Terminator, ErrorActive, ErrorCleared, EventOccurred}
@@ -38,11 +37,6 @@ code_read (suc (suc (suc (suc k)))) h = absurd (omega arith)
 code_in : (b : ℕ) → mode_code (mode_in b) ≡ b % 4
 unfolding mode_in
 code_in b = code_read (b % 4) (omega arith)
-
--- a flag as a number, times its weight
-pub weighs : (w : ℕ) (on : Bool) → w * from_bool on ≡ pick on w 0
-weighs w true = omega arith
-weighs w false = omega arith
 
 -- the two flags above 14 bits
 status_bit : (x y : Bool) (n : ℕ) → n < 16384 → bit 15 (at_bit 15 x + at_bit 14 y + n) ≡ x

@@ -58,6 +58,7 @@ const TERMINATOR: ErrorEntry = ErrorEntry {
 impl From<u16> for EntryType {
     ghost from_gives = { λ n t. t ≡ entry_type_of n };
 
+    #[tactic(auto, unfolding(crate::specs::Entry::entry_type_of))]
     fn from(value: u16) -> EntryType {
         EntryType {
             is_status_entry: value / STATUS_ENTRY % 2 == 1,
@@ -72,6 +73,7 @@ impl From<EntryType> for u16 {
     ghost from_gives = { λ t n. n ≡ type_number t };
 
     // The profile loses what lies above its 12 bits.
+    #[tactic(auto, unfolding(crate::specs::Entry::type_number))]
     fn from(entry_type: EntryType) -> u16 {
         let status_entry = u16::from(entry_type.is_status_entry);
         let send_to_queue = u16::from(entry_type.send_to_queue);
@@ -85,6 +87,7 @@ impl From<EntryType> for u16 {
 
 impl ErrorEntry {
     // The entry that the first 20 octets are.
+    #[tactic(auto, unfolding(crate::specs::Entry::read_entry))]
     pub fn deserialize(buffer: &[u8]) -> Result<ErrorEntry, PowerlinkError>
         ensures { ReadsEntry buffer.now result }
     {
@@ -114,6 +117,7 @@ impl ErrorEntry {
     }
 
     // Writes the 20 octets to the front of `target`, each field straight to its place, where the length was tested.
+    #[tactic(auto, unfolding(crate::specs::Entry::entry_bytes))]
     fn put(self, target: &mut [u8])
         ensures { target.new ≡ sets target.old 0 (entry_bytes self) }
     {
@@ -126,6 +130,7 @@ impl ErrorEntry {
 }
 
 // The entry that 20 octets are. Their number was tested, and the compiler drops the tests in these reads.
+#[tactic(auto, unfolding(crate::specs::Entry::entry_of))]
 fn entry_in(s: &[u8]) -> ErrorEntry
     ensures { result ≡ entry_of s.now }
 {

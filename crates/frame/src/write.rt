@@ -35,6 +35,7 @@ pub fn serialize_pl_header(
 }
 
 // Writes a whole frame, if it fits and the table holds an ASnd's service: its Ethernet header, its section and its payload.
+#[tactic(auto, unfolding(crate::specs::Write::frame_bytes))]
 pub fn serialize_frame(
     services: &Services,
     eth_header: EthernetHeader,

@@ -41,9 +41,6 @@ pub record SoFar (s : List ℕ) (before : Streams) (q : Phase) (at : ℕ) (now :
   pub got : now.got ≡ before.got
   pub most : now.said ≤ before.said + buffer_len * at
 
-pub at_first : {p : Phase} {s : List ℕ} {before : Streams} → Stands before p s → SoFar s before p 0 before
-at_first S = record { stands = S; within = omega arith; ends = refl; got = refl; most = omega arith }
-
 -- a call of `list_part`, with room for a line
 module _ {p : Phase} {s : List ℕ} {at : ℕ} {before now : Streams} {t : List ℕ} {last : Bool} {r : Part} {out after : List ℕ} (F : SoFar s before p at now) (et : t ≡ drop at s)
     (el : last ≡ now.ended) (L : Lists p t last r out after) where

@@ -8,18 +8,15 @@ use native.Mathlib.Nat.{zero-add}
 use native.Mathlib.Omega.{arith}
 use lib.ListN.{length, take, drop, length-drop, length-append}
 use lib.Seq.{paste, take-paste, take-add, drop_at, length-take-le}
-use borrow.Author.Tests.{eqb-false}
 use borrow.Rule.Slice.PartMut.{mid_of, put_mid, same_len_mid, mid_len, take_put}
 use borrow.Author.Clash.{clash}
-use Rattle.std.specs.Prelude.{Option, Some, None, Result, Ok, Err}
+use Rattle.std.specs.Prelude.{Some, Ok}
 use Rattle.journal_records.specs.Listing.{listing, version1}
 use Rattle.journal_records.specs.Parts.{text_from}
 use Rattle.journal_records.specs.declared.listing.Phase.{Phase}
 use Rattle.journal_records.specs.declared.listing.Phase.TheVariants.{Header}
-use Rattle.journal.specs.Rest.{Stands, Goes, Left, Waits, Buffer, buffer_len, record_len}
+use Rattle.journal.specs.Rest.{Stands, Goes, Left, Buffer, buffer_len, record_len}
 use Rattle.journal.specs.Streams.{fresh, got_more}
-use Rattle.journal.specs.declared.Rest.{Rest}
-use Rattle.journal.specs.declared.streams.Failed.{Failed}
 use Rattle.journal.specs.declared.streams.Streams.{Streams}
 
 -- what is held leaves room in the buffer
@@ -71,9 +68,6 @@ module _ (text part : List ℕ) (held n : ℕ) (size : Buffer text) (e : length 
   abbrev got : List ℕ
   got = take n (drop held filled)
 
-  pub read_fits : held + n ≤ buffer_len
-  read_fits = omega (arith, e, fits, size, mid_len held buffer_len text (omega (arith, fits, size)))
-
   pub read_within : held + n ≤ length filled
   read_within = omega (arith, same_len_mid held (buffer_len - held) text part e, e, fits, size, mid_len held buffer_len text (omega (arith, fits, size)))
 
@@ -98,19 +92,7 @@ module _ (text part : List ℕ) (held n : ℕ) (size : Buffer text) (e : length 
             ∙ ap (λ (x : List ℕ). S.text ++ text_from p x) (sym (append_assoc (take held text) got rest) ∙ ap (λ (x : List ℕ). x ++ rest) (sym all_held));
       }
 
--- where there is more, the read gave something
-pub read_on : (before : Streams) (n : ℕ) {read : Streams} (after : Streams) (r : Result (Option Rest) Failed) (text : List ℕ) → read ≡ got_more before n → Left read after r text
-    → Waits before after r text
-read_on before n after (Ok (Some r)) text er l =
-    let some = eqb-false n 0 (sym (l.1.0 ∙ ap (λ (x : Streams). x.ended) er) ∙ l.0.more) in
-    (l.0, omega (arith, l.1.1, ap (λ (x : Streams). x.got) er))
-read_on before n after (Ok None) text er l = l
-read_on before n after (Err e) text er l = l
-
 -- ---- the program's loop
-
-pub waited : (before after : Streams) (r r' : Result (Option Rest) Failed) (text : List ℕ) → Waits before after r text → r ≡ r' → Waits before after r' text
-waited before after r r' text w e = subst (λ (x : Result (Option Rest) Failed). Waits before after x text) e w
 
 -- nothing is read, and nothing said: all of the listing is due
 pub at_start : {now : Streams} → now ≡ fresh → Stands now Header []

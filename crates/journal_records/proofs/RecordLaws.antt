@@ -1,7 +1,7 @@
 -- The cases of a record's tests.
 -- Assumes nothing.
 use Prim.Native.Nat.{ℕ, suc, ◌-◌, ◌≤◌, ◌<◌}
-use mathlib.Core.Bool.{Bool, true, false, not}
+use mathlib.Core.Bool.{Bool, true, false}
 use mathlib.Core.Path.{◌≡◌, refl, ap, ◌∙◌}
 use mathlib.Core.List.{List, [], ◌∷◌}
 use native.Mathlib.Omega.{arith}
@@ -12,11 +12,7 @@ use borrow.Rule.Slice.PartMut.{mid_of, put_mid}
 use borrow.Author.Tests.{le-leb, lt-leb, leb-true, leb-false}
 use Rattle.std.specs.Prelude.{Result, Ok, Err}
 use Rattle.octets.proofs.Sets.{sets_front}
-use Rattle.types.specs.Modes.{unless_terminator}
-use Rattle.types.specs.Nodes.{is_cn_node_id}
 use Rattle.types.specs.declared.NodeId.{NodeId}
-use Rattle.types.specs.declared.error_mode.ErrorEntryMode.{ErrorEntryMode}
-use Rattle.types.specs.declared.error_mode.ErrorEntryMode.TheVariants.{Terminator, ErrorActive, ErrorCleared, EventOccurred}
 use Rattle.section.specs.Write.{Writes}
 use Rattle.error_entry.specs.Entry.{entry_bytes}
 use Rattle.error_entry.specs.declared.ErrorEntry.{ErrorEntry}
@@ -27,21 +23,7 @@ use Rattle.journal_records.specs.Record.{record_bytes, valid_record, WritesRecor
 use Rattle.journal_records.specs.declared.JournalError.TheVariants.{BufferTooShort, RecordInvalid}
 use Rattle.types.specs.declared.hal.PowerlinkError.{PowerlinkError}
 
-pub not_terminator : (m : ErrorEntryMode) → not (unless_terminator m false true) ≡ unless_terminator m true false
-not_terminator Terminator = refl
-not_terminator ErrorActive = refl
-not_terminator ErrorCleared = refl
-not_terminator EventOccurred = refl
-
 module _ (node : ℕ) (e : ErrorEntry) where
-  pub id_bad : is_cn_node_id node ≡ false → false ≡ valid_record node e
-  unfolding valid_record
-  id_bad h = rw h
-
-  pub by_mode : (valid : Bool) → is_cn_node_id node ≡ true → valid ≡ unless_terminator e.entry_type.mode true false → valid ≡ valid_record node e
-  unfolding valid_record
-  by_mode valid cn em = rw cn em
-
   pub valid_id : valid_record node e ≡ true → node ≤ 239
   unfolding valid_record
   valid_id h = by_test (leb node 239) refl

@@ -2,20 +2,20 @@
 -- Assumes nothing.
 use Prim.Native.Nat.{ℕ, ◌≤◌, ◌<◌}
 use mathlib.Core.Bool.{Bool, true, false}
-use mathlib.Core.Path.{◌≡◌, refl, ap}
+use mathlib.Core.Path.{◌≡◌, ap}
 use mathlib.Core.List.{List}
 use native.Mathlib.Nat.{zero-add}
 use native.Mathlib.Omega.{arith}
-use lib.Dec.{leb, ltb}
+use lib.Dec.{leb}
 use lib.ListN.{length, drop, length-drop}
 use borrow.Author.Tests.{le-leb, lt-leb, leb-true, leb-false, eq-eqb, ne_eqb}
-use Rattle.std.specs.Prelude.{Result, Ok, Err}
+use Rattle.std.specs.Prelude.{Ok, Err}
 use borrow.Table.Steps.{cases as either}
 use Rattle.octets.specs.Numbers.{le_at}
 use Rattle.error_entry.specs.Entry.{read_entry}
 use Rattle.error_entry.specs.declared.ErrorEntry.{ErrorEntry}
 use Rattle.journal_records.specs.Listing.{node_of, recorded_entry, version1, layout_of, header_line, record_line, good_record, marked, fields_line}
-use Rattle.journal_records.specs.Parts.{Piece, stopped, refusal, one_line, header_step, record_step, phase_step, needed, awaits, ended, step_of, told, Prints}
+use Rattle.journal_records.specs.Parts.{Piece, stopped, refusal, one_line, header_step, record_step, phase_step, awaits, ended, step_of, Prints}
 use Rattle.journal_records.specs.Record.{valid_record}
 use Rattle.journal_records.specs.Text.{Puts}
 use Rattle.journal_records.specs.declared.listing.ListError.TheVariants.{BufferTooShort, NotAJournal, UnknownVersion, RecordInvalid}
@@ -24,8 +24,6 @@ use Rattle.journal_records.specs.declared.listing.Part.{Part}
 use Rattle.journal_records.specs.declared.listing.Phase.{Phase}
 use Rattle.journal_records.specs.declared.listing.Phase.TheVariants.{Header, Records}
 use Rattle.types.specs.declared.hal.PowerlinkError.{PowerlinkError}
-use Rattle.journal_records.specs.declared.listing.Stop.{Stop}
-use Rattle.journal_records.specs.declared.listing.ListError.{ListError}
 
 module _ (s : List ℕ) where
   pub header_cut : length s < 5 → header_step s ≡ refusal NotAJournal Header
@@ -73,18 +71,6 @@ module _ (s : List ℕ) where
     unfolding record_step version1 good_record record_line fields_line
     record_good e = rw (le-leb 21 (length s) long, e)
 
-module _ (p : Phase) (n : ℕ) (last : Bool) where
-  pub awaits_none : last ≡ true → false ≡ awaits p n last
-  unfolding awaits
-  awaits_none e = rw e
-
-  pub awaits_by : (q : Phase) → last ≡ false → p ≡ q → ltb n (needed q) ≡ awaits p n last
-  unfolding awaits
-  awaits_by q l e = rw (l, e)
-
-pub ended_by : (p : Phase) (n : ℕ) (q : Phase) → p ≡ q → ended q n ≡ ended p n
-ended_by p n q e = rw e
-
 module _ (p : Phase) (s : List ℕ) (last : Bool) (room : ℕ) where
   pub step_waits : awaits p (length s) last ≡ true → step_of p s last room ≡ stopped (Ok More) p
   unfolding step_of
@@ -108,9 +94,6 @@ module _ (p : Phase) (s : List ℕ) (last : Bool) (room : ℕ) where
 
 pub prints_as : {p q : Piece} {r : Part} {out after : List ℕ} → p ≡ q → Prints q r out after → Prints p r out after
 prints_as e h = rw e h
-
-pub prints_none : {a : (Result Stop ListError)} {q : Phase} {r : Part} {out : List ℕ} → r ≡ told (stopped a q) → Prints (stopped a q) r out out
-prints_none e = record { answer = e; holds = refl }
 
 pub prints_text : {p : Piece} {r : ℕ} {out after : List ℕ} → Puts p.text 0 r out after
     → Prints p (record { answer = p.answer; phase = p.phase; consumed = p.consumed; written = r }) out after

@@ -4,7 +4,7 @@ use Prim.Native.Nat.{ℕ, zero, suc, ◌+◌, ◌-◌, ◌/◌, ◌%◌, ◌^◌
 use mathlib.Core.Bool.{Bool, true, false}
 use mathlib.Core.Path.{◌≡◌, refl, sym, ap, ◌∙◌}
 use mathlib.Core.List.{List, [], ◌∷◌, ◌++◌}
-use native.Mathlib.Nat.{mod-eq_of_lt, div-lt_iff_lt-mul, pow-suc}
+use native.Mathlib.Nat.{div-lt_iff_lt-mul, pow-suc}
 use native.Mathlib.Numerals.{add-one, sub-one}
 use native.Mathlib.Omega.{arith}
 use lib.Dec.{ltb}
@@ -26,17 +26,9 @@ unfolding decimal_in
 enough zero n h = rw (lt-ltb n 10 h)
 enough (suc k) n h = ap (λ (l : List ℕ). pick (ltb n 10) [] l ++ (48 + n % 10) ∷ []) (enough k (n / 10) (tenth_below n k h))
 
-pub decimal_one : (n : ℕ) → n < 10 → decimal n ≡ (48 + n) ∷ []
-unfolding decimal decimal_in
-decimal_one n h = rw (lt-ltb n 10 h, mod-eq_of_lt h)
-
 more : (k n : ℕ) → 10 ≤ n → decimal_in (suc k) n ≡ decimal_in k (n / 10) ++ (48 + n % 10) ∷ []
 unfolding decimal_in
 more k n h = rw (le-ltb n 10 h)
-
-pub decimal_more : (n : ℕ) → 10 ≤ n → n < 10 ^ 10 → decimal n ≡ decimal (n / 10) ++ (48 + n % 10) ∷ []
-unfolding decimal
-decimal_more n h k = more 9 n h ∙ ap (λ (l : List ℕ). l ++ (48 + n % 10) ∷ []) (enough 8 (n / 10) (tenth_below n 8 k))
 
 -- one digit more than those of a tenth
 digits_more : (b : Bool) (l : List ℕ) (d k : ℕ) → length l ≤ k → length (pick b [] l ++ d ∷ []) ≤ suc k

@@ -6,24 +6,15 @@ use mathlib.Core.List.{List, ◌++◌, append_assoc}
 use native.Mathlib.Omega.{arith}
 use lib.ListN.{length, take, length-append}
 use lib.Seq.{take_at}
-use borrow.Author.Tests.{le-leb, lt-leb, eq-eqb, ne_eqb}
-use Rattle.std.specs.Prelude.{Ok, Err}
+use borrow.Author.Tests.{le-leb, eq-eqb}
+use Rattle.std.specs.Prelude.{Ok}
 use Rattle.journal_records.specs.Listing.{version1, header_line, layout_of, listing}
 use Rattle.journal_records.specs.ReadBack.{Recorded, Journaled, none, more, fields_lines, journal_start}
 use Rattle.journal_records.specs.Whole.{whole_len, TornReadsBack}
-use Rattle.journal_records.specs.declared.WholeLenError.TheVariants.{TooShort, UnknownVersion}
 use Rattle.journal_records.proofs.ReadBack.{at_front, records_read_back}
 use Rattle.journal_records.proofs.RecordLaws.{record_length}
 
 module _ (version len : ℕ) where
-  pub whole_cut : len < 5 → whole_len version len ≡ Err TooShort
-  unfolding whole_len
-  whole_cut h = rw (lt-leb 5 len h)
-
-  pub whole_version : 5 ≤ len → (version ≡ 1 → ⊥) → whole_len version len ≡ Err UnknownVersion
-  unfolding whole_len layout_of
-  whole_version h f = rw (le-leb 5 len h, ne_eqb version 1 f)
-
   pub whole_known : 5 ≤ len → version ≡ 1 → whole_len version len ≡ Ok (5 + 21 * ((len - 5) / 21))
   unfolding whole_len layout_of version1
   whole_known h e = rw (le-leb 5 len h, eq-eqb version 1 e)

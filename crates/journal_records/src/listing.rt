@@ -106,6 +106,7 @@ fn later(answer: Result<Stop, ListError>) -> Result<Stop, ListError>
 }
 
 // One line, or none: the header's, that of the first record, or a refusal's. Two arms: a closure for each phase is no plainer.
+#[tactic(auto, unfolding(crate::specs::Parts::step_of))]
 fn step(phase: Phase, bytes: &[u8], last: bool, out: &mut [u8]) -> Part
     ensures { Prints (step_of phase bytes.now last (length out.old)) result out.old out.new }
 {
@@ -207,6 +208,7 @@ fn record(bytes: &[u8], out: &mut [u8]) -> Part
 }
 
 // The line of a refusal, with its number.
+#[tactic(auto, unfolding(crate::specs::Listing::refused_line))]
 fn refuse(error: ListError, phase: Phase, out: &mut [u8]) -> Part
     ensures { Prints (refusal error phase) result out.old out.new }
 {

@@ -44,7 +44,7 @@ impl<'a> Line<'a> {
     }
 
     // The digits in front of the last are those of a tenth.
-    #[tactic(auto, using(crate::proofs::TextLaws::decimal_ten))]
+    #[tactic(auto, unfolding(crate::specs::Text::decimal, crate::specs::Text::decimal_in))]
     fn decimal(&mut self, v: u32)
         requires { self.old.len + 10 ≤ place_most }
         ensures { Adds (decimal v) self.old self.new }

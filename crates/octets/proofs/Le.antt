@@ -6,9 +6,9 @@ use mathlib.Core.List.{List, [], ◌∷◌, ◌++◌}
 use native.Mathlib.Nat.{zero-add, suc-add, pow-zero, pow-succ', mul_assoc, mul-zero, le_of_lt}
 use native.Mathlib.Omega.{arith}
 use lib.ListN.{length, take, drop, get_or, replicate, length-drop, length-replicate}
-use lib.Seq.{sets, take_all, take-nil, get_or-drop, take-append-le, drop-append-le}
+use lib.Seq.{sets, take_all, take-nil, take-append-le, drop-append-le}
 use Rattle.std.proofs.lemmas.List.{drop-replicate}
-use Rattle.octets.specs.Numbers.{le, le_at, le_bytes, be_at}
+use Rattle.octets.specs.Numbers.{le, le_at, le_bytes}
 use Rattle.octets.proofs.Sets.{sets_front}
 
 -- n bytes and the m after them
@@ -38,12 +38,6 @@ bytes_back zero v h = omega (arith, h, pow-zero 256)
 bytes_back (suc n) v h =
     let k : v / 256 < 256 ^ n = omega (arith, pow-succ' 256 n) in
     rw (bytes_back n (v / 256) k) (omega arith)
-
--- two octets, high octet first, read from the tail that they start
-pub be_joined : (at hi lo : ℕ) (s t : List ℕ) → t ≡ drop at s → hi ≡ get_or t 0 0 → lo ≡ get_or t 1 0 → 256 * hi + lo ≡ be_at 2 at s
-unfolding be_at
-be_joined at hi lo s t et eh el =
-    rw (eh, el, et, get_or-drop 1 (drop at s) 0 0) (omega arith)
 
 -- octets with others behind them
 pub number_front : (n at : ℕ) (s rest : List ℕ) → at + n ≤ length s → le_at n at (s ++ rest) ≡ le_at n at s

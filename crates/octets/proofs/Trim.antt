@@ -11,10 +11,6 @@ use native.Mathlib.Numerals.{add-one}
 use Rattle.octets.specs.Numbers.{le}
 use Rattle.octets.specs.Trim.{extended, trimmed_length, TrimsTo, ZerosFrom}
 
-snoc_zero : (xs : List ℕ) (x : ℕ) → x ≡ 0 → trimmed_length (xs ++ (x ∷ [])) ≡ trimmed_length xs
-snoc_zero [] x e = rw e
-snoc_zero (y ∷ xs) x e = ap (extended y) (snoc_zero xs x e)
-
 snoc : (xs : List ℕ) (x : ℕ) → (x ≡ 0 → ⊥) → trimmed_length (xs ++ (x ∷ [])) ≡ suc (length xs)
 snoc [] zero h = absurd (h refl)
 snoc [] (suc x) h = refl

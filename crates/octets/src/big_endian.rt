@@ -5,6 +5,7 @@ ghost use Rattle.octets.specs.Numbers.{be_at, be_bytes};
 use crate::slices::{byte_at, tail};
 
 // The number that the 2 octets of `s` from place `at` on make.
+#[tactic(auto, unfolding(crate::specs::Numbers::be_at))]
 pub fn get_u16_be(s: &[u8], at: usize) -> u16
     ensures { result ≡ be_at 2 at s.now }
 {

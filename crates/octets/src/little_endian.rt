@@ -76,6 +76,7 @@ impl Number<8> for u64 {
 
 // The number that the N octets of `s` from place `at` on make. The length is tested once: where all are there, they are read
 // at once.
+#[tactic(auto, using(crate::proofs::Le::of_front, crate::proofs::Le::of_padded))]
 pub fn get_le<const N: usize, T: Number<N>>(s: &[u8], at: usize) -> T
     ensures { T.value result ≡ le_at N at s.now }
 {

@@ -38,6 +38,7 @@ pub fn has_mark(s: &[u8], mark: [u8; 3]) -> bool
 }
 
 // Copies `src` into `dst` from place `at` on; what would lie past the end is dropped.
+#[tactic(auto, using(crate::proofs::Sets::cut_laws))]
 pub fn put(dst: &mut [u8], at: usize, src: &[u8])
     ensures { dst.new ≡ sets dst.old at src.now }
 {
@@ -50,6 +51,7 @@ pub fn put(dst: &mut [u8], at: usize, src: &[u8])
 }
 
 // The length of `s` without the zeros at its end.
+#[tactic(auto, using(crate::proofs::Trim::trimmed_at, crate::proofs::Trim::trimmed_to_none))]
 pub fn trimmed_len(s: &[u8]) -> usize
     ensures { result ≡ trimmed_length s.now }
 {
@@ -67,6 +69,7 @@ fn last_other(s: &[u8]) -> Option<usize>
 }
 
 // `s` without the groups of eight zeros at its end, which one test passes over.
+#[tactic(auto, using(crate::proofs::Trim::group_dropped))]
 fn trimmed_by_eight(s: &[u8]) -> &[u8]
     ensures front { result.now ≡ take (length result.now) s.now }
     ensures trims { TrimsTo s.now (length result.now) }

@@ -73,6 +73,7 @@ impl PReqFrame {
     }
 
     // Writes the section with its payload, if it fits.
+    #[tactic(auto, unfolding(crate::specs::PReq::preq_section))]
     pub fn serialize(self, payload: &[u8], target: &mut [u8]) -> Result<usize, PowerlinkError>
         ensures { Writes (preq_section self payload.now) result target.old target.new }
     {

@@ -84,6 +84,7 @@ impl PResFrame {
     }
 
     // Writes the section with its payload, if it fits.
+    #[tactic(auto, unfolding(crate::specs::PRes::pres_section))]
     pub fn serialize(self, payload: &[u8], target: &mut [u8]) -> Result<usize, PowerlinkError>
         ensures { Writes (pres_section self payload.now) result target.old target.new }
     {

@@ -12,50 +12,16 @@ use Rattle.types.specs.States.{state_of}
 use Rattle.types.specs.declared.hal.PowerlinkError.TheVariants.{BufferTooShort}
 use Rattle.types.specs.declared.states.NmtState.{NmtState}
 use Rattle.section.specs.Write.{min_frame, write_answer, write_cause, unnamed_answer}
-use Rattle.collector.specs.Calls.{Registers, Reads, Flags, Requests, Takes}
+use Rattle.collector.specs.Calls.{Requests}
 use Rattle.collector.specs.Layout.{account_of}
-use Rattle.collector.specs.Rules.{Account, is_registered, register_cause, read_cause, flags_cause, request_frame, as_request, request_answer, request_cause, take_cause}
+use Rattle.collector.specs.Rules.{Account, is_registered, request_frame, as_request, request_answer, request_cause}
 use Rattle.collector.specs.declared.RequestFields.{RequestFields}
-use Rattle.c_values.specs.Answers.{octet_after, values_told, flag_told, octet_told, RowTold}
-use Rattle.powerlink.specs.Collecting.{CollectorRegisters, CollectorReads, CollectorFlags, unasked, CollectorRequests, CollectorTakes}
+use Rattle.c_values.specs.Answers.{octet_after, octet_told, RowTold}
+use Rattle.powerlink.specs.Collecting.{unasked, CollectorRequests}
 use Rattle.powerlink.specs.Given.{node}
 use Rattle.powerlink.proofs.Told.{unnamed_told}
 use Rattle.types.specs.declared.hal.PowerlinkError.{PowerlinkError}
-use Rattle.collector.specs.declared.RegisterError.{RegisterError}
 use Rattle.collector.specs.declared.RequestError.{RequestError}
-use Rattle.error_entry.specs.declared.ErrorEntry.{ErrorEntry}
-use Rattle.collector.specs.declared.TakeError.{TakeError}
-use Rattle.control.specs.declared.soa.SoAFlags.{SoAFlags}
-use Rattle.collector.specs.declared.ReadOutcome.{ReadOutcome}
-use Rattle.collector.specs.declared.ReadError.{ReadError}
-
-module _ (s s' : List ℕ) where
-  pub registers_told : (i r : ℕ) (a : Result Unit RegisterError) → Registers (node i) a s s' → r ≡ (register_cause a).number → CollectorRegisters i r s s'
-  registers_told i r a w e =
-      record { cause = e ∙ ap (λ (x : Result Unit RegisterError). (register_cause x).number) w.answer; registers = rw w.answer at w }
-
-  pub reads_told : (services f : List ℕ) (a : Result ReadOutcome ReadError) (r k k' o o' : ℕ) → Reads services f a s s' → RowTold (read_cause a) r k k' o o'
-      → CollectorReads services f r s s' k k' o o'
-  reads_told services f a r k k' o o' w t = record { told = rw w.answer at t; reads = rw w.answer at w }
-
-  pub takes_told : (i r : ℕ) (v v' : List ℕ) (a : Result ErrorEntry TakeError) → Takes (node i) a s s' → r ≡ (take_cause a).number → v' ≡ values_told (take_cause a) v
-      → CollectorTakes i r s s' v v'
-  takes_told i r v v' a w er ev =
-      record {
-        cause = er ∙ ap (λ (x : Result ErrorEntry TakeError). (take_cause x).number) w.answer;
-        values = ev ∙ ap (λ (x : Result ErrorEntry TakeError). values_told (take_cause x) v) w.answer;
-        takes = rw w.answer at w;
-      }
-
-pub flags_told_lem : (s : List ℕ) (i r : ℕ) (a a' e e' : Bool) (f : Option SoAFlags) → Flags (node i) f s → r ≡ (flags_cause f).number
-    → a' ≡ flag_told (flags_cause f) 0 a → e' ≡ flag_told (flags_cause f) 1 e → CollectorFlags i r s a a' e e'
-flags_told_lem s i r a a' e e' f w er ea ee =
-    record {
-      cause = er ∙ ap (λ (x : Option SoAFlags). (flags_cause x).number) w.answer;
-      ea = ea ∙ ap (λ (x : Option SoAFlags). flag_told (flags_cause x) 0 a) w.answer;
-      er = ee ∙ ap (λ (x : Option SoAFlags). flag_told (flags_cause x) 1 e) w.answer;
-      flags = rw w.answer at w;
-    }
 
 -- ---- a request
 

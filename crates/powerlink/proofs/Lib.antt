@@ -1,8 +1,6 @@
 mod AnyHeader
 mod Collectors
-mod Journals
 mod Readers
-mod Reporters
 mod States
 mod Told
 mod Writers

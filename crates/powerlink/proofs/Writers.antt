@@ -1,26 +1,22 @@
 -- What a caller of a writer is told, from what the writer promises.
 -- Assumes nothing.
-use Prim.Native.Nat.{ℕ, ◌/◌, ◌%◌, ◌≤◌, ◌<◌}
+use Prim.Native.Nat.{ℕ, ◌/◌}
 use mathlib.Core.Bool.{Bool, true, false, true≢false}
 use mathlib.Core.Path.{◌≡◌, refl, ap, ◌∙◌}
 use mathlib.Core.List.{List}
 use lib.ListN.{length}
-use lib.Dec.{eqb, leb}
-use borrow.Author.Tests.{le-leb, lt-leb}
+use lib.Dec.{leb}
 use Rattle.std.specs.Prelude.{Result, Ok, Err}
 use Rattle.types.specs.Causes.{cause_number}
 use Rattle.types.specs.Codes.{pick, need}
-use Rattle.types.specs.declared.error_mode.ErrorEntryMode.{ErrorEntryMode}
 use Rattle.types.specs.declared.hal.PowerlinkError.{PowerlinkError}
 use Rattle.types.specs.declared.hal.PowerlinkError.TheVariants.{BufferTooShort}
-use Rattle.section.specs.Write.{write_answer, write_cause, Writes, Serializes, Coded, octets, unnamed, unnamed_answer}
-use Rattle.error_entry.specs.Entry.{entry_bytes, entry_length}
-use Rattle.error_entry.specs.declared.ErrorEntry.{ErrorEntry}
-use Rattle.status_response.specs.Given.{WritesWhole, given_fit}
+use Rattle.section.specs.Write.{write_answer, write_cause, Writes, Coded, octets, unnamed, unnamed_answer}
+use Rattle.error_entry.specs.Entry.{entry_length}
+use Rattle.status_response.specs.Given.{WritesWhole}
 use Rattle.status_response.specs.Steps.{status_length}
 use Rattle.c_values.specs.Answers.{length_after, error_octet, octet_after}
-use Rattle.powerlink.specs.Writing.{WritesTo, WritesEntry, WritesCoded}
-use Rattle.types.specs.declared.error_mode.UnknownMode.{UnknownMode}
+use Rattle.powerlink.specs.Writing.{WritesTo, WritesCoded}
 
 -- what `written_or` tells of an answer
 abbrev Told : Result ℕ PowerlinkError → ℕ → ℕ → ℕ → Type 0
@@ -55,17 +51,6 @@ module _ (w : Coded) (t t' : List ℕ) (r n n' o : ℕ) where
   pub writes_coded : (bs : List ℕ) (a : Result ℕ PowerlinkError) → w ≡ octets bs → Writes bs a t t' → Told a r n n' → WritesCoded w r t t' n n' o o
   writes_coded bs a ew w' e = writes_named bs ew (writes_to bs a t t' r n n' w' e)
 
-  -- what `told` tells of an answer
-  pub serializes_coded : (o' : ℕ) (a : Result ℕ PowerlinkError) → Serializes w a t t'
-      → (r ≡ (write_cause a).number) × ((n' ≡ length_after a n) × (o' ≡ octet_after a o)) → WritesCoded w r t t' n n' o o'
-  serializes_coded o' a h e =
-      record {
-        cause = e.0 ∙ ap (λ (x : Result ℕ PowerlinkError). (write_cause x).number) h.answer;
-        target = h.holds;
-        written = e.1.0 ∙ ap (λ (x : Result ℕ PowerlinkError). length_after x n) h.answer;
-        octet = e.1.1 ∙ ap (λ (x : Result ℕ PowerlinkError). octet_after x o) h.answer;
-      }
-
 -- what `unnamed` tells, where k octets would be needed
 pub refuses_coded : (w : Coded) (t : List ℕ) (r n o o' k : ℕ) (e : PowerlinkError) → w ≡ unnamed k e
     → (r ≡ (write_cause (unnamed_answer k e (length t))).number) × (o' ≡ octet_after (unnamed_answer k e (length t)) o) → WritesCoded w r t t n n o o'
@@ -87,9 +72,6 @@ refuses_short w t n o k ew = refuses_coded w t 1 n o o k BufferTooShort ew (shor
 
 -- entries that are given as the octets s
 module _ (w : Coded) (t : List ℕ) (n o : ℕ) (s : List ℕ) where
-  abbrev are_whole : Bool
-  are_whole = eqb (length s % entry_length) 0
-
   abbrev needed : ℕ
   needed = status_length (length s / entry_length)
 
@@ -101,19 +83,10 @@ module _ (w : Coded) (t : List ℕ) (n o : ℕ) (s : List ℕ) where
   short true e q h = refuses_coded w t 1 n o o needed e q (rw h (refl, refl))
   short false e q h = refuses_short w t n o needed q
 
-  -- a code that names nothing, where the payload does not fit
-  pub given_short : (e : PowerlinkError) → Next are_whole (unnamed needed e) → given_fit s (length t) ≡ false → WritesCoded w 1 t t n n o o
-  given_short = short are_whole
-
   refused : (b : Bool) (e : PowerlinkError) (r o' : ℕ) → Next b (unnamed needed e) → need b false (leb needed (length t)) ≡ true
       → (r ≡ cause_number e) × (o' ≡ error_octet e o) → WritesCoded w r t t n n o o'
   refused true e r o' q h told = refuses_coded w t r n o o' needed e q (rw h told)
   refused false e r o' q h told = absurd (true≢false cc)
-
-  -- and where it fits
-  pub given_refused : (e : PowerlinkError) (r o' : ℕ) → Next are_whole (unnamed needed e) → given_fit s (length t) ≡ true
-      → (r ≡ cause_number e) × (o' ≡ error_octet e o) → WritesCoded w r t t n n o o'
-  given_refused = refused are_whole
 
   told : (b : Bool) (bs t' : List ℕ) (a : Result ℕ PowerlinkError) (r n' : ℕ) → Next b (octets bs) → WritesWhole b bs a t t' → Told a r n n'
       → WritesCoded w r t t' n n' o o
@@ -122,22 +95,3 @@ module _ (w : Coded) (t : List ℕ) (n o : ℕ) (s : List ℕ) where
       let er : r ≡ 1 = e.0 ∙ rw v.0 in
       let en : n' ≡ n = e.1 ∙ rw v.0 in
       rw (er, en, v.2) (refuses_short w t n o needed q)
-
-  -- what the writer answers is told
-  pub given_told : (bs t' : List ℕ) (a : Result ℕ PowerlinkError) (r n' : ℕ) → Next are_whole (octets bs) → WritesWhole are_whole bs a t t' → Told a r n n'
-      → WritesCoded w r t t' n n' o o
-  given_told = told are_whole
-
--- an entry, by its mode
-module _ (e : ErrorEntryMode → ErrorEntry) (m : Result ErrorEntryMode UnknownMode) (t : List ℕ) (n : ℕ) where
-  pub entry_short : (x : UnknownMode) → m ≡ Err x → length t < 20 → WritesEntry e m 1 t t n n
-  entry_short x q h = record { cause = rw (q, lt-leb 20 (length t) h); target = rw q; written = rw q }
-
-  pub entry_none : (x : UnknownMode) → m ≡ Err x → 20 ≤ length t → WritesEntry e m 8 t t n n
-  entry_none x q h = record { cause = rw (q, le-leb 20 (length t) h); target = rw q; written = rw q }
-
-  pub entry_told_lem : (k : ErrorEntryMode) (x : ErrorEntry) (r : ℕ) (t' : List ℕ) (n' : ℕ) → m ≡ Ok k → x ≡ e k
-      → WritesTo (entry_bytes x) r t t' n n' → WritesEntry e m r t t' n n'
-  entry_told_lem k x r t' n' q given w =
-      let v : WritesTo (entry_bytes (e k)) r t t' n n' = rw given at w in
-      record { cause = v.cause ∙ rw q; target = v.target ∙ rw q; written = v.written ∙ rw q }

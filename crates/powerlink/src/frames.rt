@@ -63,6 +63,7 @@ pub fn powerlink_new_soc(
 }
 
 // PReq goes from the managing node to one node, whose address the caller knows.
+#[tactic(auto, unfolding(frame::specs::Write::frame_bytes, poll::specs::PReq::preq_section))]
 pub fn powerlink_new_preq(
     source_mac: &[u8; 6],
     dest_mac: &[u8; 6],
@@ -176,6 +177,7 @@ pub fn powerlink_new_soa(
 
 // ASnd goes from any node to any, so that both addresses and both IDs are the caller's: 1, then 6, where the table does not
 // hold its service.
+#[tactic(auto, unfolding(frame::specs::Write::frame_bytes))]
 pub fn powerlink_new_asnd_v2(
     services: &Services,
     source_mac: &[u8; 6],

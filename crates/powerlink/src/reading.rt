@@ -20,6 +20,7 @@ use types::hal::PowerlinkError;
 use types::message_type::MessageType;
 
 // Reads a frame, from its Ethernet header on; an ASnd is read where the table holds its service.
+#[tactic(auto, unfolding(codec::specs::Frame::read_frame))]
 pub fn powerlink_deserialize_frame_v2(
     services: &Services,
     buffer: &[u8],

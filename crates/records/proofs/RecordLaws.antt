@@ -8,22 +8,20 @@ use mathlib.Core.Logic.{⊎_elim}
 use native.Mathlib.Nat.{mul-le-mul_left, mul-suc}
 use native.Mathlib.Omega.{arith}
 use lib.Dec.{leb}
-use lib.ListN.{length, take, drop, get_or, set, length-drop}
+use lib.ListN.{length, take, drop, get_or, set}
 use borrow.Author.Tests.{le-leb}
 use lib.Seq.{sets, length-sets, get_or-drop, get_or-set_other}
 use native.Mathlib.Numerals.{one-add}
 use Rattle.std.proofs.lemmas.Bool.{cases_lt}
-use Rattle.std.specs.Prelude.{Result}
 use Rattle.octets.specs.Numbers.{le, le_at}
 use Rattle.octets.proofs.NumberBack.{Octets, number_small}
 use Rattle.octets.proofs.ReadBack.{drop_sets}
 use Rattle.types.specs.Codes.{pick}
-use Rattle.error_entry.specs.Entry.{entry_type_of, entry_of, entry_bytes, read_entry, or_terminator}
+use Rattle.error_entry.specs.Entry.{entry_type_of, entry_of, entry_bytes}
 use Rattle.error_entry.specs.ReadBack.{InRange}
 use Rattle.error_entry.specs.declared.ErrorEntry.{ErrorEntry}
 use Rattle.error_entry.proofs.ReadBack.{entry_back_lem}
 use Rattle.records.specs.Records.{entry_length, record_at, with_record}
-use Rattle.types.specs.declared.hal.PowerlinkError.{PowerlinkError}
 
 -- ---- a record is known by its octets
 
@@ -134,9 +132,6 @@ module _ (s : List ℕ) (i x at : ℕ) where
   pub record_set : i < at → record_at (set s i x) at ≡ record_at s at
   record_set h = record_same_octets (set s i x) s at (λ j l m. get_or-set_other s i j x 0 (omega arith))
 
-  pub record_set_above : at + entry_length ≤ i → record_at (set s i x) at ≡ record_at s at
-  record_set_above h = record_same_octets (set s i x) s at (λ j l m. get_or-set_other s i j x 0 (omega arith))
-
 -- what is read from octets is of the widths
 pub in_range : (s : List ℕ) → Octets s → InRange (entry_of s)
 unfolding entry_of entry_type_of
@@ -148,10 +143,3 @@ in_range s o =
       nanoseconds = omega (arith, number_small s o 4 8);
       information = omega (arith, number_small s o 8 12);
     }
-
--- the entry of a record that is there whole
-pub record_read : (s : List ℕ) (at : ℕ) (a : Result ErrorEntry PowerlinkError) (e : ErrorEntry) → at + entry_length ≤ length s → a ≡ read_entry (drop at s) → e ≡ or_terminator a
-    → e ≡ record_at s at
-unfolding record_at read_entry
-record_read s at a e fits ea ee =
-    ee ∙ ap or_terminator ea ∙ rw (le-leb entry_length (length (drop at s)) (simp length-drop (omega arith)))

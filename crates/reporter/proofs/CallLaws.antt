@@ -8,22 +8,19 @@ use native.Mathlib.Omega.{arith}
 use lib.Dec.{ltb}
 use lib.ListN.{length}
 use borrow.Author.Tests.{eq-eqb, ne_eqb, not-true, not-false}
-use Rattle.std.specs.Prelude.{Result, Ok, Err, Option}
+use Rattle.std.specs.Prelude.{Ok, Err}
 use Rattle.types.specs.Nodes.{is_cn_node_id}
 use Rattle.types.specs.declared.NodeId.{NodeId}
 use Rattle.error_entry.specs.declared.ErrorEntry.{ErrorEntry}
-use Rattle.codec.specs.Frame.{read_frame}
-use Rattle.reporter.specs.Calls.{Makes, Numbers, Raises, Acknowledges, Reads}
+use Rattle.reporter.specs.Calls.{Makes, Numbers, Raises, Acknowledges}
 use Rattle.reporter.specs.Layout.{reporter_length, en_of, open_of, waiting_of, head_of, new_bytes, raise_bytes, acknowledge_bytes}
-use Rattle.reporter.specs.Rules.{queue_length, new_answer, new_cause, is_raisable, raise_answer, raise_cause, ea_answer, acknowledge_answer, read_cause, after_acknowledge, ea_told}
+use Rattle.reporter.specs.Rules.{queue_length, new_answer, new_cause, is_raisable, raise_answer, raise_cause, ea_answer}
 use Rattle.reporter.specs.declared.RaiseError.TheVariants.{EntryInvalid, StatusEntry, QueueFull}
 use Rattle.reporter.specs.declared.ReadOutcome.TheVariants.{Closed, Kept}
 use Rattle.reporter.proofs.Meaning.{made, raises_means, reads_means}
 use Rattle.reporter.proofs.Ranges.{en_is, waiting_length, batch_empty}
-use Rattle.reporter.proofs.Rows.{read_row}
 use Rattle.reporter.specs.declared.RaiseError.{RaiseError}
 use Rattle.reporter.specs.declared.ReadOutcome.{ReadOutcome}
-use Rattle.types.specs.declared.hal.PowerlinkError.{PowerlinkError}
 
 -- ---- a new head
 
@@ -82,9 +79,3 @@ module _ (ea : Bool) (s : List ℕ) where
       pub same_ea : not (beq en ea) ≡ false → Closed ≡ ea_answer ea (head_of s)
       unfolding ea_answer
       same_ea t = rw (batch_empty s, ne_eqb (open_of s) 0 (λ z. h (eo ∙ z)), en_is s, ← ee, not-false (beq en ea) t)
-
-module _ (services frame s after : List ℕ) (r : Result ReadOutcome PowerlinkError) (x : Result (Option Bool) PowerlinkError) (ex : x ≡ ea_told services (head_of s).id frame) where
-  pub reads : r ≡ acknowledge_answer x (head_of s) → head_of after ≡ after_acknowledge r (head_of s) → after ≡ acknowledge_bytes r s → Reads services frame r s after
-  reads e h b =
-      let f : r ≡ acknowledge_answer (ea_told services (head_of s).id frame) (head_of s) = e ∙ ap (λ (y : Result (Option Bool) PowerlinkError). acknowledge_answer y (head_of s)) ex in
-      record { answer = f; cause = ap (λ (x : Result ReadOutcome PowerlinkError). (read_cause x).number) f ∙ read_row (head_of s).id (read_frame services frame) (head_of s); head = h; bytes = b }

@@ -1,8 +1,8 @@
 -- The entries of a state after a store in front of them, and after an entry is put at a place of the ring.
 -- Assumes nothing.
-use Prim.Native.Nat.{ℕ, suc, ◌+◌, ◌-◌, ◌*◌, ◌%◌, ◌≤◌, ◌<◌, min}
+use Prim.Native.Nat.{ℕ, ◌+◌, ◌-◌, ◌*◌, ◌%◌, ◌≤◌, ◌<◌, min}
 use mathlib.Core.Path.{◌≡◌, sym, ap, ◌∙◌}
-use mathlib.Core.List.{List, [], ◌∷◌}
+use mathlib.Core.List.{List}
 use mathlib.Core.Logic.{⊎_elim}
 use native.Mathlib.Nat.{mod-mod}
 use native.Mathlib.Omega.{arith}
@@ -16,23 +16,9 @@ use Rattle.records.specs.Ring.{ring}
 use Rattle.records.proofs.RecordLaws.{record_same, record_other, record_set}
 use Rattle.records.proofs.RingLaws.{apart, length_ring, ring_same, ring_take, ring_drop}
 use Rattle.reporter.specs.Layout.{reporter_length, places, record_length, control_length, record_place, entry_in}
-use Rattle.reporter.specs.Rules.{batch_length}
 
 pub entry_set : (s : List ℕ) (i x p : ℕ) → i < control_length → entry_in (set s i x) p ≡ entry_in s p
 entry_set s i x p h = record_set s i x (record_place p) (omega arith)
-
--- a place past the last is one of the ring
-turned : (s : List ℕ) (p : ℕ) → entry_in s p ≡ entry_in s (p % places)
-turned s p = ap (λ (k : ℕ). record_at s (control_length + record_length * k)) (sym (mod-mod p places))
-
-pub four_got : (s : List ℕ) (at : ℕ) (e₀ e₁ e₂ e₃ : ErrorEntry) → e₀ ≡ entry_in s at → e₁ ≡ entry_in s (at + 1) → e₂ ≡ entry_in s (at + 2)
-    → e₃ ≡ entry_in s (at + 3) → (e₀ ∷ e₁ ∷ e₂ ∷ e₃ ∷ []) ≡ ring (entry_in s) places at batch_length
-unfolding ring
-four_got s at e₀ e₁ e₂ e₃ f₀ f₁ f₂ f₃ =
-    let k₁ : at + 1 ≡ suc at = omega arith in
-    let k₂ : at + 2 ≡ suc (suc at) = omega arith in
-    let k₃ : at + 3 ≡ suc (suc (suc at)) = omega arith in
-    rw (f₀ ∙ turned s at, f₁ ∙ turned s (at + 1), f₂ ∙ turned s (at + 2), f₃ ∙ turned s (at + 3), k₁, k₂, k₃)
 
 module _ (s t : List ℕ) (same : (p : ℕ) → entry_in t p ≡ entry_in s p) where
   pub ring_kept : (at n : ℕ) → ring (entry_in t) places at n ≡ ring (entry_in s) places at n

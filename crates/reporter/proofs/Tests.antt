@@ -36,3 +36,5 @@ module _ (s : List ℕ) (o : Bool) (eo : o ≡ opens_in s) where
         → set (set (set s en_at x) open_at n) waiting_at (w - n) ≡ opened_bytes s
     unfolding opened_bytes
     opens_octets x b eb ex = rw (ex ∙ flipped b, eb, en, ew, sym eo ∙ h)
+
+pub ruleset opens_laws = (opens_nothing, opens_some, opens_octets)

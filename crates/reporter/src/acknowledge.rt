@@ -12,6 +12,7 @@ use types::C_ADR_MN_DEF_NODE_ID;
 use types::hal::PowerlinkError;
 
 // EA, where the frame is from the managing node and for node `id`.
+#[tactic(auto, unfolding(crate::specs::Rules::ea_for))]
 fn ea_for(id: u8, source: u8, target: u8, ea: bool) -> Option<bool>
     ensures { result ≡ ea_for id source target ea }
 {

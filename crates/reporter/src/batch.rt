@@ -41,6 +41,7 @@ pub(crate) fn carried(state: &Reporter) -> u8
 }
 
 // The first waiting entries become the open batch, and EN flips, where an answer opens one.
+#[tactic(auto, using(crate::proofs::Tests::opens_laws))]
 pub(crate) fn open_batch(state: &mut Reporter)
     ensures { state.new ≡ opened_bytes state.old }
 {
@@ -56,7 +57,7 @@ pub(crate) fn open_batch(state: &mut Reporter)
 
 // The four entries from the ring's start on, whether they are of the batch or not. They are written out, since of a `map` over
 // the four places (tried) the check does not find what it gives, and its law would take more lines than these.
-#[tactic(auto, using(crate::proofs::Ranges::start_small))]
+#[tactic(auto, using(crate::proofs::Ranges::start_small), unfolding(records::specs::Ring::ring))]
 fn first_four(state: &Reporter) -> [ErrorEntry; 4]
     ensures { result ≡ first_four state.now }
 {
@@ -70,6 +71,7 @@ fn first_four(state: &Reporter) -> [ErrorEntry; 4]
 }
 
 // The front of an answer's payload, but for the error field.
+#[tactic(auto, using(crate::proofs::Tests::en_flips, crate::proofs::Tests::en_stays))]
 fn status_fields(state: &Reporter, fields: AnswerFields) -> StatusFields
     ensures { result ≡ status_fields fields (opened (head_of state.now)).en }
 {
@@ -114,6 +116,7 @@ fn write_payload(
 }
 
 // Puts what stands in front of an answer's payload: the Ethernet header, and the fields of the ASnd.
+#[tactic(auto, using(crate::proofs::AnswerLaws::front_put, crate::proofs::Opening::id_opened))]
 fn put_front(state: &Reporter, fields: AnswerFields, target: &mut [u8])
     ensures { target.new ≡ sets target.old 0 (answer_front fields (opened (head_of state.now)).id) }
 {

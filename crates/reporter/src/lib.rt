@@ -163,6 +163,7 @@ pub fn en(state: &Reporter) -> bool
 }
 
 // How many octets the next answer takes.
+#[tactic(auto, using(crate::proofs::Meaning::carried_length))]
 pub fn answer_len(state: &Reporter) -> usize
     ensures { result ≡ answer_length (length (opened (head_of state.now)).batch) }
 {
@@ -175,6 +176,7 @@ pub fn answer_len(state: &Reporter) -> usize
 }
 
 // Reads a frame: a PReq to this node or an SoA with it as target, from the managing node, gives EA.
+#[tactic(auto, unfolding(crate::specs::Layout::head_of))]
 pub fn read(
     state: &mut Reporter,
     services: &Services,

@@ -55,6 +55,7 @@ fn record_place(place: u8) -> usize
 }
 
 // The entry at a place of the ring.
+#[tactic(auto, unfolding(records::specs::Records::record_at))]
 pub(crate) fn entry_at(state: &Reporter, place: u8) -> ErrorEntry
     ensures { result ≡ entry_in state.now place }
 {

@@ -1,17 +1,14 @@
 -- Laws of the loops over the IDs of a table that is loaded.
 -- Assumes nothing.
-use Prim.Native.Nat.{ℕ, zero, suc, ◌+◌, ◌≤◌, ◌<◌}
+use Prim.Native.Nat.{ℕ, zero, suc, ◌+◌}
 use mathlib.Core.Bool.{Bool, true, false, and-false}
 use mathlib.Core.Path.{◌≡◌, refl, sym, ap, ◌∙◌}
 use mathlib.Core.List.{List, [], ◌∷◌}
-use native.Mathlib.Numerals.{add-one}
 use native.Mathlib.Omega.{arith}
-use lib.ListN.{length, get_or, set, drop, drop_of_length-le}
-use lib.Seq.{drop-cons}
+use lib.ListN.{get_or}
 use lib.Dec.{ltb}
 use Rattle.std.specs.List.{IsAllAdjacentAnswer}
 use Rattle.services.specs.Load.{is_ascending}
-use Rattle.services.specs.Table.{marked}
 
 ltb_next : (x : ℕ) (ids : List ℕ) (k d : ℕ) → ltb (get_or ids k d) (get_or (x ∷ ids) (suc k + 1) d) ≡ ltb (get_or ids k d) (get_or ids (k + 1) d)
 ltb_next x ids k d = let e : suc k + 1 ≡ suc (k + 1) = omega arith in ap (λ n. ltb (get_or ids k d) (get_or (x ∷ ids) n d)) e
@@ -29,11 +26,3 @@ ascends (x ∷ y ∷ ids) false (zero, p, never) = rw (sym (never 0))
 ascends (x ∷ y ∷ ids) false (suc k, p, never) =
     let e : false ≡ is_ascending (y ∷ ids) = ascends (y ∷ ids) false (k, omega arith, λ d. never d ∙ ltb_next x (y ∷ ids) k d) in
     rw (sym e, and-false (ltb x y))
-
-pub mark_next : (t ids : List ℕ) (i : ℕ) → i < length ids → marked t (drop i ids) ≡ marked (set t (get_or ids i 0) 1) (drop (i + 1) ids)
-unfolding marked
-mark_next t ids i h = rw (add-one, drop-cons ids i 0)
-
-pub mark_end : (t ids : List ℕ) (i : ℕ) → length ids ≤ i → marked t (drop i ids) ≡ t
-unfolding marked
-mark_end t ids i e = rw (drop_of_length-le ids e)

@@ -77,6 +77,7 @@ fn ascending(ids: &[u8]) -> bool
 }
 
 // Marks each of the IDs in the table.
+#[tactic(auto, unfolding(crate::specs::Table::marked))]
 fn mark(ids: &[u8], services: &mut Services)
     ensures { services.new ≡ marked services.old ids.now }
 {

@@ -28,7 +28,6 @@ use Rattle.status_response.specs.Parts.{batch_of, entries_put}
 use Rattle.status_response.specs.Steps.{entries_bytes, status_bytes, status_length}
 use Rattle.status_response.specs.declared.bit_field.StaticErrorBitField.{StaticErrorBitField}
 use Rattle.status_response.specs.declared.fields.StatusFields.{StatusFields}
-use Rattle.status_response.proofs.Places.{part_length}
 use Rattle.status_response.proofs.WriteLaws.{put_is, status_length_lem}
 
 entries_count : (n : ℕ) (s : List ℕ) → length (entries_of n s) ≡ n
@@ -81,19 +80,6 @@ module _ (at k : ℕ) (s t t₀ : List ℕ) (there : at + k ≤ length s) (fits 
     (put : t ≡ sets t₀ front_length (take at s)) where
   same : length t ≡ length t₀
   same = ap length put ∙ length-sets t₀ front_length (take at s)
-
-  pub group_fits : k % entry_length ≡ 0 → k ≤ 80
-      → (length (take k (drop at s)) % entry_length ≡ 0) × ((length (take k (drop at s)) ≤ 80) × (front_length + length (take k (drop at s)) + entry_length ≤ length (mid_of at (length t - at) t)))
-  group_fits e few =
-      let l : length (take k (drop at s)) ≡ k = length-take-le k (drop at s) (simp length-drop (omega arith)) in
-      let m : length (mid_of at (length t - at) t) ≡ length t - at = part_length at (length t - at) t (omega (arith, same)) in
-      (rw l e, (omega arith, omega (arith, same)))
-
-  pub four_fits : k ≡ 80 → (length (take k (drop at s)) ≡ 80) × (34 + 20 * 4 ≤ length (mid_of at (length t - at) t))
-  four_fits e =
-      let l : length (take k (drop at s)) ≡ k = length-take-le k (drop at s) (simp length-drop (omega arith)) in
-      let m : length (mid_of at (length t - at) t) ≡ length t - at = part_length at (length t - at) t (omega (arith, same)) in
-      (l ∙ e, omega (arith, same))
 
   pub group_behind : (n : ℕ) (u : List ℕ) → n ≡ at + k → u ≡ sets (mid_of at (length t - at) t) front_length (take k (drop at s))
       → put_mid at (length t - at) t u ≡ sets t₀ front_length (take n s)

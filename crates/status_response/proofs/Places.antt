@@ -1,14 +1,13 @@
 -- Where the entries stand in the target, and when they fit.
 -- Assumes nothing.
-use Prim.Native.Nat.{ℕ, zero, suc, ◌+◌, ◌*◌, ◌-◌, ◌/◌, ◌≤◌, ◌<◌}
+use Prim.Native.Nat.{ℕ, zero, suc, ◌+◌, ◌*◌, ◌≤◌, ◌<◌}
 use mathlib.Core.Path.{◌≡◌, refl, sym, ap, ◌∙◌}
-use mathlib.Core.Bool.{Bool, true, false}
+use mathlib.Core.Bool.{true, false}
 use mathlib.Core.List.{List, ◌++◌, append_assoc}
 use native.Mathlib.Omega.{arith}
-use lib.Dec.{leb}
 use lib.ListN.{length, take, drop, length-drop, take-append-drop}
 use lib.Seq.{sets, length-sets, sets-eq, drop-drop, drop-append-le, length-take-le}
-use borrow.Author.Tests.{leb-true, leb-false, le-leb, lt-leb}
+use borrow.Author.Tests.{leb-true, leb-false}
 use borrow.Rule.Slice.PartMut.{mid_of, put_mid}
 use Rattle.octets.proofs.Sets.{sets_front}
 use Rattle.error_entry.specs.Entry.{entry_bytes}
@@ -18,10 +17,6 @@ use Rattle.status_response.specs.Parts.{entries_fit, entry_at_place, entries_put
 pub entry_length : (e : ErrorEntry) → length (entry_bytes e) ≡ 20
 unfolding entry_bytes
 entry_length e = refl
-
--- the rest of a list from a place on
-pub rest_length : (t : List ℕ) (at : ℕ) → length (take (length t - at) (drop at t)) ≡ length t - at
-rest_length t at = length-take-le (length t - at) (drop at t) (simp length-drop (omega arith))
 
 -- a part of a list has its length
 pub part_length : (at k : ℕ) (t : List ℕ) → at + k ≤ length t → length (mid_of at k t) ≡ k
@@ -40,18 +35,6 @@ sets_part at k t vs h few =
     ∙ sym (sets-eq vs t at (omega arith) ∙ append_assoc (take at t) vs (drop (at + m) t))
 
 module _ (n len : ℕ) where
-  pub fit_short : len < 34 → false ≡ entries_fit n len
-  unfolding entries_fit
-  fit_short h = sym (lt-leb (34 + 20 * n) len (omega arith))
-
-  pub fit_long : 34 ≤ len → leb n ((len - 34) / 20) ≡ entries_fit n len
-  unfolding entries_fit
-  fit_long h = split (leb n ((len - 34) / 20)) refl
-    where
-      split : (b : Bool) → leb n ((len - 34) / 20) ≡ b → leb n ((len - 34) / 20) ≡ leb (34 + 20 * n) len
-      split true e = e ∙ sym (le-leb (34 + 20 * n) len (omega (arith, leb-true n ((len - 34) / 20) e)))
-      split false e = e ∙ sym (lt-leb (34 + 20 * n) len (omega (arith, leb-false n ((len - 34) / 20) e)))
-
   pub fit_true : entries_fit n len ≡ true → 34 + 20 * n ≤ len
   unfolding entries_fit
   fit_true e = leb-true (34 + 20 * n) len e
@@ -65,7 +48,3 @@ module _ (es : List ErrorEntry) (t : List ℕ) where
   pub put_length : (i : ℕ) → length (entries_put es t i) ≡ length t
   put_length zero = refl
   put_length (suc i) = length-sets (entries_put es t i) (14 + 20 * i) (entry_bytes (entry_at_place es i)) ∙ put_length i
-
-  -- each entry of a list that fits has its place
-  pub place_fits : (i : ℕ) → i < length es → 34 + 20 * length es ≤ length t → 34 + 20 * i ≤ length (entries_put es t i)
-  place_fits i l h = omega (arith, put_length i)

@@ -1,21 +1,16 @@
 -- The cases of `step_at`, each from the tests that lead to it.
 -- Assumes nothing.
 use Prim.Native.Nat.{ℕ, ◌+◌, ◌-◌, ◌≤◌, ◌<◌}
-use mathlib.Core.Path.{◌≡◌, refl, sym, ap, ◌∙◌}
-use mathlib.Core.Bool.{Bool, true, false, true≢false}
+use mathlib.Core.Path.{◌≡◌, sym, ap, ◌∙◌}
 use mathlib.Core.List.{List}
 use mathlib.Core.Logic.{◌⊎◌, inl, inr}
-use lib.Dec.{leb}
 use lib.ListN.{length, drop, length-drop}
 use native.Mathlib.Omega.{arith}
-use borrow.Author.Tests.{leb-true, leb-false, le-leb, lt-leb}
+use borrow.Author.Tests.{le-leb, lt-leb}
 use Rattle.std.proofs.lemmas.Bool.{cases_lt}
-use Rattle.std.specs.Prelude.{Result, Ok, Err, Option, Some, None}
-use Rattle.std.specs.Result.{result_ok}
+use Rattle.std.specs.Prelude.{Result, Option, Some, None}
 use Rattle.types.specs.declared.error_mode.ErrorEntryMode.{ErrorEntryMode}
-use Rattle.types.specs.Codes.{need}
 use Rattle.types.specs.declared.hal.PowerlinkError.{PowerlinkError}
-use Rattle.types.specs.declared.hal.PowerlinkError.TheVariants.{BufferTooShort}
 use Rattle.error_entry.specs.Entry.{entry_of, read_entry}
 use Rattle.error_entry.specs.declared.ErrorEntry.{ErrorEntry}
 use Rattle.status_response.specs.Steps.{unless_terminator, step_at}
@@ -42,21 +37,3 @@ module _ (s : List ℕ) (offset : ℕ) where
   module _ (t : List ℕ) (et : t ≡ drop offset s) (a : Result ErrorEntry PowerlinkError) (ea : a ≡ read_entry t) where
     rest : length t ≡ length s - offset
     rest = ap length et ∙ length-drop offset s
-
-    pub step_refused : result_ok a ≡ None → None ≡ step_at s offset
-    unfolding read_entry
-    step_refused none = split (leb 20 (length t)) refl (ap result_ok (sym ea) ∙ none)
-      where
-        split : (b : Bool) → leb 20 (length t) ≡ b → result_ok (need b (Err BufferTooShort) (Ok (entry_of t))) ≡ None → None ≡ step_at s offset
-        split true k o = absurd (true≢false cc)
-        split false k o = step_none (omega (arith, rest, leb-false 20 (length t) k))
-
-    -- by its mode
-    pub step_read : (e : ErrorEntry) (m : ErrorEntryMode) (r : Option (ErrorEntry × ℕ)) → result_ok a ≡ Some e → e.entry_type.mode ≡ m
-        → r ≡ unless_terminator m (Some (e, (offset + 20))) None → r ≡ step_at s offset
-    unfolding read_entry
-    step_read e m r some em er = split (leb 20 (length t)) refl (ap result_ok (sym ea) ∙ some)
-      where
-        split : (b : Bool) → leb 20 (length t) ≡ b → result_ok (need b (Err BufferTooShort) (Ok (entry_of t))) ≡ Some e → r ≡ step_at s offset
-        split true k o = step_by_mode t e m r (omega (arith, rest, leb-true 20 (length t) k)) et (cc) em er
-        split false k o = absurd (true≢false cc)

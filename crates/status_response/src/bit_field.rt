@@ -26,6 +26,7 @@ impl StaticErrorBitField {
     }
 
     // The 8 octets of the field.
+    #[tactic(auto, unfolding(crate::specs::BitField::field_bytes))]
     pub fn to_bytes(self) -> [u8; FIELD_LEN]
         ensures { result ≡ field_bytes self }
     {
@@ -61,6 +62,7 @@ impl StaticErrorBitField {
 }
 
 // The field that 8 octets are.
+#[tactic(auto, unfolding(crate::specs::BitField::field_of))]
 fn field_in(buffer: &[u8]) -> StaticErrorBitField
     requires { 8 ≤ length buffer.now }
     ensures { result ≡ field_of buffer.now }

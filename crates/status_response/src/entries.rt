@@ -29,6 +29,7 @@ pub(crate) fn status_len(n: usize) -> usize
 
 // Whether `n` entries and the terminator fit into `len` octets, behind what stands in front. `n` may be any number, and a product
 // of it could wrap: so the length is divided. Behind the first test the compiler knows that there is room for the front.
+#[tactic(auto, unfolding(crate::specs::Parts::entries_fit))]
 pub(crate) fn fits(n: usize, len: usize) -> bool
     ensures { result ≡ entries_fit n len }
 {
@@ -58,6 +59,7 @@ pub(crate) fn put_terminator(n: usize, target: &mut [u8])
 }
 
 // Writes the terminator behind `n` entries, if it fits, and answers for them all.
+#[tactic(auto, unfolding(crate::specs::Parts::entries_fit))]
 fn finish(n: usize, target: &mut [u8]) -> Result<usize, PowerlinkError>
     ensures { (result ≡ entries_answer n (length target.old)) × (target.new ≡ terminated n target.old) }
 {

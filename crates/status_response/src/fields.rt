@@ -54,6 +54,7 @@ pub fn deserialize(payload: &[u8]) -> Result<DeserializedStatus, PowerlinkError>
 }
 
 // The fields alone: for a caller that does not want the error field.
+#[tactic(auto, unfolding(crate::specs::Fields::read_fields))]
 pub fn read_fields(payload: &[u8]) -> Result<StatusFields, PowerlinkError>
     ensures { ReadsFields payload.now result }
 {
@@ -80,6 +81,7 @@ fn fields(payload: &[u8], nmt_state: NmtState) -> StatusFields
 
 impl StatusFields {
     // The octets, with the error field. No `From`: a pair of both would be made for the call alone.
+    #[tactic(auto, unfolding(crate::specs::BitField::field_bytes, crate::specs::Fields::head_bytes))]
     pub fn to_bytes(self, field: StaticErrorBitField) -> [u8; FRONT_LEN]
         ensures { result ≡ head_bytes self field }
     {

@@ -19,6 +19,7 @@ use types::hal::PowerlinkError;
 const GROUP_LEN: usize = 4 * ENTRY_LEN;
 
 // Whether `entries` are whole entries, and their payload fits into `len` octets: what `serialize` tests.
+#[tactic(auto, unfolding(crate::specs::Parts::entries_fit))]
 pub fn fits(entries: &[u8], len: usize) -> bool
     ensures { result ≡ given_fit entries.now len }
 {
@@ -43,6 +44,7 @@ fn four(s: &[u8]) -> [ErrorEntry; 4]
 
 // Writes the four entries that `s` is behind the front of `target`, which stays. A number that the compiler knows spares it
 // the loop over them.
+#[tactic(auto, using(crate::proofs::GivenLaws::whole_put))]
 fn put_four(s: &[u8], target: &mut [u8])
     requires { (length s.now ≡ 80) × (status_length 4 ≤ length target.old) }
     ensures { target.new ≡ sets target.old front_length s.now }
@@ -51,6 +53,7 @@ fn put_four(s: &[u8], target: &mut [u8])
 }
 
 // The same of the up to three that are left.
+#[tactic(auto, using(crate::proofs::GivenLaws::group_put))]
 fn put_rest(s: &[u8], target: &mut [u8])
     requires { (length s.now % entry_length ≡ 0) × ((length s.now ≤ 80) × (front_length + length s.now + entry_length ≤ length target.old)) }
     ensures { target.new ≡ sets target.old front_length s.now }
@@ -76,6 +79,7 @@ fn put_groups(entries: &[u8], target: &mut [u8])
 }
 
 // Writes the payload, if it fits. A rest that is shorter than an entry is an entry that is too short.
+#[tactic(auto, using(crate::proofs::GivenLaws::status_refused, crate::proofs::GivenLaws::status_written))]
 pub fn serialize(
     fields: StatusFields,
     field: StaticErrorBitField,

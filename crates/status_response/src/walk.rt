@@ -33,6 +33,7 @@ impl<'a> Iterator for EntryWalk<'a> {
 
     ghost remaining = { item_count left_of };
 
+    #[tactic(auto, using(crate::proofs::StepsBack::entries_first, crate::proofs::StepsBack::entries_none))]
     fn next(&mut self) -> Option<ErrorEntry> {
         let (entry, offset) = step_from(self.payload, self.offset)?;
         self.offset = offset;
@@ -41,6 +42,7 @@ impl<'a> Iterator for EntryWalk<'a> {
 }
 
 // One step: the entry at an offset with the offset after it, or the end. C has no walk: it holds the offset.
+#[tactic(auto, unfolding(crate::specs::Steps::step_at))]
 pub fn step_from(payload: &[u8], offset: usize) -> Option<(ErrorEntry, usize)>
     ensures { result ≡ step_at payload.now offset }
 {

@@ -10,19 +10,14 @@ use lib.ListN.{get_or}
 use Rattle.std.specs.Prelude.{Result, Ok, Err}
 use Rattle.types.specs.CauseNumbers.{unknown_state, unknown_request}
 use Rattle.types.specs.Causes.{Cause, row}
-use Rattle.types.specs.CodeCauses.{code_row, message_cause, state_cause, requested_cause, mode_cause, ReadsMessage, ReadsState, ReadsRequested, ReadsMode}
+use Rattle.types.specs.CodeCauses.{code_row, state_cause, requested_cause, ReadsState, ReadsRequested}
 use Rattle.types.specs.Codes.{pick, decoded}
-use Rattle.types.specs.Messages.{message_code, messages, message_of}
-use Rattle.types.specs.Modes.{mode_code, modes, mode_of}
 use Rattle.types.specs.RequestedServices.{requested_code, requested_services, requested_of}
 use Rattle.types.specs.States.{state_code, states, state_of}
 use Rattle.types.specs.declared.requested_service.RequestedServiceId.{RequestedServiceId}
 use Rattle.types.specs.declared.states.NmtState.{NmtState}
 use Rattle.types.specs.declared.hal.PowerlinkError.{PowerlinkError}
-use Rattle.types.specs.declared.hal.PowerlinkError.TheVariants.{InvalidNmtState, InvalidMessageType, InvalidRequestedServiceId}
-use Rattle.types.specs.declared.message_type.MessageType.{MessageType}
-use Rattle.types.specs.declared.error_mode.UnknownMode.{UnknownMode}
-use Rattle.types.specs.declared.error_mode.ErrorEntryMode.{ErrorEntryMode}
+use Rattle.types.specs.declared.hal.PowerlinkError.TheVariants.{InvalidNmtState, InvalidRequestedServiceId}
 
 -- what is told of a value by its code is told of the octet that was read: one law for every table of codes
 module _ {A R C : Type 0} (code : A → ℕ) (known : A → R) (other : R) (told : R → C) (by : ℕ → C) (b : ℕ) where
@@ -40,14 +35,6 @@ abbrev pub read : ℕ → Cause
 read k = row 0 (k ∷ [])
 
 module _ (b : ℕ) where
-  pub message_told : (r : Result MessageType PowerlinkError) → r ≡ message_of b → ReadsMessage b r
-  unfolding message_of
-  message_told r e =
-      record {
-        answer = e;
-        cause = ap message_cause e ∙ decoded_told message_code Ok (Err (InvalidMessageType b)) message_cause read b (λ x. refl) messages;
-      }
-
   pub state_told : (r : Result NmtState PowerlinkError) → r ≡ state_of b → ReadsState b r
   unfolding state_of
   state_told r e =
@@ -64,14 +51,6 @@ module _ (b : ℕ) where
         cause =
             ap requested_cause e
             ∙ decoded_told requested_code Ok (Err (InvalidRequestedServiceId b)) requested_cause read b (λ x. refl) requested_services;
-      }
-
-  pub mode_told : (r : Result ErrorEntryMode UnknownMode) → r ≡ mode_of b → ReadsMode b r
-  unfolding mode_of
-  mode_told r e =
-      record {
-        answer = e;
-        cause = ap mode_cause e ∙ decoded_told mode_code Ok (Err (record { 0 = b })) mode_cause read b (λ x. refl) modes;
       }
 
 -- ---- the code of what an octet was read as is that octet

@@ -1,4 +1,3 @@
-pub mod Broadcast
 pub mod CausesTell
 pub mod CodeCauses
 pub mod Codes

@@ -20,9 +20,3 @@ module _ {A : Type 0} (a b : A) where
   is_terminator ErrorActive e = absurd (true≢false cc)
   is_terminator ErrorCleared e = absurd (true≢false cc)
   is_terminator EventOccurred e = absurd (true≢false cc)
-
-  pub is_entry : (m : ErrorEntryMode) → false ≡ unless_terminator m false true → a ≡ unless_terminator m a b
-  is_entry Terminator e = absurd (true≢false cc)
-  is_entry ErrorActive e = refl
-  is_entry ErrorCleared e = refl
-  is_entry EventOccurred e = refl

@@ -22,6 +22,7 @@ impl MacAddress {
     }
 
     // Whether the address is that of all stations.
+    #[tactic(auto, unfolding(crate::specs::Addresses::is_broadcast))]
     pub fn is_broadcast(self) -> bool
         ensures { result ≡ is_broadcast self.0 }
     {
@@ -61,6 +62,7 @@ impl EthernetHeader {
     }
 
     // The octets of the header. No `From`: the name says which end is octets, as of std's numbers.
+    #[tactic(auto, unfolding(crate::specs::Header::eth_bytes))]
     pub fn to_bytes(self) -> [u8; ETH_LEN]
         ensures { result ≡ eth_bytes self }
     {

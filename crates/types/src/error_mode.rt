@@ -20,6 +20,7 @@ impl TryFrom<u8> for ErrorEntryMode {
 
     ghost try_from_gives = { ReadsMode };
 
+    #[tactic(auto, unfolding(crate::specs::Modes::mode_of))]
     fn try_from(b: u8) -> Result<ErrorEntryMode, UnknownMode> {
         match b {
             0 => Ok(ErrorEntryMode::Terminator),
@@ -33,6 +34,7 @@ impl TryFrom<u8> for ErrorEntryMode {
 
 impl ErrorEntryMode {
     // The mode in the two low bits of an octet. No `From`: of an octet as a whole `try_from` says whether it is a code.
+    #[tactic(auto, unfolding(crate::specs::Modes::mode_in))]
     pub fn from_bits(b: u8) -> ErrorEntryMode
         ensures { result ≡ mode_in b }
     {

@@ -19,6 +19,7 @@ impl TryFrom<u8> for MessageType {
 
     ghost try_from_gives = { ReadsMessage };
 
+    #[tactic(auto, unfolding(crate::specs::Messages::message_of))]
     fn try_from(b: u8) -> Result<MessageType, PowerlinkError> {
         match b {
             1 => Ok(MessageType::SoC),

@@ -19,6 +19,7 @@ impl From<u8> for PRFlag {
     ghost from_gives = { λ b p. p ≡ priority_in b };
 
     // The priority in the three low bits of an octet: the others are masked, as in the Rust.
+    #[tactic(auto, unfolding(crate::specs::PollFlags::priority_in))]
     fn from(b: u8) -> PRFlag {
         match b % 8 {
             7 => PRFlag::PrioNmtRequest,
@@ -63,6 +64,7 @@ impl RSFlag {
 }
 
 // The octet that holds both flags: bits 5 to 3 and bits 2 to 0. No `From`: an octet has two, and the names say which is meant.
+#[tactic(auto, unfolding(crate::specs::PollFlags::poll_octet))]
 pub fn poll_octet(pr: PRFlag, rs: RSFlag) -> u8
     ensures { result ≡ poll_octet pr rs.0 }
 {

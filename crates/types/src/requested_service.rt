@@ -19,6 +19,7 @@ impl TryFrom<u8> for RequestedServiceId {
 
     ghost try_from_gives = { ReadsRequested };
 
+    #[tactic(auto, unfolding(crate::specs::RequestedServices::requested_of))]
     fn try_from(b: u8) -> Result<RequestedServiceId, PowerlinkError> {
         match b {
             0x00 => Ok(RequestedServiceId::NoService),

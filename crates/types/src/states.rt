@@ -26,6 +26,7 @@ impl TryFrom<u8> for NmtState {
 
     ghost try_from_gives = { ReadsState };
 
+    #[tactic(auto, unfolding(crate::specs::States::state_of))]
     fn try_from(b: u8) -> Result<NmtState, PowerlinkError> {
         match b {
             0x00 => Ok(NmtState::NmtGsOff),

@@ -10,7 +10,7 @@ use borrow.Rule.Slice.PartMut.{mid_len}
 use Rattle.journal.specs.Rest.{Buffer, record_len}
 use Rattle.journal.specs.declared.streams.Streams.{Streams}
 use Rattle.journal.proofs.Counts.{room_got, room_said}
-use Rattle.journal.proofs.Turns.{record_fits, read_fits, read_within, stands_read, read_on}
+use Rattle.journal.proofs.Turns.{record_fits, read_within, stands_read}
 use Rattle.journal.proofs.turn.Goals as goal
 
 -- what is held leaves room in the buffer
@@ -32,10 +32,6 @@ read-requires g c =
       (omega arith, omega (arith, room_got c.args.streams.now c.requires.room.0)),
     )
 
-pub overflow_add-held : goal.overflow_add-held
-overflow_add-held g c =
-    record { fits = omega (arith, read_fits c.args.text.now c.read.new.buffer c.args.held c.in_ok-got.got (search rules) c.read.auto.buffer c.requires.room.1 c.in_ok-got.ensures.0) }
-
 pub list_held-requires-clause-stands : goal.list_held-requires-clause-stands
 list_held-requires-clause-stands g c =
     stands_read c.args.text.now c.read.new.buffer c.args.held c.in_ok-got.got (search rules) c.read.auto.buffer c.requires.room.1 c.in_ok-got.ensures.0
@@ -46,8 +42,3 @@ list_held-requires-clause-counted g c = (
   omega (arith, room_said c.args.streams.now c.requires.room.0, ap (λ (x : Streams). x.said) c.in_ok-got.ensures.1),
   read_within c.args.text.now c.read.new.buffer c.args.held c.in_ok-got.got (search rules) c.read.auto.buffer c.requires.room.1 c.in_ok-got.ensures.0,
 )
-
-pub returns : goal.returns
-returns g c =
-    let o = c.list_held in
-    read_on c.args.streams.now c.in_ok-got.got o.new.streams o.result o.new.text c.in_ok-got.ensures.1 o.ensures
