@@ -135,6 +135,7 @@ impl From<Failed> for End {
 
 // Turns, one after the other. A proved loop has to end, and nothing says that the input does: so it does where the counts would
 // be used up, which no run brings about.
+#[tactic(auto, using(crate::proofs::Turns::at_start, crate::proofs::Turns::record_some))]
 fn all_turns(
     rt: &(impl Input + Print + Eprint),
     streams: &mut Streams,
