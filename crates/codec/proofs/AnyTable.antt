@@ -2,9 +2,8 @@
 -- whatever is told of a frame is the same under every table, or it is what is told of these two; and it is the same if these are alike.
 -- Assumes nothing.
 use Prim.Native.Nat.{ℕ}
-use mathlib.Core.Bool.{Bool, true, false}
+use mathlib.Core.Bool.{Bool, true, false, true≢false}
 use mathlib.Core.Logic.{◌⊎◌, inl, inr, ⊎_elim}
-use native.Mathlib.Omega.{arith}
 use mathlib.Core.Path.{◌≡◌, refl, sym, subst, ◌∙◌}
 use mathlib.Core.List.{List}
 use lib.Dec.{leb}
@@ -50,9 +49,7 @@ module _ {A : Type 0} (F : Result PowerlinkFrame PowerlinkError → A) (P : A �
 
       is_other : (t : List ℕ) → holds t (get_or s 3 0) ≡ false → IsOther s
       is_other t e q =
-          let z : true ≡ false = sym (tables_hold.status t) ∙ subst (λ (b : ℕ). holds t b ≡ false) q e in
-          let y : ◌≡◌ {A = ℕ} 0 1 = cc in
-          absurd (omega arith)
+          absurd (true≢false (sym (tables_hold.status t) ∙ subst (λ (b : ℕ). holds t b ≡ false) q e))
 
       split : (l a b : Bool) → holds services (get_or s 3 0) ≡ a → holds others (get_or s 3 0) ≡ b → AlikeOr P (F (tested l a)) (F (tested l b))
       split false a b p q = inl refl

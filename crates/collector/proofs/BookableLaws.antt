@@ -7,6 +7,7 @@ use mathlib.Core.List.{List, [], ◌∷◌}
 use native.Mathlib.Omega.{arith}
 use lib.ListN.{length}
 use denote.Ref.{Bor}
+use borrow.Author.Tests.{not-true}
 use Rattle.std.specs.List.{filter}
 use borrow.Table.Steps.{cases as either}
 use Rattle.octets.proofs.NumberBack.{Octets}
@@ -43,9 +44,9 @@ pub booked_in_range : (s : List ℕ) → Octets s → EachInRange (booked_entrie
 unfolding booked_entries
 booked_in_range s o = bookable_range (status_entries s) (entries_in_range s o)
 
-passes : (b : Bool) → not b ≡ true → (l m : List ErrorEntry) → pick b l m ≡ m
-passes false h l m = refl
-passes true h l m = absurd (true≢false cc)
+pub picked : {A : Type 0} (b : Bool) (x y : A) → b ≡ false → pick b x y ≡ y
+picked true x y e = absurd (true≢false cc)
+picked false x y e = refl
 
 -- ---- entries join a book one by one: t is the state that all have joined
 
@@ -63,7 +64,7 @@ module _ (k : ℕ) (t : List ℕ) where
       → not e.entry_type.is_status_entry ≡ true → (u : List ℕ) → u ≡ pushed_bytes s k e → count_in u k ≡ count_in s k + 1 → Joins u es
   unfolding pushed_all
   join_one s all h e es next booked u is n =
-      let joined : bookable all ≡ e ∷ bookable es = ap bookable next ∙ passes e.entry_type.is_status_entry booked (bookable es) (e ∷ bookable es) in (
+      let joined : bookable all ≡ e ∷ bookable es = ap bookable next ∙ picked e.entry_type.is_status_entry (bookable es) (e ∷ bookable es) (not-true _ booked) in (
         ap (λ (x : List ℕ). pushed_all x k (bookable es)) is ∙ sym (ap (pushed_all s k) joined) ∙ h.0,
         omega (arith, n, ap length joined, h.1),
       )

@@ -53,7 +53,7 @@ book_bound s i p e =
     let q : Some (account_in s (slot_of s i)) ≡ Some p = sym (place_some s i h) ∙ e in
     let r : account_in s (slot_of s i) ≡ p = cc in
     omega (arith, book_most s (slot_of s i), ap (λ (x : Account). length x.book) r))
-    (λ (h : heads ≤ slot_of s i). absurd (let q : None ≡ Some p = sym (place_none s i h) ∙ e in let z : ◌≡◌ {A = ℕ} 0 1 = cc in omega arith))
+    (λ (h : heads ≤ slot_of s i). let q : None ≡ Some p = sym (place_none s i h) ∙ e in absurd (true≢false cc))
     (cases_lt (slot_of s i) heads)
 
 -- ---- a fresh state

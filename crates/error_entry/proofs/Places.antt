@@ -21,8 +21,8 @@ sets_behind at i (v ∷ vs) t =
     ∙ sets_behind at (suc i) vs (set t (at + i) v)
     ∙ rw (take-set-le at t (at + i) v (le-add_right at i), drop-set-add at t i v)
 
-pub sets_rest : (at i : ℕ) (t vs : List ℕ) → at ≤ length t → put_mid at (length t - at) t (sets (mid_of at (length t - at) t) i vs) ≡ sets t (at + i) vs
-sets_rest at i t vs h =
+pub sets_rest_from : (at i : ℕ) (t vs : List ℕ) → at ≤ length t → put_mid at (length t - at) t (sets (mid_of at (length t - at) t) i vs) ≡ sets t (at + i) vs
+sets_rest_from at i t vs h =
     let rest : mid_of at (length t - at) t ≡ drop at t = take_all (length t - at) (drop at t) (simp length-drop (omega arith)) in
     let none : drop (length t - at) (drop at t) ≡ [] = drop_of_length-le (drop at t) {i = length t - at} (simp length-drop (omega arith)) in
     rw (rest, none, append-nil, sets_behind at i vs t)

@@ -10,6 +10,7 @@ use lib.ListN.{length, take, drop, length-drop, length-append}
 use lib.Seq.{paste, take-paste, take-add, drop_at, length-take-le}
 use borrow.Rule.Slice.PartMut.{mid_of, put_mid, same_len_mid, mid_len, take_put}
 use borrow.Author.Clash.{clash}
+use Rattle.journal.proofs.Counts.{room_got, room_said}
 use Rattle.std.specs.Prelude.{Some, Ok}
 use Rattle.journal_records.specs.Listing.{listing, version1}
 use Rattle.journal_records.specs.Parts.{text_from}
@@ -99,3 +100,6 @@ pub at_start : {now : Streams} → now ≡ fresh → Stands now Header []
 at_start {now} e =
     subst (λ (x : Streams). Stands x Header []) (sym e)
     (record { good = refl; input = []; read = refl; text = []; said = refl; due = λ rest l. refl })
+
+-- what a turn needs of what it read
+pub ruleset turn_laws = (record_fits, room_got, room_said, read_within, stands_read)

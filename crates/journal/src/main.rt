@@ -101,6 +101,7 @@ fn list_held(
 }
 
 // Reads behind the octets that are held, and lists.
+#[tactic(auto, using(crate::proofs::Turns::turn_laws))]
 fn turn(
     rt: &(impl Input + Print + Eprint),
     streams: &mut Streams,

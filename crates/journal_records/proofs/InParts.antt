@@ -20,7 +20,7 @@ use Rattle.journal_records.specs.declared.listing.ListError.TheVariants.{BufferT
 use Rattle.journal_records.specs.declared.listing.Stop.TheVariants.{More, Full, End}
 use Rattle.journal_records.specs.declared.listing.Part.{Part}
 use Rattle.journal_records.specs.declared.listing.Phase.{Phase}
-use Rattle.journal_records.proofs.Answers.{after_on, after_room, after_more, after_end, after_refused, after_never}
+use Rattle.journal_records.proofs.AnswerLaws.{after_on, after_room, after_more, after_end, after_refused, after_never}
 use Rattle.journal_records.proofs.PartLaws.{fewer, part_stops, part_goes_on}
 use Rattle.journal_records.proofs.Steps.{Bounded, step_due, step_bounded}
 use Rattle.journal_records.proofs.Views.{Lined, View, view, waits, ends, full, lined, head_cut, unmarked, other_version, head_good, short, fault, good}
@@ -32,9 +32,6 @@ some_sum zero d f = absurd (f refl)
 some_sum (suc c) d f = omega arith
 
 -- ---- what the answer of a step tells
-
-never : ◌≡◌ {A = ℕ} 0 1 → ⊥
-never e = omega arith
 
 lined_line : {p : Phase} {s : List ℕ} {last : Bool} {q : Piece} → Lined p s last q → (q.consumed ≡ 0 → ⊥) → q.answer ≡ Ok More
 lined_line (head_cut h) f = absurd (f refl)
@@ -48,13 +45,13 @@ lined_line (good h e) f = refl
 -- a line is written for octets that it consumes, or for a refusal
 lined_room : {p : Phase} {s : List ℕ} {last : Bool} {q : Piece} → Lined p s last q
     → (crowded q.answer ≡ false) × ((q.consumed ≡ 0 → q.answer ≡ Ok More → ⊥) × (q.answer ≡ Ok End → ⊥))
-lined_room (head_cut h) = (refl, (λ z e. never (cc), λ e. never (cc)))
-lined_room (unmarked h m) = (refl, (λ z e. never (cc), λ e. never (cc)))
-lined_room (other_version h m v) = (refl, (λ z e. never (cc), λ e. never (cc)))
-lined_room (head_good h m v) = (refl, (λ z e. omega arith, λ e. never (cc)))
-lined_room (short h n) = (refl, (λ z e. never (cc), λ e. never (cc)))
-lined_room (fault h k) = (refl, (λ z e. never (cc), λ e. never (cc)))
-lined_room (good h k) = (refl, (λ z e. omega arith, λ e. never (cc)))
+lined_room (head_cut h) = (refl, (λ z e. true≢false cc, λ e. true≢false cc))
+lined_room (unmarked h m) = (refl, (λ z e. true≢false cc, λ e. true≢false cc))
+lined_room (other_version h m v) = (refl, (λ z e. true≢false cc, λ e. true≢false cc))
+lined_room (head_good h m v) = (refl, (λ z e. omega arith, λ e. true≢false cc))
+lined_room (short h n) = (refl, (λ z e. true≢false cc, λ e. true≢false cc))
+lined_room (fault h k) = (refl, (λ z e. true≢false cc, λ e. true≢false cc))
+lined_room (good h k) = (refl, (λ z e. omega arith, λ e. true≢false cc))
 
 view_line : {p : Phase} {s : List ℕ} {last : Bool} {room : ℕ} {q : Piece} → View p s last room q → (q.consumed ≡ 0 → ⊥) → q.answer ≡ Ok More
 view_line (waits h) f = refl
@@ -65,14 +62,14 @@ view_line (lined r l) f = lined_line l f
 view_more : {p : Phase} {s : List ℕ} {last : Bool} {room : ℕ} {q : Piece} → View p s last room q → q.consumed ≡ 0 → q.answer ≡ Ok More
     → (last ≡ false) × (length s < q.consumed + needed q.phase)
 view_more (waits h) z e = (refl, omega arith)
-view_more (ends h) z e = absurd (never (cc))
-view_more (full h) z e = absurd (never (cc))
+view_more (ends h) z e = absurd (true≢false cc)
+view_more (full h) z e = absurd (true≢false cc)
 view_more (lined r l) z e = absurd ((lined_room l).1.0 z e)
 
 view_end : {p : Phase} {s : List ℕ} {last : Bool} {room : ℕ} {q : Piece} → View p s last room q → q.answer ≡ Ok End → (last ≡ true) × (q.consumed ≡ length s)
-view_end (waits h) e = absurd (never (cc))
+view_end (waits h) e = absurd (true≢false cc)
 view_end (ends h) e = (refl, sym h)
-view_end (full h) e = absurd (never (cc))
+view_end (full h) e = absurd (true≢false cc)
 view_end (lined r l) e = absurd ((lined_room l).1.1 e)
 
 -- a refusal is its line
@@ -117,7 +114,7 @@ view_short : {p : Phase} {s : List ℕ} {last : Bool} {room : ℕ} {q : Piece} �
 view_short v e = (view_crowded v (ap crowded e)).1
 
 view_never : {p : Phase} {s : List ℕ} {last : Bool} {room : ℕ} {q : Piece} → View p s last room q → q.answer ≡ Ok Full → ⊥
-view_never v e = let s = ap (λ (q : Piece). q.answer) (view_crowded v (ap crowded e)).1 in never (cc)
+view_never v e = let s = ap (λ (q : Piece). q.answer) (view_crowded v (ap crowded e)).1 in true≢false cc
 
 line_more : (p : Phase) (s : List ℕ) (last : Bool) (room : ℕ) → ((step_of p s last room).consumed ≡ 0 → ⊥) → (step_of p s last room).answer ≡ Ok More
 line_more p s last room f = view_line (view p s last room) f

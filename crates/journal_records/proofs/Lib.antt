@@ -5,7 +5,7 @@ pub mod LineLaws
 pub mod ListLaws
 pub mod Views
 pub mod Steps
-pub mod Answers
+pub mod AnswerLaws
 pub mod PartLaws
 pub mod InParts
 pub mod Start

@@ -16,7 +16,7 @@ use Rattle.records.proofs.PutLaws.{sets_rest}
 use Rattle.journal_records.specs.Parts.{Piece, answer_after, ahead, step_of, steps_of, part_of, told, Prints, Lists}
 use Rattle.journal_records.specs.declared.listing.Part.{Part}
 use Rattle.journal_records.specs.declared.listing.Phase.{Phase}
-use Rattle.journal_records.proofs.Answers.{after_none, after_after}
+use Rattle.journal_records.proofs.AnswerLaws.{after_none, after_after}
 use Rattle.journal_records.proofs.Steps.{Bounded, step_bounded}
 use Rattle.journal_records.specs.declared.listing.Stop.{Stop}
 use Rattle.journal_records.specs.declared.listing.ListError.{ListError}

@@ -1,7 +1,7 @@
 -- The cases of a record's tests.
 -- Assumes nothing.
 use Prim.Native.Nat.{ℕ, suc, ◌-◌, ◌≤◌, ◌<◌}
-use mathlib.Core.Bool.{Bool, true, false}
+use mathlib.Core.Bool.{Bool, true, false, true≢false}
 use mathlib.Core.Path.{◌≡◌, refl, ap, ◌∙◌}
 use mathlib.Core.List.{List, [], ◌∷◌}
 use native.Mathlib.Omega.{arith}
@@ -32,8 +32,7 @@ module _ (node : ℕ) (e : ErrorEntry) where
       by_test true t = leb-true node 239 t
       by_test false t =
           let f : false ≡ valid_record node e = rw (le-leb 1 node (omega (arith, leb-false node 239 t)), t) in
-          let z : ◌≡◌ {A = ℕ} 0 1 = cc in
-          omega arith
+          absurd (true≢false cc)
 
   pub record_length : length (record_bytes node e) ≡ 21
   unfolding record_bytes

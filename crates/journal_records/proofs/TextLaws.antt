@@ -2,7 +2,7 @@
 -- Assumes nothing.
 use Prim.Native.Nat.{ℕ, zero, suc, ◌+◌, ◌-◌, ◌/◌, ◌%◌, ◌^◌, ◌≤◌, ◌<◌}
 use mathlib.Core.Bool.{Bool, true, false}
-use mathlib.Core.Path.{◌≡◌, refl, sym, ap, ◌∙◌}
+use mathlib.Core.Path.{◌≡◌, refl, sym, ◌∙◌}
 use mathlib.Core.List.{List, [], ◌∷◌, ◌++◌}
 use native.Mathlib.Nat.{div-lt_iff_lt-mul, pow-suc}
 use native.Mathlib.Numerals.{add-one, sub-one}
@@ -19,12 +19,6 @@ use Rattle.journal_records.specs.Text.{Adds, Puts, digit, hex, decimal_in, decim
 
 tenth_below : (n k : ℕ) → n < 10 ^ suc (suc k) → n / 10 < 10 ^ suc k
 tenth_below n k h = (div-lt_iff_lt-mul {k = 10} {x = n} {y = 10 ^ suc k} (omega arith)).1 (rw pow-suc at h)
-
--- more digits than a number has change nothing
-enough : (k n : ℕ) → n < 10 ^ suc k → decimal_in (suc k) n ≡ decimal_in (suc (suc k)) n
-unfolding decimal_in
-enough zero n h = rw (lt-ltb n 10 h)
-enough (suc k) n h = ap (λ (l : List ℕ). pick (ltb n 10) [] l ++ (48 + n % 10) ∷ []) (enough k (n / 10) (tenth_below n k h))
 
 more : (k n : ℕ) → 10 ≤ n → decimal_in (suc k) n ≡ decimal_in k (n / 10) ++ (48 + n % 10) ∷ []
 unfolding decimal_in
@@ -87,9 +81,6 @@ module _ {text : List ℕ} {at r : ℕ} {out front : List ℕ} (p : Puts text at
         next = rw (q.next, p.next, length-append) (omega arith);
         holds = rw (q.holds, p.next, p.holds) (sym (sets_append out at text more));
       }
-
-  pub put_as : {same : List ℕ} → text ≡ same → Puts same at r out front
-  put_as e = rw e at p
 
   -- what is left in the buffer is what the line has put there
   pub put_left : {after : List ℕ} → after ≡ front → Puts text at r out after

@@ -163,6 +163,7 @@ fn stopped(answer: Result<Stop, ListError>, phase: Phase) -> Part
 }
 
 // The header's line, where mark and version are there and right.
+#[tactic(auto, unfolding(crate::specs::Listing::header_line, crate::specs::Listing::layout_of, crate::specs::Listing::marked, crate::specs::Listing::version1, crate::specs::Parts::header_step))]
 fn header(bytes: &[u8], out: &mut [u8]) -> Part
     ensures { Prints (header_step bytes.now) result out.old out.new }
 {
@@ -188,6 +189,7 @@ fn header(bytes: &[u8], out: &mut [u8]) -> Part
 }
 
 // The first record's line.
+#[tactic(auto, unfolding(crate::specs::Listing::fields_line, crate::specs::Listing::good_record, crate::specs::Listing::record_line, crate::specs::Listing::version1, crate::specs::Parts::record_step, error_entry::specs::Entry::read_entry))]
 fn record(bytes: &[u8], out: &mut [u8]) -> Part
     ensures { Prints (record_step bytes.now) result out.old out.new }
 {

@@ -3,34 +3,13 @@
 use Prim.Native.Nat.{ℕ, zero, suc, ◌+◌, ◌-◌, ◌*◌, ◌/◌, ◌^◌, ◌≤◌, ◌<◌}
 use mathlib.Core.Path.{◌≡◌, refl, sym, ap, ◌∙◌}
 use mathlib.Core.List.{List, [], ◌∷◌, ◌++◌}
-use native.Mathlib.Nat.{zero-add, suc-add, pow-zero, pow-succ', mul_assoc, mul-zero, le_of_lt}
+use native.Mathlib.Nat.{pow-zero, pow-succ', le_of_lt}
 use native.Mathlib.Omega.{arith}
-use lib.ListN.{length, take, drop, get_or, replicate, length-drop, length-replicate}
-use lib.Seq.{sets, take_all, take-nil, take-append-le, drop-append-le}
+use lib.ListN.{length, take, drop, replicate, length-drop, length-replicate}
+use lib.Seq.{sets, take_all, take-append-le, drop-append-le}
 use Rattle.std.proofs.lemmas.List.{drop-replicate}
 use Rattle.octets.specs.Numbers.{le, le_at, le_bytes}
 use Rattle.octets.proofs.Sets.{sets_front}
-
--- n bytes and the m after them
-pub split : (n m : ℕ) (s : List ℕ) → le (take (n + m) s) ≡ le (take n s) + 256 ^ n * le (take m (drop n s))
-split zero m s = rw (zero-add m, pow-zero) (omega arith)
-split (suc n) m [] = rw (suc-add, take-nil, mul-zero)
-split (suc n) m (x ∷ xs) =
-    rw (suc-add, pow-succ', mul_assoc) (omega (arith, split n m xs))
-
--- one byte
-pub byte : (i : ℕ) (s : List ℕ) → get_or s i 0 ≡ le_at 1 i s
-unfolding le_at
-byte zero [] = refl
-byte (suc i) [] = refl
-byte zero (x ∷ xs) = omega arith
-byte (suc i) (x ∷ xs) = byte i xs
-
--- a number of n + n bytes from its halves, read from the tail that it starts
-pub joined : (n at lo hi : ℕ) (s t : List ℕ) → t ≡ drop at s → lo ≡ le_at n 0 t → hi ≡ le_at n n t
-    → lo + 256 ^ n * hi ≡ le_at (n + n) at s
-unfolding le_at
-joined n at lo hi s t et el eh = rw (el, eh, et) (sym (split n n (drop at s)))
 
 -- the n bytes of a number that n bytes hold are read back as it
 pub bytes_back : (n v : ℕ) → v < 256 ^ n → le (le_bytes n v) ≡ v

@@ -1,21 +1,17 @@
 -- What a caller of a writer is told, from what the writer promises.
 -- Assumes nothing.
-use Prim.Native.Nat.{ℕ, ◌/◌}
-use mathlib.Core.Bool.{Bool, true, false, true≢false}
+use Prim.Native.Nat.{ℕ}
+use mathlib.Core.Bool.{Bool, true, false}
 use mathlib.Core.Path.{◌≡◌, refl, ap, ◌∙◌}
 use mathlib.Core.List.{List}
 use lib.ListN.{length}
 use lib.Dec.{leb}
 use Rattle.std.specs.Prelude.{Result, Ok, Err}
-use Rattle.types.specs.Causes.{cause_number}
 use Rattle.types.specs.Codes.{pick, need}
 use Rattle.types.specs.declared.hal.PowerlinkError.{PowerlinkError}
 use Rattle.types.specs.declared.hal.PowerlinkError.TheVariants.{BufferTooShort}
 use Rattle.section.specs.Write.{write_answer, write_cause, Writes, Coded, octets, unnamed, unnamed_answer}
-use Rattle.error_entry.specs.Entry.{entry_length}
-use Rattle.status_response.specs.Given.{WritesWhole}
-use Rattle.status_response.specs.Steps.{status_length}
-use Rattle.c_values.specs.Answers.{length_after, error_octet, octet_after}
+use Rattle.c_values.specs.Answers.{length_after, octet_after}
 use Rattle.powerlink.specs.Writing.{WritesTo, WritesCoded}
 
 -- what `written_or` tells of an answer
@@ -61,37 +57,3 @@ refuses_coded w t r n o o' k e ew h =
       written = kept_length (leb k (length t)) e n ∙ rw ew;
       octet = h.1 ∙ rw ew;
     }
-
--- cause 1 is the same whether the target is too short or the input
-short_either : (b : Bool) (o : ℕ) → (◌≡◌ {A = ℕ} 1 (write_cause (need b (Err BufferTooShort) (Err BufferTooShort))).number) × (o ≡ octet_after (need b (Err BufferTooShort) (Err BufferTooShort)) o)
-short_either true o = (refl, refl)
-short_either false o = (refl, refl)
-
-refuses_short : (w : Coded) (t : List ℕ) (n o k : ℕ) → w ≡ unnamed k BufferTooShort → WritesCoded w 1 t t n n o o
-refuses_short w t n o k ew = refuses_coded w t 1 n o o k BufferTooShort ew (short_either (leb k (length t)) o)
-
--- entries that are given as the octets s
-module _ (w : Coded) (t : List ℕ) (n o : ℕ) (s : List ℕ) where
-  abbrev needed : ℕ
-  needed = status_length (length s / entry_length)
-
-  -- b says whether they are whole entries; the next is then written, or refused
-  abbrev Next : Bool → Coded → Type 0
-  Next b next = w ≡ need b (unnamed needed BufferTooShort) next
-
-  short : (b : Bool) (e : PowerlinkError) → Next b (unnamed needed e) → need b false (leb needed (length t)) ≡ false → WritesCoded w 1 t t n n o o
-  short true e q h = refuses_coded w t 1 n o o needed e q (rw h (refl, refl))
-  short false e q h = refuses_short w t n o needed q
-
-  refused : (b : Bool) (e : PowerlinkError) (r o' : ℕ) → Next b (unnamed needed e) → need b false (leb needed (length t)) ≡ true
-      → (r ≡ cause_number e) × (o' ≡ error_octet e o) → WritesCoded w r t t n n o o'
-  refused true e r o' q h told = refuses_coded w t r n o o' needed e q (rw h told)
-  refused false e r o' q h told = absurd (true≢false cc)
-
-  told : (b : Bool) (bs t' : List ℕ) (a : Result ℕ PowerlinkError) (r n' : ℕ) → Next b (octets bs) → WritesWhole b bs a t t' → Told a r n n'
-      → WritesCoded w r t t' n n' o o
-  told true bs t' a r n' q v e = writes_coded w t t' r n n' o bs a q v e
-  told false bs t' a r n' q v e =
-      let er : r ≡ 1 = e.0 ∙ rw v.0 in
-      let en : n' ≡ n = e.1 ∙ rw v.0 in
-      rw (er, en, v.2) (refuses_short w t n o needed q)

@@ -22,7 +22,7 @@ use Rattle.error_entry.proofs.Places as places
 use Rattle.types.specs.declared.hal.PowerlinkError.{PowerlinkError}
 
 pub sets_rest : (at : ℕ) (t vs : List ℕ) → at ≤ length t → put_mid at (length t - at) t (sets (mid_of at (length t - at) t) 0 vs) ≡ sets t at vs
-sets_rest at t vs h = places.sets_rest at 0 t vs h ∙ ap (λ (k : ℕ). sets t k vs) (add-zero at)
+sets_rest at t vs h = places.sets_rest_from at 0 t vs h ∙ ap (λ (k : ℕ). sets t k vs) (add-zero at)
 
 -- what a writer of an entry's octets leaves of the rest of a store is what putting its record leaves of the store
 module _ (s : List ℕ) (at : ℕ) (e : ErrorEntry) where

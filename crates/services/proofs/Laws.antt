@@ -1,4 +1,4 @@
--- Laws of the loops over the IDs of a table that is loaded.
+-- The order of the IDs of a table that is loaded.
 -- Assumes nothing.
 use Prim.Native.Nat.{ℕ, zero, suc, ◌+◌}
 use mathlib.Core.Bool.{Bool, true, false, and-false}

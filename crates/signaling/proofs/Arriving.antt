@@ -1,7 +1,7 @@
 -- Status entries among the entries of an answer make no difference to a box.
 -- Assumes nothing.
 use Prim.Native.Nat.{ℕ, zero, suc, ◌+◌, ◌*◌, ◌≤◌, ◌<◌}
-use mathlib.Core.Bool.{Bool, true, false}
+use mathlib.Core.Bool.{Bool, true, false, true≢false}
 use mathlib.Core.Path.{◌≡◌, refl, sym, ap, ◌∙◌}
 use mathlib.Core.Logic.{◌⊎◌, inl, inr}
 use mathlib.Core.List.{List, [], ◌∷◌, ◌++◌, append_assoc}
@@ -24,7 +24,6 @@ use Rattle.collector.specs.Rules.{bookable, booked_entries, read_answer, respons
 use Rattle.collector.specs.declared.ReadError.{ReadError}
 use Rattle.collector.specs.declared.ReadOutcome.{ReadOutcome as BoxOutcome}
 use Rattle.signaling.specs.Arrival.{IsASnd, entries_at, IsEntry, IsStatusEntry, Ends, Among, put, keep, end, Arrives, put_in}
-use Rattle.signaling.proofs.Facts.{clash}
 use Rattle.signaling.proofs.Fronts.{Agree, frames_agree, fields_agree}
 
 -- ---- the entries
@@ -120,9 +119,9 @@ module _ {f given : List ℕ} (y : Arrives f given) where
 
 is_terminator : (m : ErrorEntryMode) → (m ≡ Terminator) ⊎ (m ≡ Terminator → ⊥)
 is_terminator Terminator = inl refl
-is_terminator ErrorActive = inr (λ e. clash cc)
-is_terminator ErrorCleared = inr (λ e. clash cc)
-is_terminator EventOccurred = inr (λ e. clash cc)
+is_terminator ErrorActive = inr (λ e. absurd (true≢false cc))
+is_terminator ErrorCleared = inr (λ e. absurd (true≢false cc))
+is_terminator EventOccurred = inr (λ e. absurd (true≢false cc))
 
 -- the entry that octets begin with, if they do not end the reading
 begins : (l : List ℕ) → Ends l ⊎ IsEntry (take 20 l)

@@ -1,7 +1,7 @@
 -- What the answers of the calls say of the states.
 -- Assumes nothing.
 use Prim.Native.Nat.{ℕ, ◌+◌, ◌≤◌}
-use mathlib.Core.Bool.{Bool, true, false, ◌&&◌, beq}
+use mathlib.Core.Bool.{Bool, true, false, ◌&&◌, beq, true≢false}
 use mathlib.Core.Path.{◌≡◌, refl, sym, ◌∙◌}
 use mathlib.Core.List.{List, [], ◌∷◌, ◌++◌}
 use lib.ListN.{length, take, drop}
@@ -33,7 +33,7 @@ use Rattle.collector.specs.declared.RegisterError.{RegisterError}
 use Rattle.collector.specs.declared.RequestFields.{RequestFields}
 use Rattle.collector.specs.declared.TakeError.{TakeError}
 use Rattle.signaling.specs.Calls.{NotFrom, source_of, node, ea_of}
-use Rattle.signaling.proofs.Facts.{clash, either}
+use Rattle.signaling.proofs.Facts.{either}
 use Rattle.signaling.proofs.Frames.{request_reads}
 use Rattle.signaling.proofs.Invariant.{book_of}
 
@@ -84,7 +84,7 @@ as_written n (Err m) e = cc
 pub requested_frame : (j : ℕ) (f : RequestFields) (o : Option Account) (target : List ℕ) (n : ℕ)
     → Ok n ≡ request_answer j f target o
     → Requested j f o (take n (after_request j f target o))
-requested_frame j f None target n e = clash cc
+requested_frame j f None target n e = absurd (true≢false cc)
 requested_frame j f (Some p) target n e =
     record {
       place = p;
@@ -114,20 +114,20 @@ pub record WhyBooked (said : Said) (o : Option Account) : Type 0 where
 
 booked_by : (same fits : Bool) → Ok box.Booked ≡ pick same (Ok box.Known) (need fits (Err refusal.BookFull) (Ok box.Booked))
     → (same ≡ false) × (fits ≡ true)
-booked_by true fits e = clash cc
+booked_by true fits e = absurd (true≢false cc)
 booked_by false true e = (refl, refl)
-booked_by false false e = clash cc
+booked_by false false e = absurd (true≢false cc)
 
 booked_status : (a : Result StatusFields PowerlinkError) (es : List ErrorEntry) (p : Account) → Ok box.Booked ≡ status_answer a es p
     → (beq (en_in a) p.ea ≡ false) × (length p.book + length es ≤ book_length)
 unfolding book_answer
-booked_status (Err x) es p e = clash cc
+booked_status (Err x) es p e = absurd (true≢false cc)
 booked_status (Ok f) es p e =
     let y = booked_by (beq f.en_flag p.ea) (leb (length p.book + length es) book_length) e in
     (y.0, leb-true (length p.book + length es) book_length y.1)
 
 pub why_booked : (said : Said) (o : Option Account) → Ok box.Booked ≡ account_answer said o → WhyBooked said o
-why_booked said None e = clash cc
+why_booked said None e = absurd (true≢false cc)
 why_booked said (Some p) e =
     let y = booked_status said.fields said.entries p e in
     record { place = p; known = refl; fresh = y.0; room = y.1 }
@@ -200,5 +200,5 @@ first_taken e [] y = cc
 first_taken e (x ∷ b) y = cc
 
 pub why_taken : (e : ErrorEntry) (o : Option Account) → Ok e ≡ take_answer o → WhyTaken e o
-why_taken e None y = clash cc
+why_taken e None y = absurd (true≢false cc)
 why_taken e (Some p) y = record { place = p; known = refl; first = first_taken e p.book y }

@@ -6,6 +6,7 @@ use mathlib.Core.List.{List, [], ◌∷◌, ◌++◌}
 use native.Mathlib.Omega.{arith}
 use lib.ListN.{length}
 use borrow.Author.Tests.{eq-eqb}
+use mathlib.Core.Bool.{true≢false}
 use Rattle.std.specs.Prelude.{IsErr, Ok, Option, Some, None}
 use Rattle.error_entry.specs.declared.ErrorEntry.{ErrorEntry}
 use Rattle.collector.specs.Calls as collector
@@ -14,14 +15,13 @@ use Rattle.collector.specs.Rules.{Account, take_first, take_answer}
 use Rattle.signaling.specs.Calls.{accepted, handed_out, ruled, unbooked, node, World, Run, Drained, over, more, TakenTimes, start, next, NoneLost, Demand3}
 use Rattle.signaling.proofs.Calls.{why_taken}
 use Rattle.signaling.proofs.Draining.{box_size, draining}
-use Rattle.signaling.proofs.Facts.{clash}
 use Rattle.signaling.proofs.Invariant.{book_of, place_for, Held}
 use Rattle.signaling.proofs.Steps.{held}
 
 -- where a Take is refused, the book is empty
 first_refused : (b : List ErrorEntry) → IsErr (take_first b) → b ≡ []
 first_refused [] y = refl
-first_refused (e ∷ b) y = clash cc
+first_refused (e ∷ b) y = absurd (true≢false cc)
 
 refused_empty : (o : Option Account) → IsErr (take_answer o) → book_of o ≡ []
 refused_empty None y = refl

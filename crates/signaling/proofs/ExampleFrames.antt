@@ -1,7 +1,7 @@
 -- The frames of the example, and what the calls are given for them.
 -- Assumes nothing.
 use Prim.Native.Nat.{ℕ, zero, suc, ◌^◌, ◌≤◌, ◌<◌}
-use mathlib.Core.Bool.{Bool, true, false, ◌&&◌}
+use mathlib.Core.Bool.{Bool, true, false, ◌&&◌, true≢false}
 use mathlib.Core.Path.{◌≡◌, refl, sym, ap, ◌∙◌}
 use mathlib.Core.List.{List, [], ◌∷◌, append-nil}
 use native.Mathlib.Omega.{arith}
@@ -58,7 +58,7 @@ use Rattle.signaling.specs.Calls.{NotFrom, node}
 use Rattle.signaling.specs.Example.{example_entry, entry, shown, two_put_in, five, house, made_status}
 use Rattle.signaling.proofs.Arriving.{said_same, arrives_self, arrives_put}
 use Rattle.signaling.proofs.Calls.{request_here, request_else}
-use Rattle.signaling.proofs.Facts.{clash, either}
+use Rattle.signaling.proofs.Facts.{either}
 use Rattle.signaling.proofs.Frames.{Says, is_status, answer_reads, answer_long, says_arrived}
 
 -- ---- the entries, and what the calls are given
@@ -153,11 +153,11 @@ first_arrives = arrives_self (answer_frame fields first) (answer_long fields fir
 
 pub two_arrive : Arrives (answer_frame fields first) with_two
 two_arrive =
-    first_put 0 ErrorActive 0x8170 (omega arith) (omega arith) (λ e. clash cc)
-    (first_put 2 ErrorCleared 0x8171 (omega arith) (omega arith) (λ e. clash cc) first_arrives)
+    first_put 0 ErrorActive 0x8170 (omega arith) (omega arith) (λ e. absurd (true≢false cc))
+    (first_put 2 ErrorCleared 0x8171 (omega arith) (omega arith) (λ e. absurd (true≢false cc)) first_arrives)
 
 pub other_arrives : Arrives (answer_frame fields first) with_other
-other_arrives = first_put 4 EventOccurred 0x8172 (omega arith) (omega arith) (λ e. clash cc) first_arrives
+other_arrives = first_put 4 EventOccurred 0x8172 (omega arith) (omega arith) (λ e. absurd (true≢false cc)) first_arrives
 
 pub two_octets : Octets with_two
 unfolding fields answer_frame frame_bytes eth_bytes asnd_section padded answer_payload status_bytes head_bytes field_bytes entry_bytes type_number poll_octet
@@ -179,7 +179,7 @@ made_octets = octets (made_status fields) refl
 pub made_other : Arrives (answer_frame fields first) (made_status fields) → ⊥
 made_other y =
     let en : en_in (status_in (made_status fields)).fields ≡ en_in (status_in (answer_frame fields first)).fields = ap (λ (x : Said). en_in x.fields) (said_same y) in
-    clash (cc (en, ap en_in made_says.read ∙ made_says.en, ap en_in first_says.read ∙ first_says.en))
+    absurd (true≢false (cc (en, ap en_in made_says.read ∙ made_says.en, ap en_in first_says.read ∙ first_says.en)))
 
 pub made_source : (services : List ℕ) → NotFrom 7 (read_frame services (made_status fields)) → ⊥
 made_source services ne = (rw (made_answer, is_status fields (fresh_head 7) sizes tt services) at ne) refl

@@ -1,7 +1,7 @@
 -- What one exchange leaves: the head has closed what its answer carried, by the exchange's request or by a frame that it read before.
 -- Assumes nothing.
 use Prim.Native.Nat.{ℕ, ◌+◌, ◌-◌, ◌≤◌}
-use mathlib.Core.Bool.{Bool, beq}
+use mathlib.Core.Bool.{Bool, beq, true≢false}
 use mathlib.Core.Path.{◌≡◌, refl, sym, ap, ◌∙◌}
 use mathlib.Core.Logic.{◌⊎◌, inl, inr}
 use mathlib.Core.List.{List, ◌∷◌}
@@ -24,7 +24,7 @@ use Rattle.collector.specs.declared.RequestError.{RequestError}
 use Rattle.signaling.specs.Calls.{answer, sent, Event, answered, head_read, box_read, requested, answers_sent, requests_sent, node, World, Step, head_reads, box_reads, ea_of}
 use Rattle.signaling.specs.Exchanges.{Quiet, AnswerAgain, NoRepeat, Quietly, Exchange}
 use Rattle.signaling.proofs.Calls.{read_here}
-use Rattle.signaling.proofs.Facts.{clash, either, beq_same, beq_true}
+use Rattle.signaling.proofs.Facts.{either, beq_same, beq_true}
 use Rattle.signaling.proofs.Frames.{Says}
 use Rattle.signaling.proofs.Invariant.{Carries, head_in, place_for}
 use Rattle.signaling.proofs.Pending.{opened_twice, opened_fewer, head_hears, closed, AtMost, at_most_stays}
@@ -84,7 +84,7 @@ module _ (said : Said) (f : StatusFields) (e : said.fields ≡ Ok f) where
   outcome : (o : Option Account) → IsSome o → (account_answer said o ≡ Err refusal.BookFull → ⊥)
       → ((account_answer said o ≡ Ok box.Known) × (ea_of o ≡ f.en_flag)) ⊎ (account_answer said o ≡ Ok box.Booked)
   unfolding book_answer
-  outcome None is found = clash cc
+  outcome None is found = absurd (true≢false cc)
   outcome (Some p) is found =
       either (beq f.en_flag p.ea)
       (λ same. inl (rw (e, same), sym (beq_true f.en_flag p.ea same)))
@@ -96,11 +96,11 @@ module _ (said : Said) (f : StatusFields) (e : said.fields ≡ Ok f) where
   -- one that carries EA is known
   known : (o : Option Account) → IsSome o → ea_of o ≡ f.en_flag → account_answer said o ≡ Ok box.Known
   unfolding book_answer
-  known None is same = clash cc
+  known None is same = absurd (true≢false cc)
   known (Some p) is same = rw (e, same, beq_same f.en_flag)
 
   booked_bit : (o : Option Account) → IsSome o → (booked_account said o).ea ≡ f.en_flag
-  booked_bit None is = clash cc
+  booked_bit None is = absurd (true≢false cc)
   booked_bit (Some p) is = rw e
 
 module _ (services : List ℕ) (i : ℕ) (h : Head) (bs : List ℕ) (b : Box) (says : Says bs h) (id : h.id ≡ i) where
@@ -156,7 +156,7 @@ module _ {i : ℕ} {h : Head} {ea : Bool} {n m : ℕ} {w : World} (y : Steady i 
       let k = known (status_in a) says.fields says.read (place_for i w) y.ready.place (y.bit ∙ same ∙ sym says.en) in
       let x = box_says_lem services i h a (box_of w.box) says its_id in
       let z : Err refusal.BookFull ≡ Ok box.Known = sym full ∙ (read_as_sent y.ready.held services p bs r after d c).answer ∙ x ∙ k in
-      clash cc
+      absurd (true≢false cc)
 
 -- ---- the head reads
 

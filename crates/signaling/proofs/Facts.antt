@@ -3,7 +3,7 @@
 use Prim.Native.Nat.{ℕ, zero, suc, ◌<◌}
 use mathlib.Core.Path.{◌≡◌, refl}
 use mathlib.Core.Logic.{◌⊎◌, inl, inr}
-use mathlib.Core.Bool.{Bool, true, false, not, beq}
+use mathlib.Core.Bool.{Bool, true, false, not, beq, true≢false}
 use mathlib.Core.List.{List, [], ◌∷◌, ◌++◌, append_assoc}
 use native.Mathlib.Omega.{arith}
 use lib.ListN.{length}
@@ -11,16 +11,12 @@ pub use borrow.Table.Steps.{cases as either}
 use Rattle.std.specs.Prelude.{Some, slice_get}
 use Rattle.types.specs.Codes.{pick}
 
--- what would make 0 equal to 1 cannot be
-pub clash : {X : Type 0} → ◌≡◌ {A = ℕ} 0 1 → X
-clash e = absurd (omega arith)
-
 -- ---- Booleans
 
 -- a bit is not its own opposite
 pub opposite : {X : Type 0} (a : Bool) → a ≡ not a → X
-opposite true e = clash cc
-opposite false e = clash cc
+opposite true e = absurd (true≢false cc)
+opposite false e = absurd (true≢false cc)
 
 pub beq_same : (a : Bool) → beq a a ≡ true
 beq_same true = refl
@@ -52,7 +48,7 @@ beq_false false false e = cc
 pub at_snoc : {A : Type 0} (l : List A) (x a : A) (p : ℕ) → slice_get (l ++ (x ∷ [])) p ≡ Some a
     → ((p < length l) × (slice_get l p ≡ Some a)) ⊎ ((p ≡ length l) × (x ≡ a))
 at_snoc [] x a zero e = inr (refl, cc)
-at_snoc [] x a (suc p) e = clash cc
+at_snoc [] x a (suc p) e = absurd (true≢false cc)
 at_snoc (y ∷ l) x a zero e = inl (omega arith, e)
 at_snoc (y ∷ l) x a (suc p) e =
     elim (at_snoc l x a p e) [ inl h ↦ inl (omega (arith, h.0), h.1) | inr h ↦ inr (omega (arith, h.0), h.1) ]
@@ -70,4 +66,4 @@ no_batch true b e = refl
 no_batch false b e = e
 
 pub is_cons : {A : Type 0} {x : A} {w l : List A} {X : Type 0} → l ≡ x ∷ w → l ≡ [] → X
-is_cons e n = clash cc
+is_cons e n = absurd (true≢false cc)

@@ -1,7 +1,7 @@
 -- What the frames of both ends are read as.
 -- Assumes nothing.
 use Prim.Native.Nat.{ℕ, zero, suc, ◌-◌, ◌^◌, ◌≤◌, ◌<◌, min}
-use mathlib.Core.Bool.{Bool, true, false}
+use mathlib.Core.Bool.{Bool, true, false, true≢false}
 use mathlib.Core.Path.{◌≡◌, refl, ap, ◌∙◌}
 use mathlib.Core.List.{List, [], ◌∷◌, ◌++◌}
 use native.Mathlib.Nat.{min-eq_left, min-le_right}
@@ -9,8 +9,8 @@ use native.Mathlib.Omega.{arith}
 use lib.ListN.{length, replicate}
 use lib.Dec.{ltb}
 use borrow.Author.Tests.{ltb-true}
+use Rattle.collector.proofs.BookableLaws.{picked}
 use Rattle.std.specs.Prelude.{Ok, Some}
-use Rattle.types.specs.Codes.{pick}
 use Rattle.types.specs.Header.{eth_bytes}
 use Rattle.types.specs.Messages.{message_of}
 use Rattle.types.specs.PollFlags.{poll_octet}
@@ -42,7 +42,6 @@ use Rattle.collector.specs.declared.RequestFields.{RequestFields}
 use Rattle.signaling.specs.Arrival.{IsASnd, entries_at, Arrives}
 use Rattle.signaling.specs.Calls.{node}
 use Rattle.signaling.proofs.Arriving.{agree, said_same, response_same}
-use Rattle.signaling.proofs.Facts.{clash}
 use Rattle.signaling.proofs.Fronts.{kind_told_lem, kinds_agree}
 
 -- every entry may be raised, is of machine numbers and shows no status
@@ -68,13 +67,13 @@ pub record Says (bs : List ℕ) (h : Head) : Type 0 where
 
 -- what may be raised has a profile of 12 bits, and is no terminator
 in_profile : (m : ErrorEntryMode) (p : ℕ) → unless_terminator m (ltb p 4096) false ≡ true → p < 2 ^ 12
-in_profile Terminator p e = clash cc
+in_profile Terminator p e = absurd (true≢false cc)
 in_profile ErrorActive p e = ltb-true p 4096 e
 in_profile ErrorCleared p e = ltb-true p 4096 e
 in_profile EventOccurred p e = ltb-true p 4096 e
 
 no_terminator : {A : Type 0} (m : ErrorEntryMode) (b : Bool) (x y : A) → unless_terminator m b false ≡ true → unless_terminator m x y ≡ x
-no_terminator Terminator b x y e = clash cc
+no_terminator Terminator b x y e = absurd (true≢false cc)
 no_terminator ErrorActive b x y e = refl
 no_terminator ErrorCleared b x y e = refl
 no_terminator EventOccurred b x y e = refl
@@ -98,10 +97,6 @@ to_the_end : (es : List ErrorEntry) → Good es → until_terminator es ≡ es
 unfolding is_raisable
 to_the_end [] g = refl
 to_the_end (e ∷ es) g = no_terminator e.entry_type.mode _ _ _ g.0.0 ∙ ap (λ (l : List ErrorEntry). e ∷ l) (to_the_end es g.1)
-
-picked : {A : Type 0} (b : Bool) (x y : A) → b ≡ false → pick b x y ≡ y
-picked true x y e = clash cc
-picked false x y e = refl
 
 -- all of them are booked
 all_bookable : (es : List ErrorEntry) → Good es → bookable es ≡ es

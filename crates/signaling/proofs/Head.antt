@@ -1,7 +1,7 @@
 -- The head's calls keep the invariant.
 -- Assumes nothing.
 use Prim.Native.Nat.{ℕ, zero, suc, ◌≤◌}
-use mathlib.Core.Bool.{Bool, true, false, not, ◌&&◌, beq}
+use mathlib.Core.Bool.{Bool, true, false, not, ◌&&◌, beq, true≢false}
 use mathlib.Core.Path.{◌≡◌, refl, sym, ap, ◌∙◌}
 use mathlib.Core.Logic.{inl, inr}
 use mathlib.Core.List.{List, [], ◌∷◌, ◌++◌}
@@ -19,7 +19,7 @@ use Rattle.reporter.specs.declared.RaiseError.{RaiseError}
 use Rattle.reporter.specs.declared.ReadOutcome.TheVariants.{Closed, Kept}
 use Rattle.collector.specs.Rules.{en_in}
 use Rattle.signaling.specs.Calls.{sent, raised, answered, Tally, on_entries, on_answers, on_requests, on_ruled, accepts, sends, gives, becomes, answers, adds}
-use Rattle.signaling.proofs.Facts.{clash, beq_same, beq_other, beq_true, at_snoc, join_more, no_batch, is_cons}
+use Rattle.signaling.proofs.Facts.{beq_same, beq_other, beq_true, at_snoc, join_more, no_batch, is_cons}
 use Rattle.signaling.proofs.Frames.{Good, Says}
 use Rattle.signaling.proofs.Invariant.{en_said, batch_said, Inv}
 use Rattle.signaling.proofs.Transit.{answers_open, answers_send, answers_closed, requests_open, requests_later, requests_fresh, requests_closed}
@@ -41,9 +41,9 @@ good_drop (suc n) [] g = tt
 good_drop (suc n) (e ∷ a) g = good_drop n a g.1
 
 raised_by : (good status room : Bool) → Ok tt ≡ raise_by good status room → (good ≡ true) × (status ≡ false)
-raised_by true true room e = clash cc
+raised_by true true room e = absurd (true≢false cc)
 raised_by true false room e = (refl, refl)
-raised_by false status room e = clash cc
+raised_by false status room e = absurd (true≢false cc)
 
 -- what is raised may be
 abbrev MayBeRaised : ErrorEntry → Type 0

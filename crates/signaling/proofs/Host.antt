@@ -1,7 +1,7 @@
 -- What `flags` told may be put into a frame of the box's host.
 -- Assumes nothing.
 use Prim.Native.Nat.{ℕ}
-use mathlib.Core.Bool.{Bool, false}
+use mathlib.Core.Bool.{Bool, false, true≢false}
 use mathlib.Core.Path.{◌≡◌, refl, ap, ◌∙◌}
 use mathlib.Core.List.{List}
 use Rattle.std.specs.Prelude.{Ok, Some, None, Option}
@@ -11,7 +11,6 @@ use Rattle.reporter.proofs.AnyTable.{any_table}
 use Rattle.collector.specs.Layout.{account_of}
 use Rattle.collector.specs.Rules.{Account, flags_answer}
 use Rattle.signaling.specs.Calls.{ea_of, FlagsTell}
-use Rattle.signaling.proofs.Facts.{clash}
 
 -- the EA that an answer of `flags` holds
 abbrev told : Bool → Option SoAFlags → Bool
@@ -19,12 +18,12 @@ told other (Some f) = f.ea
 told other None = other
 
 flags_ea : (f : SoAFlags) (o : Option Account) → Some f ≡ flags_answer o → f.ea ≡ ea_of o
-flags_ea f None e = clash cc
+flags_ea f None e = absurd (true≢false cc)
 flags_ea f (Some p) e = ap (told p.ea) e
 
 no_ea : (o : Option Account) → None ≡ flags_answer o → false ≡ ea_of o
 no_ea None e = refl
-no_ea (Some p) e = clash cc
+no_ea (Some p) e = absurd (true≢false cc)
 
 -- EA is the same under every table
 pub same_ea : (services others : List ℕ) (i : ℕ) (bs : List ℕ) {x y : Bool}

@@ -1,7 +1,7 @@
 -- The lists of calls that lose entries, each by a step that Demand3 leaves out.
 -- Assumes nothing.
 use Prim.Native.Nat.{ℕ, zero, suc}
-use mathlib.Core.Bool.{true, false}
+use mathlib.Core.Bool.{true, false, true≢false}
 use mathlib.Core.Path.{◌≡◌, refl, ap, ◌∙◌}
 use mathlib.Core.List.{List, [], ◌∷◌}
 use native.Mathlib.Omega.{arith}
@@ -20,7 +20,6 @@ use Rattle.signaling.specs.Example.{five, house, here, made_status, FreeEaLoses,
 use Rattle.signaling.proofs.Callable.{hears}
 use Rattle.signaling.proofs.Example.{waits, between, place, answer_of, request_of, first_closed, Reached, reached_world, from, runs, next, read_twice, close_first, answer_second, original, reached_answered, reached_first}
 use Rattle.signaling.proofs.ExampleFrames.{fields, asked, first, second, second_says, made_says, made_octets, made_other, made_source, hears_ea, first_length, second_length, request_length}
-use Rattle.signaling.proofs.Facts.{clash}
 use Rattle.signaling.proofs.Making.{sent_whole, hearing, as_it_is, knowing, books_it, asking}
 
 -- the head reads a frame that closes its batch, wherever the frame comes from
@@ -74,7 +73,7 @@ built_ahead_loses =
       entries = refl;
       place = r.knows.place;
       holds = r.knows.means;
-      late = λ told. clash (cc (rw r.knows.place at (told ds301 false (hears_ea ds301 false))));
+      late = λ told. absurd (true≢false (cc (rw r.knows.place at (told ds301 false (hears_ea ds301 false)))));
       after = acknowledge_bytes (Ok Closed) r.state;
       reads = c.0;
       left = c.1;
@@ -85,7 +84,7 @@ built_ahead_loses =
 twice_same : (a bs : List ℕ) (p : ℕ) → slice_get (a ∷ a ∷ []) p ≡ Some bs → bs ≡ a
 twice_same a bs zero e = cc
 twice_same a bs (suc zero) e = cc
-twice_same a bs (suc (suc p)) e = clash cc
+twice_same a bs (suc (suc p)) e = absurd (true≢false cc)
 
 not_reaching : (services : List ℕ) (o : Origin) → Reaches services 7 o (made_status fields) (tally 7 first_closed).answers → ⊥
 not_reaching services (sent p) d =

@@ -1,7 +1,7 @@
 -- With places at the start for all that is not booked, every exchange finds the places that it needs.
 -- Assumes nothing.
 use Prim.Native.Nat.{ℕ, ◌+◌, ◌≤◌}
-use mathlib.Core.Bool.{Bool, false, beq}
+use mathlib.Core.Bool.{Bool, false, beq, true≢false}
 use mathlib.Core.Path.{◌≡◌, sym, ap, ◌∙◌}
 use mathlib.Core.List.{List}
 use native.Mathlib.Omega.{arith}
@@ -17,7 +17,7 @@ use Rattle.collector.specs.declared.ReadError.{ReadError}
 use Rattle.collector.specs.declared.ReadOutcome.TheVariants as box
 use Rattle.collector.specs.declared.ReadOutcome.{ReadOutcome as BoxOutcome}
 use Rattle.signaling.specs.Calls.{sent, box_read, tally, ruled, is_booked, Delivered, World, Step, box_reads, ea_of}
-use Rattle.signaling.proofs.Facts.{clash, either, beq_not, beq_false}
+use Rattle.signaling.proofs.Facts.{either, beq_not, beq_false}
 use Rattle.signaling.proofs.Invariant.{en_said, batch_said, book_of, head_in, place_for}
 use Rattle.signaling.proofs.Quiet.{Ready, Roomy}
 use Rattle.signaling.proofs.Steps.{read_as_sent}
@@ -38,19 +38,19 @@ fits_status : (a : Result StatusFields PowerlinkError) (es : List ErrorEntry) (p
     → status_answer a es p ≡ Err refusal.BookFull
     → ⊥
 unfolding book_answer
-fits_status (Err e) es p room full = clash cc
+fits_status (Err e) es p room full = absurd (true≢false cc)
 fits_status (Ok f) es p room full =
     either (beq f.en_flag p.ea)
-    (λ same. let x : status_answer (Ok f) es p ≡ Ok box.Known = rw same in clash cc)
+    (λ same. let x : status_answer (Ok f) es p ≡ Ok box.Known = rw same in absurd (true≢false cc))
     (λ new.
     let x : status_answer (Ok f) es p ≡ Ok box.Booked = rw (new, le-leb (length p.book + length es) book_length (room new)) in
-    clash cc)
+    absurd (true≢false cc))
 
 fits : (said : Said) (o : Option Account)
     → (beq (en_in said.fields) (ea_of o) ≡ false → length (book_of o) + length said.entries ≤ book_length)
     → account_answer said o ≡ Err refusal.BookFull
     → ⊥
-fits said None room full = clash cc
+fits said None room full = absurd (true≢false cc)
 fits said (Some p) room full = fits_status said.fields said.entries p room full
 
 -- what the box is given with a new bit carries the open batch, which is not booked, so there is room for it

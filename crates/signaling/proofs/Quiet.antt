@@ -1,7 +1,7 @@
 -- What a quiet call leaves as it was.
 -- Assumes nothing.
 use Prim.Native.Nat.{ℕ, ◌+◌, ◌≤◌}
-use mathlib.Core.Bool.{Bool, true, false}
+use mathlib.Core.Bool.{Bool, true, false, true≢false}
 use mathlib.Core.Path.{◌≡◌, refl, ◌∙◌}
 use mathlib.Core.Logic.{◌⊎◌, inl, inr}
 use mathlib.Core.List.{List, [], ◌∷◌}
@@ -29,7 +29,7 @@ use Rattle.signaling.specs.Calls.{tally, adds, Tally, nothing_yet, sent, foreign
 use Rattle.signaling.specs.Exchanges.{Quiet, NoRepeat, RequestAgain, Quietly, still, next, again, Exchange}
 use Rattle.signaling.proofs.Told.{told_now}
 use Rattle.signaling.proofs.Calls.{read_elsewhere, register_same}
-use Rattle.signaling.proofs.Facts.{clash, either, at_snoc}
+use Rattle.signaling.proofs.Facts.{either, at_snoc}
 use Rattle.signaling.proofs.Frames.{Says}
 use Rattle.signaling.proofs.Invariant.{head_in, place_for, Held}
 use Rattle.signaling.proofs.Steps.{answer_says, request_says, keeps}
@@ -143,7 +143,7 @@ take_bit i j b (Err x) = refl
 
 -- a Raise that accepts nothing leaves the head
 pub not_raised : (i : ℕ) (e : ErrorEntry) (r : Result Unit RaiseError) → NoRaise i (raised e r) → (h : Head) → after_raise r e h ≡ h
-not_raised i e (Ok _) k h = let some-raised : e ∷ [] ≡ [] = k (nothing_yet i) in clash cc
+not_raised i e (Ok _) k h = let some-raised : e ∷ [] ≡ [] = k (nothing_yet i) in absurd (true≢false cc)
 not_raised i e (Err x) k h = refl
 
 -- a reading leaves the head or closes its batch

@@ -19,7 +19,7 @@ use Rattle.types.specs.Codes.{need}
 use Rattle.types.specs.declared.hal.PowerlinkError.TheVariants.{BufferTooShort}
 use Rattle.error_entry.specs.Entry.{entry_length, entry_of, read_entry, or_terminator}
 use Rattle.error_entry.specs.declared.ErrorEntry.{ErrorEntry}
-use Rattle.error_entry.proofs.Places.{sets_rest}
+use Rattle.error_entry.proofs.Places.{sets_rest_from}
 use Rattle.error_entry.proofs.ReadBack.{entries_read_back}
 use Rattle.status_response.specs.BitField.{field_bytes}
 use Rattle.status_response.specs.Given.{WritesWhole, entries_of, entries_given, given_fit}
@@ -87,7 +87,7 @@ module _ (at k : ℕ) (s t t₀ : List ℕ) (there : at + k ≤ length s) (fits 
       let l : length (take at s) ≡ at = length-take-le at s (omega arith) in
       let place : at + front_length ≡ front_length + length (take at s) = omega (arith, l) in
       ap (put_mid at (length t - at) t) eu
-      ∙ sets_rest at front_length t (take k (drop at s)) (omega (arith, same))
+      ∙ sets_rest_from at front_length t (take k (drop at s)) (omega (arith, same))
       ∙ ap (λ (v : List ℕ). sets v (at + front_length) (take k (drop at s))) put
       ∙ ap (λ (i : ℕ). sets (sets t₀ front_length (take at s)) i (take k (drop at s))) place
       ∙ sym (sets_append t₀ front_length (take at s) (take k (drop at s)))

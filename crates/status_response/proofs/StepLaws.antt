@@ -4,14 +4,13 @@ use Prim.Native.Nat.{ℕ, ◌+◌, ◌-◌, ◌≤◌, ◌<◌}
 use mathlib.Core.Path.{◌≡◌, sym, ap, ◌∙◌}
 use mathlib.Core.List.{List}
 use mathlib.Core.Logic.{◌⊎◌, inl, inr}
-use lib.ListN.{length, drop, length-drop}
+use lib.ListN.{length, drop}
 use native.Mathlib.Omega.{arith}
 use borrow.Author.Tests.{le-leb, lt-leb}
 use Rattle.std.proofs.lemmas.Bool.{cases_lt}
-use Rattle.std.specs.Prelude.{Result, Option, Some, None}
+use Rattle.std.specs.Prelude.{Option, Some, None}
 use Rattle.types.specs.declared.error_mode.ErrorEntryMode.{ErrorEntryMode}
-use Rattle.types.specs.declared.hal.PowerlinkError.{PowerlinkError}
-use Rattle.error_entry.specs.Entry.{entry_of, read_entry}
+use Rattle.error_entry.specs.Entry.{entry_of}
 use Rattle.error_entry.specs.declared.ErrorEntry.{ErrorEntry}
 use Rattle.status_response.specs.Steps.{unless_terminator, step_at}
 
@@ -32,8 +31,3 @@ module _ (s : List ℕ) (offset : ℕ) where
   step_by_mode t e m r h et ee em er =
       rw (le-leb 20 (length s) (omega arith), le-leb offset (length s - 20) (omega arith), ← et, ← ee)
       (er ∙ ap (λ (k : ErrorEntryMode). unless_terminator k (Some (e, (offset + 20))) None) (sym em))
-
-  -- of the entry that was read there, or refused
-  module _ (t : List ℕ) (et : t ≡ drop offset s) (a : Result ErrorEntry PowerlinkError) (ea : a ≡ read_entry t) where
-    rest : length t ≡ length s - offset
-    rest = ap length et ∙ length-drop offset s

@@ -1,19 +1,13 @@
--- A `match` on a byte whose arms are the codes of a list.
+-- A test over a range of numbers, and each number of the range.
 -- Assumes nothing.
 use Prim.Native.Nat.{ℕ, zero, suc, ◌+◌, ◌≤◌, ◌<◌}
 use mathlib.Core.Path.{◌≡◌, refl, subst}
 use mathlib.Core.Bool.{Bool, true, false}
 use mathlib.Core.Logic.{◌⊎◌, inl, inr}
-use mathlib.Core.List.{List, [], ◌∷◌}
 use native.Mathlib.Nat.{eq-or-lt_of_le}
 use native.Mathlib.Omega.{arith}
 use lib.Dec.{T}
 use Rattle.types.specs.Codes.{pick}
-
--- what the default arm knows, as `c.match.rest` has it: T, and that b is the code of none of the values
-abbrev pub Rest : {A : Type 0} → (A → ℕ) → ℕ → Type 0 → List A → Type 0
-Rest code b T [] = T
-Rest code b T (x ∷ xs) = Rest code b (T × (b ≡ code x → ⊥)) xs
 
 -- the test passes at each of the n numbers from i on
 abbrev pub every : (ℕ → Bool) → ℕ → ℕ → Bool

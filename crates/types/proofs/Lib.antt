@@ -3,7 +3,6 @@ pub mod CodeCauses
 pub mod Codes
 pub mod ConstantsTell
 pub mod Modes
-pub mod Passed
 pub mod PollBack
 pub mod Priorities
 pub mod ReadBack

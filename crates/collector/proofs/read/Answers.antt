@@ -5,7 +5,7 @@ use native.Mathlib.Omega.{arith}
 use borrow.Author.Rules.{rules}
 use lib.ListN.{length, drop, length-drop}
 use lib.Seq.{take_all}
-use Rattle.types.proofs.Passed.{passed}
+use Rattle.std.proofs.lemmas.Result.{err_from_is_err_and}
 use Rattle.std.specs.Prelude.{Ok}
 use Rattle.control.specs.ASnd.{asnd_payload_at}
 use Rattle.collector.proofs.CallLaws.{reads_refused, reads_other, reads_status}
@@ -14,7 +14,8 @@ use Rattle.collector.proofs.read.Goals as goal
 pub returns-in_err-source : goal.returns-in_err-source
 returns-in_err-source c =
     let a = c.args in
-    rw (passed _ c.from_residual.ensures.1) (reads_refused a.services.now a.state.now a.buffer.now _ c.in_err-source.ensures)
+    let p = err_from_is_err_and c.from_residual.result c.from_residual.ensures.1 in
+    rw (p.1, p.2) (reads_refused a.services.now a.state.now a.buffer.now _ c.in_err-source.ensures)
 
 pub returns-in_default : goal.returns-in_default
 returns-in_default c =

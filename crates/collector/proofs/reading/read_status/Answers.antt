@@ -1,7 +1,7 @@
 -- `read_status` meets its contract.
 -- Assumes nothing.
 use mathlib.Core.Path.{sym}
-use Rattle.types.proofs.Passed.{passed}
+use Rattle.std.proofs.lemmas.Result.{err_from_is_err_and}
 use Rattle.collector.proofs.CallLaws.{status_unknown, status_refused, status_books}
 use Rattle.collector.proofs.IdLaws.{found_is, found_not}
 use Rattle.collector.proofs.reading.read_status.Goals as goal
@@ -14,7 +14,8 @@ pub returns-in_err-fields : goal.returns-in_err-fields
 returns-in_err-fields c =
     let a = c.args in
     let at = found_is _ _ c.in-Some.ensures in
-    rw (passed _ c.from_residual.ensures.1)
+    let p = err_from_is_err_and c.from_residual.result c.from_residual.ensures.1 in
+    rw (p.1, p.2)
     (status_refused a.state.now a.source a.payload.now at.1 c.in_err-fields.field-0.0 c.in_err-fields.ensures.answer)
 
 pub returns : goal.returns

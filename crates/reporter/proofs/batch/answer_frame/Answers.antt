@@ -4,7 +4,7 @@ use native.Mathlib.Omega.{arith}
 use mathlib.Core.Path.{refl}
 use mathlib.Core.List.{◌++◌}
 use lib.ListN.{length-append}
-use Rattle.types.proofs.Passed.{passed}
+use Rattle.std.proofs.lemmas.Result.{err_from_is_err_and}
 use Rattle.section.proofs.Behind.{behind_refused, behind_written}
 use Rattle.section.proofs.Sections.{refuses}
 use Rattle.reporter.specs.Layout.{head_of}
@@ -25,7 +25,8 @@ pub returns-in_err-n : goal.returns-in_err-n
 returns-in_err-n c =
     let a = c.args in
     let h = opened (head_of a.state.now) in
-    rw (frame_parts a.fields h, passed _ c.from_residual.ensures.1)
+    let p = err_from_is_err_and c.from_residual.result c.from_residual.ensures.1 in
+    rw (frame_parts a.fields h, p.1, p.2)
     (behind_refused (answer_front a.fields h.id) (filled_payload a.fields h) a.target.now 18 (front_length a.fields h.id) c.if-target-lt-PAYLOAD_AT.false _ _
     c.in_err-n.ensures _ refl)
 

@@ -1,7 +1,7 @@
 -- What an answer comes to where octets were dealt with before.
 -- Assumes nothing.
 use Prim.Native.Nat.{ℕ, zero, suc, ◌+◌, ◌≤◌}
-use mathlib.Core.Bool.{Bool, true, false}
+use mathlib.Core.Bool.{Bool, true, false, true≢false}
 use mathlib.Core.Path.{◌≡◌, refl, sym, ap, ◌∙◌}
 use native.Mathlib.Nat.{zero-add, add-zero}
 use native.Mathlib.Omega.{arith}
@@ -26,13 +26,13 @@ record Kept (a : Result Stop ListError) : Type 0 where
   never : later a ≡ Err BufferTooShort → ⊥
 
 other : {a : (Result Stop ListError)} → a ≡ Err BufferTooShort → crowded a ≡ false → ⊥
-other e f = let z : true ≡ false = sym (ap crowded e) ∙ f in let y : ◌≡◌ {A = ℕ} 0 1 = cc in omega arith
+other e f = true≢false (sym (ap crowded e) ∙ f)
 
 kept : (a : Result Stop ListError) → Kept a
 kept (Ok More) = record { twice = refl; on = refl; room = refl; more = λ e. refl; end = λ e. (cc); refused = λ h. refl; never = λ e. other e refl }
-kept (Ok Full) = record { twice = refl; on = refl; room = refl; more = λ e. (cc); end = λ e. (cc); refused = λ h. refl; never = λ e. let z : ◌≡◌ {A = ℕ} 0 1 = cc in omega arith }
+kept (Ok Full) = record { twice = refl; on = refl; room = refl; more = λ e. (cc); end = λ e. (cc); refused = λ h. refl; never = λ e. true≢false cc }
 kept (Ok End) = record { twice = refl; on = refl; room = refl; more = λ e. (cc); end = λ e. refl; refused = λ h. refl; never = λ e. other e refl }
-kept (Err BufferTooShort) = record { twice = refl; on = refl; room = refl; more = λ e. (cc); end = λ e. (cc); refused = λ h. let z : ⊥ = omega arith in absurd z; never = λ e. let z : ◌≡◌ {A = ℕ} 0 1 = cc in omega arith }
+kept (Err BufferTooShort) = record { twice = refl; on = refl; room = refl; more = λ e. (cc); end = λ e. (cc); refused = λ h. let z : ⊥ = omega arith in absurd z; never = λ e. true≢false cc }
 kept (Err NotAJournal) = record { twice = refl; on = refl; room = refl; more = λ e. (cc); end = λ e. (cc); refused = λ h. refl; never = λ e. other e refl }
 kept (Err UnknownVersion) = record { twice = refl; on = refl; room = refl; more = λ e. (cc); end = λ e. (cc); refused = λ h. refl; never = λ e. other e refl }
 kept (Err RecordInvalid) = record { twice = refl; on = refl; room = refl; more = λ e. (cc); end = λ e. (cc); refused = λ h. refl; never = λ e. other e refl }
