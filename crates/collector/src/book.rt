@@ -50,6 +50,7 @@ pub(crate) fn count_entries(payload: &[u8]) -> usize
 }
 
 // The entries of a payload that are to be booked join the book, in order.
+#[tactic(auto, unfolding(crate::specs::Layout::pushed_all, crate::specs::Rules::booked_entries, status_response::specs::Steps::entries_from, status_response::specs::Steps::status_entries))]
 pub(crate) fn push_entries(state: &mut Collector, block: Block, payload: &[u8])
     requires { count_in state.old block + length (said_in payload.now).entries ≤ book_length }
     ensures { state.new ≡ pushed_all state.old block (said_in payload.now).entries }

@@ -9,7 +9,7 @@ use native.Mathlib.Omega.{arith}
 use lib.ListN.{length, replicate}
 use lib.Dec.{ltb}
 use borrow.Author.Tests.{ltb-true}
-use Rattle.collector.proofs.BookableLaws.{picked}
+use Rattle.types.specs.Codes.{pick}
 use Rattle.std.specs.Prelude.{Ok, Some}
 use Rattle.types.specs.Header.{eth_bytes}
 use Rattle.types.specs.Messages.{message_of}
@@ -97,6 +97,10 @@ to_the_end : (es : List ErrorEntry) → Good es → until_terminator es ≡ es
 unfolding is_raisable
 to_the_end [] g = refl
 to_the_end (e ∷ es) g = no_terminator e.entry_type.mode _ _ _ g.0.0 ∙ ap (λ (l : List ErrorEntry). e ∷ l) (to_the_end es g.1)
+
+picked : {A : Type 0} (b : Bool) (x y : A) → b ≡ false → pick b x y ≡ y
+picked true x y e = absurd (true≢false cc)
+picked false x y e = refl
 
 -- all of them are booked
 all_bookable : (es : List ErrorEntry) → Good es → bookable es ≡ es
