@@ -1,4 +1,4 @@
--- The cases of a record's tests.
+-- A record: the cases of its tests, its length, and how it is put.
 -- Assumes nothing.
 use Prim.Native.Nat.{ℕ, suc, ◌-◌, ◌≤◌, ◌<◌}
 use mathlib.Core.Bool.{Bool, true, false, true≢false}

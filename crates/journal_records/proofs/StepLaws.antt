@@ -1,4 +1,4 @@
--- The cases of a step, each from the tests that lead to it, and what is printed.
+-- The cases of a step, each from the tests that lead to it.
 -- Assumes nothing.
 use Prim.Native.Nat.{ℕ, ◌≤◌, ◌<◌}
 use mathlib.Core.Bool.{Bool, true, false}
@@ -65,5 +65,3 @@ module _ (p : Phase) (s : List ℕ) (last : Bool) (room : ℕ) where
       pub step_by : (q : Phase) → 55 ≤ room → p ≡ q → step_of p s last room ≡ phase_step q s
       unfolding step_of
       step_by q h e = rw (enough, some, le-leb 55 room h, e)
-
--- ---- what is printed

@@ -1,4 +1,4 @@
--- What a caller of a collector is told, from what the lower calls promise.
+-- What a caller of a collector's request is told, from what the lower calls promise.
 -- Assumes nothing.
 use Prim.Native.Nat.{ℕ}
 use mathlib.Core.Bool.{Bool, true, false}
@@ -22,8 +22,6 @@ use Rattle.powerlink.specs.Given.{node}
 use Rattle.powerlink.proofs.Told.{unnamed_told}
 use Rattle.types.specs.declared.hal.PowerlinkError.{PowerlinkError}
 use Rattle.collector.specs.declared.RequestError.{RequestError}
-
--- ---- a request
 
 -- a writer's answer has the same row as a request's
 same_row : (a : Result ℕ PowerlinkError) → write_cause a ≡ request_cause (as_request a)

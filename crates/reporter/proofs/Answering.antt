@@ -1,4 +1,4 @@
--- The octets of an answer: how many there are, and which entries they hold.
+-- How many octets an answer has.
 -- Assumes nothing.
 use Prim.Native.Nat.{ℕ, ◌+◌, ◌*◌, ◌-◌}
 use mathlib.Core.Path.{◌≡◌, refl}

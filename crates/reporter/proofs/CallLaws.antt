@@ -1,4 +1,4 @@
--- What each call promises, from its answer and the octets that it leaves; and its answer, by the tests that lead to it.
+-- What a new head, Raise and a reading promise, from the answer and the octets that it leaves; and the answer, by the tests that lead to it.
 -- Assumes nothing.
 use Prim.Native.Nat.{ℕ}
 use mathlib.Core.Path.{◌≡◌, refl, sym, ap, ◌∙◌}

@@ -1,4 +1,4 @@
--- `reading::read_soa` meets its contract: each verdict is told as its answer.
+-- `reading::read_soa` meets its contract: what is read is told as its values.
 -- Assumes nothing.
 use Rattle.frame.specs.declared.PowerlinkFrame.TheVariants.{SoA}
 use Rattle.powerlink.proofs.Readers.{section_frame}
