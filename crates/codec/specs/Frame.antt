@@ -20,6 +20,7 @@ use Rattle.codec.specs.SoA.{read_soa}
 use Rattle.codec.specs.SoC.{read_soc}
 use Rattle.codec.specs.declared.DeserializedFrame.{DeserializedFrame}
 use Rattle.codec.specs.declared.PayloadPlace.{PayloadPlace}
+use Rattle.codec.specs.declared.RefusedFrame.{RefusedFrame}
 use Rattle.frame.specs.declared.PowerlinkFrame.{PowerlinkFrame}
 use Rattle.frame.specs.declared.PowerlinkFrame.TheVariants.{Soc, PReq, PRes, SoA, ASnd}
 
@@ -72,18 +73,19 @@ place_in_frame (PRes f) s = place poll_payload_at f.payload_size
 place_in_frame (SoA f) s = place 0 0
 place_in_frame (ASnd f) s = place asnd_payload_at (asnd_payload_length s)
 
--- a frame that is read, with its Ethernet header and its payload's place
-abbrev pub deserialized : List ℕ → Result PowerlinkFrame PowerlinkError → Result DeserializedFrame PowerlinkError
+-- a frame that is read, with its Ethernet header and its payload's place; and beside a refusal the header that the octets give, those past
+-- the end counting as 0, and no payload
+abbrev pub deserialized : List ℕ → Result PowerlinkFrame PowerlinkError → Result DeserializedFrame RefusedFrame
 deserialized f (Ok x) = Ok (record { eth_header = eth_header_of f; frame = x; payload_place = place_in_frame x (drop eth_length f) })
-deserialized f (Err e) = Err e
+deserialized f (Err e) = Err (record { eth_header = eth_header_of f; error = e; payload_place = place 0 0 })
 
-unfoldable pub deserialize_frame : List ℕ → List ℕ → Result DeserializedFrame PowerlinkError
+unfoldable pub deserialize_frame : List ℕ → List ℕ → Result DeserializedFrame RefusedFrame
 deserialize_frame services f = deserialized f (read_frame services f)
 
--- the frame of what was read
-abbrev pub frame_in : Result DeserializedFrame PowerlinkError → Result PowerlinkFrame PowerlinkError
+-- the frame of what was read, or why it is refused
+abbrev pub frame_in : Result DeserializedFrame RefusedFrame → Result PowerlinkFrame PowerlinkError
 frame_in (Ok d) = Ok d.frame
-frame_in (Err e) = Err e
+frame_in (Err x) = Err x.error
 
 -- the octets at a place; what would lie past the end is left out
 abbrev pub payload_of : PayloadPlace → List ℕ → List ℕ
@@ -101,6 +103,6 @@ pub record ReadsFrame (services f : List ℕ) (r : Result PowerlinkFrame Powerli
   pub refused : (e : PowerlinkError) → read_frame services f ≡ Err e → frame_cause r ≡ cause_of e
 
 -- the same, with the Ethernet header and the payload's place
-pub record Reads (services f : List ℕ) (r : Result DeserializedFrame PowerlinkError) : Type 0 where
+pub record Reads (services f : List ℕ) (r : Result DeserializedFrame RefusedFrame) : Type 0 where
   pub read : r ≡ deserialize_frame services f
   pub frame : ReadsFrame services f (frame_in r)

@@ -11,15 +11,17 @@ use Rattle.types.specs.declared.hal.PowerlinkError.TheVariants.{BufferTooShort}
 use Rattle.types.specs.declared.message_type.MessageType.{MessageType}
 use Rattle.types.specs.declared.hal.PowerlinkError.{PowerlinkError}
 use Rattle.codec.specs.declared.headers.PlHeader.{PlHeader}
+use Rattle.codec.specs.declared.headers.RefusedEthHeader.{RefusedEthHeader}
 
--- all octets are needed
-abbrev pub deserialize_eth_header : List ℕ → Result EthernetHeader PowerlinkError
-deserialize_eth_header f = need (leb eth_length (length f)) (Err BufferTooShort) (Ok (eth_header_of f))
+-- all octets are needed; beside a refusal stands the header that the octets give, those past the end counting as 0
+abbrev pub deserialize_eth_header : List ℕ → Result EthernetHeader RefusedEthHeader
+deserialize_eth_header f =
+    need (leb eth_length (length f)) (Err (record { eth_header = eth_header_of f; error = BufferTooShort })) (Ok (eth_header_of f))
 
 -- 01's number and values for each case; the fields of an Ethernet header are its values
-abbrev pub eth_header_cause : Result EthernetHeader PowerlinkError → Cause
+abbrev pub eth_header_cause : Result EthernetHeader RefusedEthHeader → Cause
 eth_header_cause (Ok h) = row 0 []
-eth_header_cause (Err e) = cause_of e
+eth_header_cause (Err x) = cause_of x.error
 
 abbrev pub pl_header_cause : Result PlHeader PowerlinkError → Cause
 pl_header_cause (Ok h) = row 0 (message_code h.message_type ∷ h.destination.0 ∷ h.source.0 ∷ [])
@@ -40,7 +42,7 @@ deserialize_pl_header s = need (leb 3 (length s)) (Err BufferTooShort) (pl_by_me
 
 -- ---- what the two readings promise, with 01's number and values
 
-pub record ReadsEthHeader (f : List ℕ) (r : Result EthernetHeader PowerlinkError) : Type 0 where
+pub record ReadsEthHeader (f : List ℕ) (r : Result EthernetHeader RefusedEthHeader) : Type 0 where
   pub read : r ≡ deserialize_eth_header f
   pub cause : eth_header_cause r ≡ need (leb eth_length (length f)) (row too_short []) (row 0 [])
 

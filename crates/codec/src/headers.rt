@@ -13,6 +13,13 @@ use types::message_type::MessageType;
 // The message type is the low seven bits of octet 0, which is the octet modulo this.
 pub(crate) const MESSAGE_TYPES: u8 = 0x80;
 
+// Why no Ethernet header is read, and the header that the octets give all the same, those past the end counting as 0.
+#[derive(Clone, Copy, Debug, PartialEq, Eq)]
+pub struct RefusedEthHeader {
+    pub eth_header: EthernetHeader,
+    pub error: PowerlinkError,
+}
+
 // The octets that every section begins with.
 #[derive(Clone, Copy, Debug, PartialEq, Eq)]
 pub struct PlHeader {
@@ -48,13 +55,17 @@ pub fn eth_header_at(buffer: &[u8]) -> EthernetHeader
 }
 
 // Reads the Ethernet header in front of a frame, whatever its EtherType.
-pub fn deserialize_eth_header(buffer: &[u8]) -> Result<EthernetHeader, PowerlinkError>
+pub fn deserialize_eth_header(buffer: &[u8]) -> Result<EthernetHeader, RefusedEthHeader>
     ensures { ReadsEthHeader buffer.now result }
 {
+    let eth_header = eth_header_at(buffer);
     if buffer.len() < ETH_LEN {
-        return Err(PowerlinkError::BufferTooShort);
+        return Err(RefusedEthHeader {
+            eth_header,
+            error: PowerlinkError::BufferTooShort,
+        });
     }
-    Ok(eth_header_at(buffer))
+    Ok(eth_header)
 }
 
 // Reads what every section begins with.

@@ -38,6 +38,14 @@ pub struct DeserializedFrame {
     pub payload_place: PayloadPlace,
 }
 
+// Why a frame is refused, and what its octets give all the same: the header, those past the end counting as 0, and the place of no payload.
+#[derive(Clone, Copy, Debug, PartialEq, Eq)]
+pub struct RefusedFrame {
+    pub eth_header: EthernetHeader,
+    pub error: PowerlinkError,
+    pub payload_place: PayloadPlace,
+}
+
 impl DeserializedFrame {
     // The Ethernet header in front of what was read.
     pub fn ethernet_header(self) -> EthernetHeader
@@ -53,19 +61,26 @@ impl DeserializedFrame {
 pub fn deserialize_frame(
     services: &Services,
     buffer: &[u8],
-) -> Result<DeserializedFrame, PowerlinkError>
+) -> Result<DeserializedFrame, RefusedFrame>
     ensures { Reads services.now buffer.now result }
 {
-    let frame = read_frame(services, buffer)?;
-    Ok(DeserializedFrame {
-        eth_header: eth_header_at(buffer),
-        frame,
-        payload_place: payload_place(frame, tail(buffer, ETH_LEN)),
-    })
+    let eth_header = eth_header_at(buffer);
+    match read_frame(services, buffer) {
+        Ok(frame) => Ok(DeserializedFrame {
+            eth_header,
+            frame,
+            payload_place: payload_place(frame, tail(buffer, ETH_LEN)),
+        }),
+        Err(error) => Err(RefusedFrame {
+            eth_header,
+            error,
+            payload_place: PayloadPlace { start: 0, len: 0 },
+        }),
+    }
 }
 
-// The payload of a frame that was read from `buffer`, as that part of it: empty for SoC and SoA. A frame that is refused has no
-// place, and a place that does not lie in these bytes is cut at their end.
+// The payload of a frame that was read from `buffer`, as that part of it: empty for SoC, SoA and a refusal. A place that does not
+// lie in these bytes is cut at their end.
 pub fn payload(place: PayloadPlace, buffer: &[u8]) -> &[u8]
     ensures { Part buffer.entry place.start (payload_of place buffer.now) result }
 {

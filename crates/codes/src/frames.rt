@@ -1,7 +1,6 @@
 // What no C function does and no other program runs: a frame asked for as each kind, its header and its payload as read, and its
 // section written again.
 use crate::print::{FILL, Octets, written};
-use codec::headers::eth_header_at;
 use codec::{deserialize_frame, payload};
 use frame::PowerlinkFrame;
 use section::MIN_SECTION;
@@ -68,8 +67,9 @@ fn frame(rt: &impl Print, bytes: &[u8]) -> io::Result<()> {
             println!(rt; "{}", Octets(data))?;
             again(rt, read.frame, data)
         }
-        Err(e) => {
-            header(rt, eth_header_at(bytes))?;
+        Err(refused) => {
+            let e = refused.error;
+            header(rt, refused.eth_header)?;
             println!(rt; " {} {}", e.number(), e.byte().unwrap_or(0))
         }
     }

@@ -13,7 +13,7 @@ use Rattle.types.specs.Header.{eth_header_of, eth_bytes}
 use Rattle.types.specs.declared.basic.EthernetHeader.{EthernetHeader}
 use Rattle.types.specs.declared.hal.PowerlinkError.{PowerlinkError}
 use Rattle.frame.specs.declared.PowerlinkFrame.{PowerlinkFrame}
-use Rattle.codec.specs.Frame.{kind_of, read_frame, read_section, place_in_frame, deserialize_frame}
+use Rattle.codec.specs.Frame.{kind_of, read_frame, read_section, place, place_in_frame, deserialize_frame}
 use Rattle.frame_laws.specs.ReadBack.{IsHeader}
 use Rattle.octets.proofs.Elements.{elements, elements_are}
 
@@ -43,6 +43,7 @@ module _ (services : List ℕ) (h : EthernetHeader) (s : List ℕ) (is : IsHeade
     unfolding deserialize_frame eth_bytes
     frame_back f e = rw (section_back long, e, header_back h s is)
 
-    pub refused_back : (e : PowerlinkError) → read_section services s ≡ Err e → deserialize_frame services (eth_bytes h ++ s) ≡ Err e
-    unfolding deserialize_frame
-    refused_back d e = rw (section_back long, e)
+    pub refused_back : (e : PowerlinkError) → read_section services s ≡ Err e
+        → deserialize_frame services (eth_bytes h ++ s) ≡ Err (record { eth_header = h; error = e; payload_place = place 0 0 })
+    unfolding deserialize_frame eth_bytes
+    refused_back d e = rw (section_back long, e, header_back h s is)

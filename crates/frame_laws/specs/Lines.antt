@@ -1,19 +1,19 @@
 -- The lines of 01 that are marked P, together as one table over the definitions: what the definitions give is what each line says.
 -- Assumes nothing.
-use Rattle.std.specs.Prelude.{ℕ, ◌≡◌, List, [], map, length, Result, Ok, Err}
-use Rattle.types.specs.declared.hal.PowerlinkError.{PowerlinkError}
+use Rattle.std.specs.Prelude.{ℕ, ◌≡◌, List, map, length, Result, Ok, Err}
 use Rattle.codec.specs.Frame.{deserialize_frame, frame_in, frame_cause, payload_of}
 use Rattle.codec.specs.declared.DeserializedFrame.{DeserializedFrame}
+use Rattle.codec.specs.declared.RefusedFrame.{RefusedFrame}
 use Rattle.status_response.specs.Fields.{read_fields, status_cause}
 use Rattle.status_response.specs.Steps.{status_entries}
 use Rattle.frame_laws.specs.FlagLines.{FlagLineHolds}
 use Rattle.frame_laws.specs.FrameLines.{FrameLine, frame_lines}
 use Rattle.frame_laws.specs.StatusLines.{StatusLine, status_lines}
 
--- the payload of what was read from these bytes: none of a refusal
-abbrev pub payload_read : List ℕ → Result DeserializedFrame PowerlinkError → List ℕ
+-- the payload of what was read from these bytes, or refused
+abbrev pub payload_read : List ℕ → Result DeserializedFrame RefusedFrame → List ℕ
 payload_read bytes (Ok d) = payload_of d.payload_place bytes
-payload_read bytes (Err e) = []
+payload_read bytes (Err x) = payload_of x.payload_place bytes
 
 -- what reading the line's bytes under a table gives, in the form of a line
 abbrev pub frame_outcome : List ℕ → FrameLine → FrameLine

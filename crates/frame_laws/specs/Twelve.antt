@@ -16,12 +16,13 @@ use Rattle.frame.specs.Write.{under_table}
 use Rattle.frame.specs.declared.PowerlinkFrame.{PowerlinkFrame}
 use Rattle.frame.specs.declared.PowerlinkFrame.TheVariants.{Soc, PReq, PRes, SoA, ASnd}
 use Rattle.codec.specs.ASnd.{asnd_of}
-use Rattle.codec.specs.Frame.{kind_of, place_in_frame, deserialize_frame}
+use Rattle.codec.specs.Frame.{kind_of, place, place_in_frame, deserialize_frame}
 use Rattle.codec.specs.PReq.{read_preq}
 use Rattle.codec.specs.PRes.{read_pres}
 use Rattle.codec.specs.SoA.{read_soa}
 use Rattle.codec.specs.SoC.{read_soc}
 use Rattle.codec.specs.declared.DeserializedFrame.{DeserializedFrame}
+use Rattle.codec.specs.declared.RefusedFrame.{RefusedFrame}
 
 -- "ASnd: 4 bytes needed. Byte 3 service: 1 to 5, 0B, 0D to 12 h"
 abbrev pub asnd_in01 : List ℕ → Result PowerlinkFrame PowerlinkError
@@ -44,12 +45,12 @@ section_in01 (Ok k) s = kind_in01 k s
 abbrev pub frame_in01 : List ℕ → Result PowerlinkFrame PowerlinkError
 frame_in01 f = section_in01 (kind_of f) (drop eth_length f)
 
--- the whole reading of the octets f: of a frame, the header that they give, the frame, and the payload's place
-abbrev pub whole_in01 : List ℕ → Result PowerlinkFrame PowerlinkError → Result DeserializedFrame PowerlinkError
+-- the whole reading of the octets f: the header that they give, the frame or why it is refused, and the payload's place
+abbrev pub whole_in01 : List ℕ → Result PowerlinkFrame PowerlinkError → Result DeserializedFrame RefusedFrame
 whole_in01 f (Ok x) = Ok (record { eth_header = eth_header_of f; frame = x; payload_place = place_in_frame x (drop eth_length f) })
-whole_in01 f (Err e) = Err e
+whole_in01 f (Err e) = Err (record { eth_header = eth_header_of f; error = e; payload_place = place 0 0 })
 
-abbrev pub deserialized_in01 : List ℕ → Result DeserializedFrame PowerlinkError
+abbrev pub deserialized_in01 : List ℕ → Result DeserializedFrame RefusedFrame
 deserialized_in01 f = whole_in01 f (frame_in01 f)
 
 -- the octets of a frame: those of an ASnd of another service are refused with 6, after 1

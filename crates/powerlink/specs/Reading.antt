@@ -10,12 +10,14 @@ use Rattle.error_entry.specs.Entry.{read_entry, entry_cause}
 use Rattle.status_response.specs.BitField.{field_of, field_bytes, read_field, field_cause}
 use Rattle.status_response.specs.Fields.{read_fields, status_cause}
 use Rattle.status_response.specs.Steps.{step_at}
+use Rattle.status_response.specs.declared.bit_field.RefusedErrorField.{RefusedErrorField}
 use Rattle.status_response.specs.declared.bit_field.StaticErrorBitField.{StaticErrorBitField}
 use Rattle.c_values.specs.Answers.{octet_told}
 use Rattle.c_values.specs.Values.{frame_numbers, status_numbers, entry_numbers}
 use Rattle.frame.specs.declared.PowerlinkFrame.{PowerlinkFrame}
 use Rattle.types.specs.declared.hal.PowerlinkError.{PowerlinkError}
 use Rattle.codec.specs.declared.headers.PlHeader.{PlHeader}
+use Rattle.codec.specs.declared.headers.RefusedEthHeader.{RefusedEthHeader}
 use Rattle.error_entry.specs.declared.ErrorEntry.{ErrorEntry}
 use Rattle.status_response.specs.declared.fields.StatusFields.{StatusFields}
 
@@ -27,9 +29,9 @@ frame_after (Ok f) s before = frame_numbers f (place_in_frame f s)
 -- ---- headers
 
 -- a part of the header
-abbrev pub eth_after : {A : Type 0} → Result EthernetHeader PowerlinkError → (EthernetHeader → A) → A → A
+abbrev pub eth_after : {A : Type 0} → Result EthernetHeader RefusedEthHeader → (EthernetHeader → A) → A → A
 eth_after (Ok h) part before = part h
-eth_after (Err e) part before = before
+eth_after (Err x) part before = before
 
 abbrev pub pl_after : Result PlHeader PowerlinkError → List ℕ → List ℕ
 pl_after (Ok h) before = message_code h.message_type ∷ h.destination.0 ∷ h.source.0 ∷ []
@@ -46,9 +48,9 @@ abbrev pub status_field_after : Result StatusFields PowerlinkError → StaticErr
 status_field_after (Ok f) field before = field_bytes field
 status_field_after (Err e) field before = before
 
-abbrev pub field_after : Result StaticErrorBitField PowerlinkError → List ℕ → List ℕ
+abbrev pub field_after : Result StaticErrorBitField RefusedErrorField → List ℕ → List ℕ
 field_after (Ok f) before = field_bytes f
-field_after (Err e) before = before
+field_after (Err x) before = before
 
 abbrev pub entry_after : Result ErrorEntry PowerlinkError → List ℕ → List ℕ
 entry_after (Ok e) before = entry_numbers e

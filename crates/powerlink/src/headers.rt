@@ -22,7 +22,7 @@ pub fn powerlink_deserialize_eth_header(
     ensures { EthRead buffer.now result destination.old destination.new source.old source.new ether_type.old ether_type.new }
 {
     match deserialize_eth_header(buffer) {
-        Err(e) => e.number(),
+        Err(refused) => refused.error.number(),
         Ok(header) => {
             let d = header.destination_mac.0;
             let s = header.source_mac.0;

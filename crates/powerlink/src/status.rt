@@ -28,7 +28,7 @@ pub fn powerlink_deserialize_status(
     ensures { StatusRead payload.now result values.old values.new field.old field.new octet.old octet.new }
 {
     match deserialize(payload) {
-        Err(e) => refusal(e, octet),
+        Err(refused) => refusal(refused.error, octet),
         Ok(status) => {
             let mut numbers = status_values(status.fields);
             // The state's number is its octet: the compiler then makes no table of states.
@@ -45,7 +45,7 @@ pub fn powerlink_deserialize_error_field(buffer: &[u8], field: &mut [u8; 8]) -> 
     ensures { FieldRead buffer.now result field.old field.new }
 {
     match StaticErrorBitField::deserialize(buffer) {
-        Err(error) => error.number(),
+        Err(refused) => refused.error.number(),
         Ok(bits) => {
             *field = bits.to_bytes();
             0

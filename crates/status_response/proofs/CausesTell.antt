@@ -14,7 +14,7 @@ causes_tell =
       statuses_apart = LeftInverse-Injective error_of cause_of (λ e. error_told_lem e 0);
       status_or_not = λ f e. refused_not_0 e _;
       error_field = λ f. refl;
-      no_error_field = λ e. refl;
-      error_fields_apart = LeftInverse-Injective error_of cause_of (λ e. error_told_lem e 0);
-      error_field_or_not = λ f e. refused_not_0 e _;
+      no_error_field = λ x. refl;
+      error_fields_apart = λ x y. LeftInverse-Injective error_of cause_of (λ e. error_told_lem e 0) x.error y.error;
+      error_field_or_not = λ f x. refused_not_0 x.error _;
     }

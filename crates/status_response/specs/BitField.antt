@@ -6,6 +6,7 @@ use Rattle.types.specs.Causes.{Cause, row, cause_of}
 use Rattle.types.specs.Codes.{need}
 use Rattle.types.specs.declared.hal.PowerlinkError.TheVariants.{BufferTooShort}
 use Rattle.types.specs.declared.hal.PowerlinkError.{PowerlinkError}
+use Rattle.status_response.specs.declared.bit_field.RefusedErrorField.{RefusedErrorField}
 use Rattle.status_response.specs.declared.bit_field.StaticErrorBitField.{StaticErrorBitField}
 
 -- octets past the end count as 0
@@ -22,19 +23,24 @@ field_bytes f =
     ∷ get_or f.specific_errors 3 0 ∷ get_or f.specific_errors 4 0 ∷ get_or f.specific_errors 5 0
     ∷ get_or f.specific_errors 6 0 ∷ []
 
--- 8 octets are needed
-abbrev pub read_field : List ℕ → Result StaticErrorBitField PowerlinkError
-read_field s = need (leb 8 (length s)) (Err BufferTooShort) (Ok (field_of s))
+-- 8 octets are needed; beside a refusal stands the field that the octets give
+abbrev pub read_field : List ℕ → Result StaticErrorBitField RefusedErrorField
+read_field s = need (leb 8 (length s)) (Err (record { field = field_of s; error = BufferTooShort })) (Ok (field_of s))
 
 -- 01's number and values for each case: 0 for what is read
 abbrev pub read_cause : {A : Type 0} → Result A PowerlinkError → Cause
 read_cause (Ok x) = row 0 []
 read_cause (Err e) = cause_of e
 
-abbrev pub field_cause : Result StaticErrorBitField PowerlinkError → Cause
-field_cause r = read_cause r
+-- the same where an error field stands beside a refusal
+abbrev pub beside_cause : {A : Type 0} → Result A RefusedErrorField → Cause
+beside_cause (Ok x) = row 0 []
+beside_cause (Err x) = cause_of x.error
+
+abbrev pub field_cause : Result StaticErrorBitField RefusedErrorField → Cause
+field_cause r = beside_cause r
 
 -- r is what reading the error field from the octets s answers, with 01's number
-pub record ReadsField (s : List ℕ) (r : Result StaticErrorBitField PowerlinkError) : Type 0 where
+pub record ReadsField (s : List ℕ) (r : Result StaticErrorBitField RefusedErrorField) : Type 0 where
   pub answer : r ≡ read_field s
   pub cause : field_cause r ≡ need (leb 8 (length s)) (row too_short []) (row 0 [])

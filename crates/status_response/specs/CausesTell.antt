@@ -5,6 +5,7 @@ use Rattle.types.specs.Causes.{row, cause_of}
 use Rattle.types.specs.declared.hal.PowerlinkError.{PowerlinkError}
 use Rattle.status_response.specs.BitField.{field_cause}
 use Rattle.status_response.specs.Fields.{status_cause}
+use Rattle.status_response.specs.declared.bit_field.RefusedErrorField.{RefusedErrorField}
 use Rattle.status_response.specs.declared.bit_field.StaticErrorBitField.{StaticErrorBitField}
 use Rattle.status_response.specs.declared.fields.StatusFields.{StatusFields}
 
@@ -16,6 +17,6 @@ pub record CausesTell : Type 0 where
   pub status_or_not : (f : StatusFields) (e : PowerlinkError) → status_cause (Ok f) ≡ status_cause (Err e) → ⊥
   -- and so is the error field
   pub error_field : (f : StaticErrorBitField) → field_cause (Ok f) ≡ row 0 []
-  pub no_error_field : (e : PowerlinkError) → field_cause (Err e) ≡ cause_of e
-  pub error_fields_apart : (d e : PowerlinkError) → field_cause (Err d) ≡ field_cause (Err e) → d ≡ e
-  pub error_field_or_not : (f : StaticErrorBitField) (e : PowerlinkError) → field_cause (Ok f) ≡ field_cause (Err e) → ⊥
+  pub no_error_field : (x : RefusedErrorField) → field_cause (Err x) ≡ cause_of x.error
+  pub error_fields_apart : (x y : RefusedErrorField) → field_cause (Err x) ≡ field_cause (Err y) → x.error ≡ y.error
+  pub error_field_or_not : (f : StaticErrorBitField) (x : RefusedErrorField) → field_cause (Ok f) ≡ field_cause (Err x) → ⊥

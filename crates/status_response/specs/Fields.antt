@@ -10,7 +10,8 @@ use Rattle.types.specs.States.{state_code, state_of}
 use Rattle.types.specs.declared.hal.PowerlinkError.TheVariants.{BufferTooShort}
 use Rattle.types.specs.declared.states.NmtState.{NmtState}
 use Rattle.section.specs.Write.{at_bit}
-use Rattle.status_response.specs.BitField.{field_of, field_bytes, read_cause}
+use Rattle.status_response.specs.BitField.{field_of, field_bytes, read_cause, beside_cause}
+use Rattle.status_response.specs.declared.bit_field.RefusedErrorField.{RefusedErrorField}
 use Rattle.status_response.specs.declared.bit_field.StaticErrorBitField.{StaticErrorBitField}
 use Rattle.status_response.specs.declared.fields.DeserializedStatus.{DeserializedStatus}
 use Rattle.status_response.specs.declared.fields.StatusFields.{StatusFields}
@@ -63,19 +64,19 @@ pub record ReadsFields (s : List ℕ) (r : Result StatusFields PowerlinkError) :
   pub answer : r ≡ read_fields s
   pub cause : status_cause r ≡ fields_row s
 
--- the fields with an error field beside them
-abbrev pub with_field : StaticErrorBitField → Result StatusFields PowerlinkError → Result DeserializedStatus PowerlinkError
+-- the fields, or why they are refused, with an error field beside them
+abbrev pub with_field : StaticErrorBitField → Result StatusFields PowerlinkError → Result DeserializedStatus RefusedErrorField
 with_field field (Ok f) = Ok (record { fields = f; static_error_bit_field = field })
-with_field field (Err e) = Err e
+with_field field (Err e) = Err (record { field = field; error = e })
 
--- octets 6 to 13 are the error field
-abbrev pub read_status : List ℕ → Result DeserializedStatus PowerlinkError
+-- octets 6 to 13 are the error field, those past the end counting as 0
+abbrev pub read_status : List ℕ → Result DeserializedStatus RefusedErrorField
 read_status s = with_field (field_of (drop 6 s)) (read_fields s)
 
 -- as `ReadsFields`, with the error field
-pub record ReadsStatusResponse (s : List ℕ) (r : Result DeserializedStatus PowerlinkError) : Type 0 where
+pub record ReadsStatusResponse (s : List ℕ) (r : Result DeserializedStatus RefusedErrorField) : Type 0 where
   pub answer : r ≡ read_status s
-  pub cause : read_cause r ≡ fields_row s
+  pub cause : beside_cause r ≡ fields_row s
 
 -- octets 3 to 5 are reserved
 unfoldable pub head_bytes : StatusFields → StaticErrorBitField → List ℕ

@@ -14,6 +14,13 @@ pub struct StaticErrorBitField {
     pub specific_errors: [u8; 7],
 }
 
+// Why octets are refused, and the error field that they give all the same, those past the end counting as 0.
+#[derive(Clone, Copy, Debug, PartialEq, Eq)]
+pub struct RefusedErrorField {
+    pub field: StaticErrorBitField,
+    pub error: PowerlinkError,
+}
+
 // The octets of the field.
 pub const FIELD_LEN: usize = 8;
 
@@ -51,13 +58,17 @@ impl StaticErrorBitField {
     }
 
     // Reads the first 8 octets.
-    pub fn deserialize(buffer: &[u8]) -> Result<StaticErrorBitField, PowerlinkError>
+    pub fn deserialize(buffer: &[u8]) -> Result<StaticErrorBitField, RefusedErrorField>
         ensures { ReadsField buffer.now result }
     {
+        let field = field_at(buffer);
         if buffer.len() < FIELD_LEN {
-            return Err(PowerlinkError::BufferTooShort);
+            return Err(RefusedErrorField {
+                field,
+                error: PowerlinkError::BufferTooShort,
+            });
         }
-        Ok(field_in(buffer))
+        Ok(field)
     }
 }
 

@@ -2,7 +2,7 @@
 ghost use Rattle.std.specs.Prelude.{◌≡◌, ◌≤◌, length};
 ghost use Rattle.status_response.specs.Fields.{front_length, fields_of, head_bytes, ReadsFields, ReadsStatusResponse};
 
-use crate::bit_field::{StaticErrorBitField, field_at};
+use crate::bit_field::{RefusedErrorField, StaticErrorBitField, field_at};
 use octets::slices::tail;
 use section::flag;
 use types::hal::PowerlinkError;
@@ -43,14 +43,17 @@ pub struct DeserializedStatus {
 }
 
 // Reads what stands in front of the entries.
-pub fn deserialize(payload: &[u8]) -> Result<DeserializedStatus, PowerlinkError>
+pub fn deserialize(payload: &[u8]) -> Result<DeserializedStatus, RefusedErrorField>
     ensures { ReadsStatusResponse payload.now result }
 {
-    let fields = read_fields(payload)?;
-    Ok(DeserializedStatus {
-        fields,
-        static_error_bit_field: field_at(tail(payload, FIELD_AT)),
-    })
+    let field = field_at(tail(payload, FIELD_AT));
+    match read_fields(payload) {
+        Ok(fields) => Ok(DeserializedStatus {
+            fields,
+            static_error_bit_field: field,
+        }),
+        Err(error) => Err(RefusedErrorField { field, error }),
+    }
 }
 
 // The fields alone: for a caller that does not want the error field.
