@@ -16,8 +16,9 @@ use judge::Difference;
 use octets::little_endian::get_le;
 use octets::slices::{byte_at, front, tail};
 use record::{CALL, record_len, target_len};
+use std::alloc::Allocator;
 use std::fmt;
-use std::io::Read;
+use std::io::{ErrorKind, Input, Read};
 use writers::SPACE;
 
 // The longest file.
@@ -68,6 +69,7 @@ impl fmt::Display for Totals {
 // And of one that is.
 #[derive(Clone, Copy, Debug, PartialEq, Eq)]
 enum Refusal {
+    NoMemory,
     NoSample,
     AtCase(u64),
 }
@@ -75,6 +77,7 @@ enum Refusal {
 impl fmt::Display for Refusal {
     fn fmt<W: fmt::Write>(&self, f: &mut fmt::Formatter<W>) -> fmt::Result {
         match *self {
+            Refusal::NoMemory => write!(f, "refused: no memory for it"),
             Refusal::NoSample => write!(f, "refused: no PLC2, or too long"),
             Refusal::AtCase(case) => write!(f, "refused at case {case}"),
         }
@@ -115,12 +118,19 @@ fn run(rt: &impl Print, text: &[u8]) -> Result<Totals, Refusal> {
     all(rt, tail(text, HEAD), u64::from(cases))
 }
 
+// The octets of the file, as many as the longest has. Where a read fails, the file ends, but not where there is no room for what it has.
+fn load(rt: &impl Input, text: &mut Vec<u8, impl Allocator>) -> Result<(), Refusal> {
+    match rt.reader().take(FILE as u64).read_to_end(text) {
+        Err(e) if e.kind() == ErrorKind::OutOfMemory => Err(Refusal::NoMemory),
+        _ => Ok(()),
+    }
+}
+
 fn main(rt: HostRuntime) {
     let mut text = Vec::new(rt.alloc());
-    // Where a read fails, the file ends.
-    let _ = rt.reader().take(FILE as u64).read_to_end(&mut text);
+    let totals = load(&rt, &mut text).and_then(|()| run(&rt, &text));
     // What cannot be written is lost.
-    let _ = match run(&rt, &text) {
+    let _ = match totals {
         Ok(totals) => println!(rt; "{totals}"),
         Err(refusal) => println!(rt; "{refusal}"),
     };
