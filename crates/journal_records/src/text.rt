@@ -1,5 +1,6 @@
 // Numbers as text, and the line of a record.
-ghost use Rattle.std.specs.Prelude.{◌≡◌, [], ◌∷◌, ◌++◌, ◌+◌, ◌≤◌, ◌<◌, length};
+ghost use Rattle.std.specs.Prelude.{◌≡◌, [], ◌∷◌, ◌++◌, ◌+◌, ◌≤◌, ◌<◌, length, set};
+ghost use Rattle.std.proofs.lemmas.List.Edits.{sets};
 ghost use Rattle.journal_records.specs.Text.{Adds, Puts, decimal, hex, place_most};
 ghost use Rattle.journal_records.specs.Text.{digit as Text·digit};
 ghost use Rattle.journal_records.specs.Listing.{fields_line};
@@ -33,44 +34,6 @@ impl<'a> Line<'a> {
         self.len += text.len();
     }
 
-    fn octet(&mut self, b: u8)
-        requires { self.old.len ≤ place_most }
-        ensures { Adds (b ∷ []) self.old self.new }
-    {
-        if self.len < self.out.len() {
-            self.out[self.len] = b;
-        }
-        self.len += 1;
-    }
-
-    // The digits in front of the last are those of a tenth.
-    #[tactic(auto, unfolding(crate::specs::Text::decimal, crate::specs::Text::decimal_in))]
-    fn decimal(&mut self, v: u32)
-        requires { self.old.len + 10 ≤ place_most }
-        ensures { Adds (decimal v) self.old self.new }
-    {
-        if v < 10 {
-            self.octet(b'0' + v as u8);
-            return;
-        }
-        self.decimal(v / 10);
-        self.octet(b'0' + (v % 10) as u8);
-    }
-
-    // As many hexadecimal digits: those in front of the last are those of a sixteenth. By recursion, as `hex` is defined: a `for` would need
-    // an invariant of the digits so far.
-    #[tactic(auto, using(crate::proofs::TextLaws::hex_length))]
-    fn hex(&mut self, v: u64, digits: usize)
-        requires { self.old.len + digits ≤ place_most }
-        ensures { Adds (hex digits v) self.old self.new }
-    {
-        if digits == 0 {
-            return;
-        }
-        self.hex(v / 16, digits - 1);
-        self.octet(digit((v % 16) as u8));
-    }
-
     // A column, and what ends it.
     #[tactic(auto, using(crate::proofs::TextLaws::decimal_ten))]
     pub(crate) fn number(&mut self, v: u32, end: u8)
@@ -78,18 +41,58 @@ impl<'a> Line<'a> {
         ensures adds { Adds (decimal v ++ end ∷ []) self.old self.new }
         ensures short { self.new.len ≤ self.old.len + 11 }
     {
-        self.decimal(v);
-        self.octet(end);
+        let next = put_decimal(v, self.len, self.out);
+        put_octet(self.out, next, end);
+        self.len = next + 1;
     }
 
-    #[tactic(auto, using(crate::proofs::TextLaws::hex_length))]
     fn code(&mut self, v: u64, digits: usize, end: u8)
         requires { self.old.len + digits ≤ place_most }
         ensures adds { Adds (hex digits v ++ end ∷ []) self.old self.new }
         ensures short { self.new.len ≤ self.old.len + digits + 1 }
     {
-        self.hex(v, digits);
-        self.octet(end);
+        put_hex(v, digits, self.len, self.out);
+        let next = self.len + digits;
+        put_octet(self.out, next, end);
+        self.len = next + 1;
+    }
+}
+
+// Stores `b` at place `at`, if there is one.
+fn put_octet(out: &mut [u8], at: usize, b: u8)
+    ensures { out.new ≡ set out.old at b }
+{
+    if at < out.len() {
+        out[at] = b;
+    }
+}
+
+// Writes `v` in decimal from place `at` on, and answers the place after it: the digits in front of the last are those of a tenth. The place
+// goes from call to call by value, so that it stays in a register: in the line it would be loaded and stored for each digit.
+#[tactic(auto, unfolding(crate::specs::Text::decimal, crate::specs::Text::decimal_in))]
+fn put_decimal(v: u32, at: usize, out: &mut [u8]) -> usize
+    requires { at ≤ place_most }
+    ensures { Puts (decimal v) at result out.old out.new }
+{
+    if v < 10 {
+        put_octet(out, at, b'0' + v as u8);
+        return at + 1;
+    }
+    let end = put_decimal(v / 10, at, out);
+    put_octet(out, end, b'0' + (v % 10) as u8);
+    end + 1
+}
+
+// Writes `v` with as many hexadecimal digits from place `at` on, the last one first.
+#[tactic(auto, using(crate::proofs::TextLaws::hex_step), unfolding(crate::specs::Text::hex))]
+fn put_hex(v: u64, digits: usize, at: usize, out: &mut [u8])
+    requires { (at ≤ place_most) × (digits ≤ place_most) }
+    ensures { out.new ≡ sets out.old at (hex digits v) }
+{
+    let mut rest = v;
+    for i in (0..digits).rev() {
+        put_octet(out, at + i, digit((rest % 16) as u8));
+        rest /= 16;
     }
 }
 

@@ -1,7 +1,8 @@
 -- `number` meets its contract.
 -- Assumes nothing.
-use Rattle.journal_records.proofs.TextLaws.{adds_next}
+use mathlib.Core.Path.{refl}
+use Rattle.journal_records.proofs.TextLaws.{put_ended}
 use Rattle.journal_records.proofs.text.Line.number.Goals as goal
 
 pub returns-clause-adds : goal.returns-clause-adds
-returns-clause-adds c = adds_next c.decimal.ensures c.octet.ensures
+returns-clause-adds c = record { puts = put_ended c.put_decimal-next.ensures _ c.put_octet.ensures; same_reference = refl }
