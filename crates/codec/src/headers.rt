@@ -58,14 +58,13 @@ pub fn eth_header_at(buffer: &[u8]) -> EthernetHeader
 pub fn deserialize_eth_header(buffer: &[u8]) -> Result<EthernetHeader, RefusedEthHeader>
     ensures { ReadsEthHeader buffer.now result }
 {
-    let eth_header = eth_header_at(buffer);
     if buffer.len() < ETH_LEN {
         return Err(RefusedEthHeader {
-            eth_header,
+            eth_header: eth_header_at(buffer),
             error: PowerlinkError::BufferTooShort,
         });
     }
-    Ok(eth_header)
+    Ok(eth_header_at(buffer))
 }
 
 // Reads what every section begins with.

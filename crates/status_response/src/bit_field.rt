@@ -61,14 +61,13 @@ impl StaticErrorBitField {
     pub fn deserialize(buffer: &[u8]) -> Result<StaticErrorBitField, RefusedErrorField>
         ensures { ReadsField buffer.now result }
     {
-        let field = field_at(buffer);
         if buffer.len() < FIELD_LEN {
             return Err(RefusedErrorField {
-                field,
+                field: field_at(buffer),
                 error: PowerlinkError::BufferTooShort,
             });
         }
-        Ok(field)
+        Ok(field_in(buffer))
     }
 }
 

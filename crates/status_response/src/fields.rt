@@ -46,13 +46,16 @@ pub struct DeserializedStatus {
 pub fn deserialize(payload: &[u8]) -> Result<DeserializedStatus, RefusedErrorField>
     ensures { ReadsStatusResponse payload.now result }
 {
-    let field = field_at(tail(payload, FIELD_AT));
+    // The error field is read behind the tests, where the length is known, and beside a refusal only where it is asked for.
     match read_fields(payload) {
         Ok(fields) => Ok(DeserializedStatus {
             fields,
-            static_error_bit_field: field,
+            static_error_bit_field: field_at(tail(payload, FIELD_AT)),
         }),
-        Err(error) => Err(RefusedErrorField { field, error }),
+        Err(error) => Err(RefusedErrorField {
+            field: field_at(tail(payload, FIELD_AT)),
+            error,
+        }),
     }
 }
 
