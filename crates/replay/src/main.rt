@@ -16,9 +16,8 @@ use judge::Difference;
 use octets::little_endian::get_le;
 use octets::slices::{byte_at, front, tail};
 use record::{CALL, record_len, target_len};
-use std::alloc::Allocator;
 use std::fmt;
-use std::io::{ErrorKind, Input, Read};
+use std::io::{Input, Read};
 use writers::SPACE;
 
 // The longest file.
@@ -118,17 +117,30 @@ fn run(rt: &impl Print, text: &[u8]) -> Result<Totals, Refusal> {
     all(rt, tail(text, HEAD), u64::from(cases))
 }
 
-// The octets of the file, as many as the longest has. Where a read fails, the file ends, but not where there is no room for what it has.
-fn load(rt: &impl Input, text: &mut Vec<u8, impl Allocator>) -> Result<(), Refusal> {
-    match rt.reader().take(FILE as u64).read_to_end(text) {
-        Err(e) if e.kind() == ErrorKind::OutOfMemory => Err(Refusal::NoMemory),
-        _ => Ok(()),
+// Reads to the front of `file`, as much as it holds, and answers how much that is. Where a read fails, the file ends; `read_to_end` would say
+// nothing of what came before.
+fn load(rt: &impl Input, file: &mut [u8]) -> usize {
+    let mut input = rt.reader();
+    let mut done = 0;
+    while done < file.len() {
+        let n = input.read(&mut file[done..]).unwrap_or(0);
+        if n == 0 {
+            break;
+        }
+        done += n;
     }
+    done
 }
 
 fn main(rt: HostRuntime) {
-    let mut text = Vec::new(rt.alloc());
-    let totals = load(&rt, &mut text).and_then(|()| run(&rt, &text));
+    let mut file = Vec::new(rt.alloc());
+    let totals = match file.resize(FILE, 0) {
+        Ok(()) => {
+            let n = load(&rt, &mut file);
+            run(&rt, front(&file, n))
+        }
+        Err(_) => Err(Refusal::NoMemory),
+    };
     // What cannot be written is lost.
     let _ = match totals {
         Ok(totals) => println!(rt; "{totals}"),
