@@ -16,7 +16,7 @@ pub const FRONT_LEN: usize = 14;
 pub const STATE_AT: usize = 2;
 
 // Where the error field stands.
-const FIELD_AT: usize = 6;
+pub const FIELD_AT: usize = 6;
 
 // The bits of EN and EC in octet 0: 5 and 4 (docs/DIFFERENCES.md: others read 4 and 3).
 pub const EN: u8 = 0x20;
