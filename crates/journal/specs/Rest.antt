@@ -16,7 +16,7 @@ use Rattle.journal.specs.declared.streams.Streams.{Streams}
 use Rattle.journal_records.specs.declared.listing.Stop.{Stop}
 use Rattle.journal_records.specs.declared.listing.ListError.{ListError}
 
--- the octets of `large_buffer`
+-- `BUFFER_LEN` of main.rt
 abbrev pub buffer_len : ℕ
 buffer_len = 65536
 
