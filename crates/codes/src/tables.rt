@@ -8,15 +8,19 @@ use services::{
 };
 use std::fmt::Debug;
 use std::io;
+use std::io::Write;
 use types::error_mode::ErrorEntryMode;
 use types::message_type::MessageType;
 use types::poll_flags::PRFlag;
 use types::requested_service::RequestedServiceId;
 use types::states::NmtState;
 
+// The octets of a column of names.
+const COLUMN: usize = 24;
+
 // A line for each octet that `read` knows.
 fn list<T: Into<u8> + Debug + Copy, Read: Fn(u8) -> Option<T>>(
-    rt: &(impl Print + Alloc),
+    rt: &impl Print,
     title: &str,
     read: Read,
 ) -> io::Result<()>
@@ -25,10 +29,13 @@ fn list<T: Into<u8> + Debug + Copy, Read: Fn(u8) -> Option<T>>(
     println!(rt; "{title:<24}code")?;
     for b in 0..=255u8 {
         if let Some(value) = read(b) {
-            // A derived `Debug` knows no width.
-            let name = format!(in rt.alloc(); "{value:?}")?;
+            // A derived `Debug` knows no width, and a name needs no heap: it is written over a column of spaces.
+            let mut column = [b' '; COLUMN];
+            let mut name = &mut column[..];
+            write!(name, "{value:?}")?;
+            rt.write_all(&column)?;
             let code: u8 = value.into();
-            println!(rt; "{name:<24}{code:02x}")?;
+            println!(rt; "{code:02x}")?;
         }
     }
     Ok(())

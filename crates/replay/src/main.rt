@@ -68,7 +68,6 @@ impl fmt::Display for Totals {
 // And of one that is.
 #[derive(Clone, Copy, Debug, PartialEq, Eq)]
 enum Refusal {
-    NoMemory,
     NoSample,
     AtCase(u64),
 }
@@ -76,7 +75,6 @@ enum Refusal {
 impl fmt::Display for Refusal {
     fn fmt<W: fmt::Write>(&self, f: &mut fmt::Formatter<W>) -> fmt::Result {
         match *self {
-            Refusal::NoMemory => write!(f, "refused: no memory for it"),
             Refusal::NoSample => write!(f, "refused: no PLC2, or too long"),
             Refusal::AtCase(case) => write!(f, "refused at case {case}"),
         }
@@ -109,20 +107,21 @@ fn all(rt: &impl Print, records: &[u8], cases: u64) -> Result<Totals, Refusal> {
 }
 
 // The file has the mark and the number of records in front of them.
-fn run(rt: &impl Print, text: &[u8]) -> Result<Totals, Refusal> {
-    if get_le::<_, u32>(text, 0) != PLC2 || text.len() == FILE {
+fn run(rt: &impl Print, file: &[u8; FILE], n: usize) -> Result<Totals, Refusal> {
+    let text = front(file, n);
+    if get_le::<_, u32>(text, 0) != PLC2 || n == FILE {
         return Err(Refusal::NoSample);
     }
     let cases: u32 = get_le(text, 4);
     all(rt, tail(text, HEAD), u64::from(cases))
 }
 
-// Reads to the front of `file`, as much as it holds, and answers how much that is. Where a read fails, the file ends; `read_to_end` would say
-// nothing of what came before.
-fn load(rt: &impl Input, file: &mut [u8]) -> usize {
+// Reads to the front of `file`, as much as it holds, and answers how much that is. Where a read fails, the file ends, with what came before:
+// of this `read_to_end` says nothing.
+fn load(rt: &impl Input, file: &mut [u8; FILE]) -> usize {
     let mut input = rt.reader();
     let mut done = 0;
-    while done < file.len() {
+    while done < FILE {
         let n = input.read(&mut file[done..]).unwrap_or(0);
         if n == 0 {
             break;
@@ -133,16 +132,11 @@ fn load(rt: &impl Input, file: &mut [u8]) -> usize {
 }
 
 fn main(rt: HostRuntime) {
-    let mut file = Vec::new(rt.alloc());
-    let totals = match file.resize(FILE, 0) {
-        Ok(()) => {
-            let n = load(&rt, &mut file);
-            run(&rt, front(&file, n))
-        }
-        Err(_) => Err(Refusal::NoMemory),
-    };
+    // An array, and no Vec: with little memory a Vec cannot grow, and the file is judged by the part of it that was read.
+    let mut file = [0u8; FILE];
+    let n = load(&rt, &mut file);
     // What cannot be written is lost.
-    let _ = match totals {
+    let _ = match run(&rt, &file, n) {
         Ok(totals) => println!(rt; "{totals}"),
         Err(refusal) => println!(rt; "{refusal}"),
     };
