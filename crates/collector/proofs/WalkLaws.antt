@@ -14,7 +14,7 @@ use Rattle.types.specs.declared.error_mode.ErrorEntryMode.TheVariants.{Terminato
 use Rattle.error_entry.specs.Entry.{entry_of}
 use Rattle.error_entry.specs.declared.ErrorEntry.{ErrorEntry}
 use Rattle.status_response.specs.ReadBack.{EachInRange}
-use Rattle.status_response.specs.Steps.{entries_in, status_entries, unless_terminator}
+use Rattle.status_response.specs.Steps.{entries_in, entries_from, status_entries, unless_terminator}
 use Rattle.records.proofs.RecordLaws.{in_range}
 
 few_if : (b : Bool) (m : ErrorEntryMode) (n : ℕ) (es : List ErrorEntry) → length es ≤ n → length (need b [] (unless_terminator m es [])) ≤ n
@@ -29,9 +29,13 @@ few_in zero t = omega arith
 few_in (suc n) t =
     few_if (leb 20 (length t)) (entry_of t).entry_type.mode (suc n) (entry_of t ∷ entries_in n (drop 20 t)) (omega (arith, few_in n (drop 20 t)))
 
-pub entries_few : (s : List ℕ) → length (status_entries s) ≤ length s
+pub entries_few : (s : List ℕ) (offset : ℕ) → length (entries_from s offset) ≤ length s
+unfolding entries_from
+entries_few s offset = few_in (length s) (drop offset s)
+
+pub status_few : (s : List ℕ) → length (status_entries s) ≤ length s
 unfolding status_entries
-entries_few s = few_in (length s) (drop 14 s)
+status_few s = few_in (length s) (drop 14 s)
 
 each_if : (b : Bool) (m : ErrorEntryMode) (es : List ErrorEntry) → EachInRange es → EachInRange (need b [] (unless_terminator m es []))
 each_if false m es each = tt

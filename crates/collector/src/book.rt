@@ -43,11 +43,11 @@ fn takes_place(e: &ErrorEntry) -> bool
 }
 
 // How many entries of a payload are to be booked.
-#[tactic(auto, unfolding(crate::specs::Rules::booked_entries, status_response::specs::Steps::entries_from, status_response::specs::Steps::status_entries), using(crate::proofs::BookableLaws::bookable_few, crate::proofs::WalkLaws::entries_few))]
+#[tactic(auto, unfolding(crate::specs::Rules::booked_entries, status_response::specs::Steps::entries_from, status_response::specs::Steps::status_entries), using(crate::proofs::BookableLaws::bookable_few, crate::proofs::WalkLaws::status_few))]
 pub(crate) fn count_entries(payload: &[u8]) -> usize
     ensures { result ≡ length (said_in payload.now).entries }
 {
-    // No `filter`: it branches on each entry's kind, and where kinds mix, as a peer may mix them, counting a long batch takes twice as long.
+    // No `filter`: its test is a branch, and where status entries stand among the others, counting a long batch takes twice as long.
     let mut n = 0usize;
     for entry in EntryWalk::new(payload) {
         n += usize::from(takes_place(&entry));
