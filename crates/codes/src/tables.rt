@@ -72,7 +72,7 @@ fn list_services(rt: &impl Print) -> io::Result<()> {
     Ok(())
 }
 
-pub fn all(rt: &(impl Print + Alloc)) -> io::Result<()> {
+pub fn all(rt: &impl Print) -> io::Result<()> {
     list(rt, "message types", |b| MessageType::try_from(b).ok())?;
     list(rt, "NMT states", |b| NmtState::try_from(b).ok())?;
     list_services(rt)?;
