@@ -1,6 +1,9 @@
 // A head's account: what 01's rules make of the calls, counted from their answers alone. Nothing here looks into the octets of
 // a state. No run counts as far as the largest number.
 
+ghost use Rattle.std.specs.Prelude.{◌≡◌};
+ghost use Rattle.demo.specs.World.{first_head, in_batch};
+
 // An open batch.
 #[derive(Clone, Copy)]
 pub struct Batch {
@@ -36,7 +39,9 @@ pub struct Head {
 }
 
 impl Head {
-    pub fn new(number: usize, id: u8) -> Self {
+    pub fn new(number: usize, id: u8) -> Self
+        ensures { result ≡ first_head number id }
+    {
         Self {
             number,
             id,
@@ -76,7 +81,9 @@ impl Head {
     }
 
     // Entries of the open batch.
-    pub fn in_batch(&self) -> u64 {
+    pub fn in_batch(&self) -> u64
+        ensures { result ≡ in_batch self.now.«open» }
+    {
         self.open.map_or(0, |batch| batch.entries)
     }
 

@@ -1,4 +1,10 @@
 // The calls, as the lines to check and the simulation make them.
+ghost use Rattle.std.specs.Prelude.{◌≡◌, Err, MatchResult, IsOkAnd, IsErrAnd};
+ghost use Rattle.reporter.specs.Rules.{new_answer, new_cause};
+ghost use Rattle.demo.specs.Causes.{number};
+ghost use Rattle.demo.specs.World.{renewed};
+ghost use Rattle.demo.specs.declared.outcome.Success.TheVariants.{Done};
+
 use crate::cause::Cause;
 use crate::fields::{answer_fields, request_fields};
 use crate::outcome::{Outcome, outcome};
@@ -10,7 +16,10 @@ use types::NodeId;
 
 impl Node {
     // A fresh state of this ID.
-    pub fn renew(&mut self, id: u8) -> Outcome {
+    pub fn renew(&mut self, id: u8) -> Outcome
+        ensures state { self.new ≡ renewed id self.old }
+        ensures outcome { MatchResult (new_answer id) (λ _. IsOkAnd result (λ s. s ≡ Done)) (λ e. IsErrAnd result (λ c. number c ≡ (new_cause (Err e)).number)) }
+    {
         outcome(reporter::new(&mut self.state, NodeId(id)))
     }
 

@@ -1,4 +1,11 @@
 // 01's causes of a refusal, and those that 02 adds, by their numbers; 17 to 19, which are of journals, come to no call here.
+ghost use Rattle.std.specs.Prelude.{◌≡◌, Err};
+ghost use Rattle.types.specs.Causes.{cause_number};
+ghost use Rattle.services.specs.Load.{load_cause};
+ghost use Rattle.reporter.specs.Rules.{new_cause, raise_cause};
+ghost use Rattle.collector.specs.Rules.{register_cause, read_cause, request_cause, take_cause};
+ghost use Rattle.demo.specs.Causes.{number};
+
 use collector::{ReadError, RegisterError, RequestError, TakeError};
 use reporter::{NewError, RaiseError};
 use services::load::LoadError;
@@ -53,6 +60,15 @@ pub const OF_THE_EXCHANGE: [Cause; 17] = [
     Cause::StatusEntry,
 ];
 
+// 01's number, or 02's: what is shown and counted.
+impl From<Cause> for usize {
+    ghost from_gives = { λ c n. n ≡ number c };
+
+    fn from(cause: Cause) -> usize {
+        cause as usize
+    }
+}
+
 // In few words.
 impl fmt::Display for Cause {
     fn fmt<W: fmt::Write>(&self, f: &mut fmt::Formatter<W>) -> fmt::Result {
@@ -82,6 +98,8 @@ impl fmt::Display for Cause {
 }
 
 impl From<PowerlinkError> for Cause {
+    ghost from_gives = { λ e c. number c ≡ cause_number e };
+
     fn from(e: PowerlinkError) -> Cause {
         match e {
             PowerlinkError::BufferTooShort => Cause::TooShort,
@@ -96,6 +114,8 @@ impl From<PowerlinkError> for Cause {
 }
 
 impl From<NewError> for Cause {
+    ghost from_gives = { λ e c. number c ≡ (new_cause (Err e)).number };
+
     fn from(e: NewError) -> Cause {
         match e {
             NewError::IdOutOfRange => Cause::IdOutOfRange,
@@ -104,6 +124,8 @@ impl From<NewError> for Cause {
 }
 
 impl From<RaiseError> for Cause {
+    ghost from_gives = { λ e c. number c ≡ (raise_cause (Err e)).number };
+
     fn from(e: RaiseError) -> Cause {
         match e {
             RaiseError::EntryInvalid => Cause::EntryInvalid,
@@ -114,6 +136,8 @@ impl From<RaiseError> for Cause {
 }
 
 impl From<LoadError> for Cause {
+    ghost from_gives = { λ e c. number c ≡ (load_cause (Err e)).number };
+
     fn from(e: LoadError) -> Cause {
         match e {
             LoadError::NotATable => Cause::NotATable,
@@ -124,6 +148,8 @@ impl From<LoadError> for Cause {
 }
 
 impl From<RegisterError> for Cause {
+    ghost from_gives = { λ e c. number c ≡ (register_cause (Err e)).number };
+
     fn from(e: RegisterError) -> Cause {
         match e {
             RegisterError::IdOutOfRange => Cause::IdOutOfRange,
@@ -134,6 +160,8 @@ impl From<RegisterError> for Cause {
 }
 
 impl From<ReadError> for Cause {
+    ghost from_gives = { λ e c. number c ≡ (read_cause (Err e)).number };
+
     fn from(e: ReadError) -> Cause {
         match e {
             ReadError::Frame(e) => e.into(),
@@ -145,6 +173,8 @@ impl From<ReadError> for Cause {
 }
 
 impl From<RequestError> for Cause {
+    ghost from_gives = { λ e c. number c ≡ (request_cause (Err e)).number };
+
     fn from(e: RequestError) -> Cause {
         match e {
             RequestError::Frame(e) => e.into(),
@@ -154,6 +184,8 @@ impl From<RequestError> for Cause {
 }
 
 impl From<TakeError> for Cause {
+    ghost from_gives = { λ e c. number c ≡ (take_cause (Err e)).number };
+
     fn from(e: TakeError) -> Cause {
         match e {
             TakeError::NotRegistered => Cause::NotRegistered,

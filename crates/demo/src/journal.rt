@@ -1,5 +1,7 @@
 // What the program writes to, and the journal of what the box hands out (01, "Journal"): a record for each entry, in a file where
 // one is named.
+ghost use Rattle.std.specs.Prelude.{◌≡◌, None};
+
 use error_entry::ErrorEntry;
 use journal_records::JOURNAL_RECORD_LEN;
 use std::fs::File;
@@ -18,7 +20,9 @@ pub struct Out<'a, R> {
 }
 
 impl<'a, R: Eprint> Out<'a, R> {
-    pub fn new(rt: &'a R) -> Self {
+    pub fn new(rt: &'a R) -> Self
+        ensures { (result.file ≡ None) × (result.records ≡ 0) }
+    {
         Out {
             rt,
             file: None,
@@ -28,11 +32,8 @@ impl<'a, R: Eprint> Out<'a, R> {
 
     // With a journal, which begins with mark and version; none where these cannot be written.
     pub fn with_journal(rt: &'a R, file: &'a File) -> Option<Self> {
-        let mut out = Out {
-            rt,
-            file: Some(file),
-            records: 0,
-        };
+        let mut out = Out::new(rt);
+        out.file = Some(file);
         out.keep(b"PLB\x01\x00");
         out.file.is_some().then_some(out)
     }

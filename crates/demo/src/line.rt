@@ -1,5 +1,8 @@
 // The line: what each sender has sent last, and which of it an end is given. It drops, delays and repeats, and never
 // turns an order round.
+ghost use Rattle.std.specs.Prelude.{◌≡◌};
+ghost use Rattle.demo.specs.World.{empty_line};
+
 use crate::target::Frame;
 use crate::world::HEADS;
 
@@ -18,7 +21,9 @@ pub struct Line {
 }
 
 impl Line {
-    pub fn new() -> Self {
+    pub fn new() -> Self
+        ensures { result ≡ empty_line }
+    {
         Line {
             frames: [[Frame::EMPTY; KEPT]; SENDERS],
         }

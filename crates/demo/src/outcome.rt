@@ -1,4 +1,8 @@
 // What a call comes to: what it did, or the cause for which it was refused.
+ghost use Rattle.std.specs.Prelude.{◌≡◌, MatchResult, IsOkAnd, IsErrAnd};
+ghost use Rattle.demo.specs.Outcomes.{of_box, of_head};
+ghost use Rattle.demo.specs.declared.outcome.Success.TheVariants.{Done, Written};
+
 use crate::cause::Cause;
 use crate::target::Frame;
 use error_entry::ErrorEntry;
@@ -28,11 +32,12 @@ pub const KEPT: Outcome = Ok(Success::Kept);
 
 pub const IGNORED: Outcome = Ok(Success::Ignored);
 
-// What a call of the library answers, as an outcome.
+// What a call of the library answers, as an outcome: by the first of the two conversions what it did, by the second why it is refused.
 pub fn outcome<T, E>(answer: Result<T, E>) -> Outcome
 where
     Success: From<T>,
     Cause: From<E>,
+    ensures { MatchResult answer (λ did. IsOkAnd result (bound-1.from_gives did)) (λ e. IsErrAnd result (bound-2.from_gives e)) }
 {
     Ok(Success::from(answer?))
 }
@@ -50,12 +55,16 @@ impl fmt::Display for Success {
 }
 
 impl From<()> for Success {
+    ghost from_gives = { λ _ s. s ≡ Done };
+
     fn from(_done: ()) -> Success {
         Success::Done
     }
 }
 
 impl From<Frame> for Success {
+    ghost from_gives = { λ f s. s ≡ Written f.len };
+
     fn from(frame: Frame) -> Success {
         Success::Written(frame.len)
     }
@@ -63,12 +72,16 @@ impl From<Frame> for Success {
 
 // An entry is handed out.
 impl From<ErrorEntry> for Success {
+    ghost from_gives = { λ _ s. s ≡ Done };
+
     fn from(_e: ErrorEntry) -> Success {
         Success::Done
     }
 }
 
 impl From<collector::ReadOutcome> for Success {
+    ghost from_gives = { λ r s. s ≡ of_box r };
+
     fn from(read: collector::ReadOutcome) -> Success {
         match read {
             collector::ReadOutcome::Booked => Success::Done,
@@ -78,6 +91,8 @@ impl From<collector::ReadOutcome> for Success {
 }
 
 impl From<reporter::ReadOutcome> for Success {
+    ghost from_gives = { λ r s. s ≡ of_head r };
+
     fn from(read: reporter::ReadOutcome) -> Success {
         match read {
             reporter::ReadOutcome::Closed => Success::Done,

@@ -1,4 +1,7 @@
 // Plays lines to check, a call to each of them.
+ghost use Rattle.std.specs.Prelude.{◌≡◌};
+ghost use Rattle.demo.specs.World.{first_node, first_world, no_frame};
+
 use crate::cause::Cause;
 use crate::entries::{Kind, entry};
 use crate::fields::{FILLED, ZEROS};
@@ -56,7 +59,9 @@ pub struct Script {
 }
 
 impl Script {
-    pub fn new() -> Self {
+    pub fn new() -> Self
+        ensures { result ≡ record { world = first_world; node = first_node 0 7; hand = no_frame } }
+    {
         Script {
             world: World::new(),
             node: Node::new(0, 7),
@@ -191,7 +196,7 @@ fn show(rt: &impl Print, got: Outcome, expected: Outcome, text: &str) {
     let _ = match got {
         Ok(success) => println!(rt; "{success:>9}  {text}{wrong}"),
         Err(cause) => {
-            let number = cause as usize;
+            let number = usize::from(cause);
             println!(rt; "{number:>9}  {text}{wrong}")
         }
     };

@@ -27,7 +27,7 @@ fn row(rt: &impl Print, head: Head) {
 // How often each cause was given; one that was never given makes the run worth less than it should be.
 fn causes(rt: &impl Print, w: &mut World) {
     for cause in OF_THE_EXCHANGE {
-        let number = cause as usize;
+        let number = usize::from(cause);
         let n = w.refusals[number];
         let _ = println!(rt; "{n:>9}  cause {number}, {cause}");
         w.demands(0 < n);

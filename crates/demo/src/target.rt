@@ -1,4 +1,6 @@
 // Targets of writers, and frames.
+ghost use Rattle.std.specs.Prelude.{◌≡◌};
+
 use crate::places::{DESTINATION_AT, MESSAGE_AT, TARGET_AT};
 use octets::slices::{front, tail};
 use types::message_type::MessageType;
@@ -34,7 +36,9 @@ impl Target {
     }
 
     // The first `len` octets as a frame.
-    pub fn frame(self, len: usize) -> Frame {
+    pub fn frame(self, len: usize) -> Frame
+        ensures { result ≡ record { octets = self.space; len = len } }
+    {
         let octets = self.space;
         Frame { octets, len }
     }

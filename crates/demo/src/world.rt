@@ -1,4 +1,7 @@
 // What the calls work on: the world, and a head of it.
+ghost use Rattle.std.specs.Prelude.{◌≡◌};
+ghost use Rattle.demo.specs.World.{first_node, first_world, first_scene};
+
 use crate::account::Head;
 use crate::cause::{CAUSES, Cause};
 use crate::house;
@@ -19,7 +22,9 @@ pub struct Node {
 }
 
 impl Node {
-    pub fn new(number: usize, id: u8) -> Self {
+    pub fn new(number: usize, id: u8) -> Self
+        ensures { result ≡ first_node number id }
+    {
         let mut node = Node {
             head: Head::new(number, id),
             state: [0u8; REPORTER_LEN],
@@ -46,7 +51,9 @@ pub struct World {
 }
 
 impl World {
-    pub fn new() -> Self {
+    pub fn new() -> Self
+        ensures { result ≡ first_world }
+    {
         World {
             at_box: [0u8; COLLECTOR_LEN],
             line: Line::new(),
@@ -85,7 +92,7 @@ impl World {
     pub fn comes_to(&mut self, got: Outcome, expected: Outcome) {
         self.calls = self.calls.saturating_add(1);
         if let Err(cause) = got {
-            let n = &mut self.refusals[cause as usize];
+            let n = &mut self.refusals[usize::from(cause)];
             *n = n.saturating_add(1);
         }
         self.demands(got == expected);
@@ -103,7 +110,9 @@ pub struct Scene {
 
 impl Scene {
     // A fresh box, and the heads, in a world that has played the lines to check.
-    pub fn new(mut world: World) -> Self {
+    pub fn new(mut world: World) -> Self
+        ensures { result ≡ first_scene world }
+    {
         collector::new(&mut world.at_box);
         Scene {
             nodes: [
