@@ -1,3 +1,4 @@
 pub mod Causes
+pub mod Counts
 pub mod Outcomes
 pub mod World

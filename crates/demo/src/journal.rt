@@ -21,7 +21,7 @@ pub struct Out<'a, R> {
 
 impl<'a, R: Eprint> Out<'a, R> {
     pub fn new(rt: &'a R) -> Self
-        ensures { (result.file ≡ None) × (result.records ≡ 0) }
+        ensures { result ≡ record { rt = rt.entry; file = None; records = 0 } }
     {
         Out {
             rt,

@@ -1,5 +1,6 @@
 // Targets of writers, and frames.
 ghost use Rattle.std.specs.Prelude.{◌≡◌};
+ghost use Rattle.demo.specs.Counts.{clean};
 
 use crate::places::{DESTINATION_AT, MESSAGE_AT, TARGET_AT};
 use octets::slices::{front, tail};
@@ -44,7 +45,9 @@ impl Target {
     }
 
     // Whether nothing is written behind the first `len` octets.
-    pub fn is_clean(&self, len: usize) -> bool {
+    pub fn is_clean(&self, len: usize) -> bool
+        ensures { result ≡ clean len self.now }
+    {
         tail(&self.space, len).iter().all(|octet| *octet == FILL)
     }
 }

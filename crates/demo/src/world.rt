@@ -1,5 +1,6 @@
 // What the calls work on: the world, and a head of it.
-ghost use Rattle.std.specs.Prelude.{◌≡◌};
+ghost use Rattle.std.specs.Prelude.{◌≡◌, ◌≢◌, true, false, Ok, MatchResult, IsErrAnd};
+ghost use Rattle.demo.specs.Counts.{came_to, clean, demanded, written};
 ghost use Rattle.demo.specs.World.{first_node, first_world, first_scene};
 
 use crate::account::Head;
@@ -65,7 +66,9 @@ impl World {
         }
     }
 
-    pub fn demands(&mut self, holds: bool) {
+    pub fn demands(&mut self, holds: bool)
+        ensures { self.new ≡ demanded holds self.old }
+    {
         if !holds {
             self.faults = self.faults.saturating_add(1);
         }
@@ -75,6 +78,8 @@ impl World {
     pub fn has_written<E>(&mut self, target: Target, got: Result<usize, E>) -> Result<Frame, Cause>
     where
         Cause: From<E>,
+        ensures state { self.new ≡ demanded (clean (written got) target) self.old }
+        ensures frame { MatchResult got (λ len. result ≡ Ok (record { octets = target.space; len = len })) (λ e. IsErrAnd result (bound-1.from_gives e)) }
     {
         match got {
             Ok(len) => {
@@ -89,7 +94,10 @@ impl World {
     }
 
     // A call is counted: it has to have come to what 01 gives it.
-    pub fn comes_to(&mut self, got: Outcome, expected: Outcome) {
+    pub fn comes_to(&mut self, got: Outcome, expected: Outcome)
+        ensures met { got ≡ expected → self.new ≡ came_to got true self.old }
+        ensures unmet { got ≢ expected → self.new ≡ came_to got false self.old }
+    {
         self.calls = self.calls.saturating_add(1);
         if let Err(cause) = got {
             let n = &mut self.refusals[usize::from(cause)];
