@@ -1,11 +1,12 @@
 -- What is booked of a payload: laws of leaving status entries out, and of the entries that join a book one by one.
 -- Assumes nothing.
 use Prim.Native.Nat.{ℕ, ◌+◌, ◌≤◌}
-use mathlib.Core.Path.{◌≡◌}
-use mathlib.Core.Bool.{Bool, true, false}
+use mathlib.Core.Path.{◌≡◌, refl}
+use mathlib.Core.Bool.{Bool, true, false, not}
 use mathlib.Core.List.{List, [], ◌∷◌}
 use native.Mathlib.Omega.{arith}
 use lib.ListN.{length}
+use Rattle.std.specs.List.{filter}
 use borrow.Table.Steps.{cases as either}
 use Rattle.octets.proofs.NumberBack.{Octets}
 use Rattle.types.specs.Codes.{pick}
@@ -15,6 +16,11 @@ use Rattle.status_response.specs.Steps.{status_entries}
 use Rattle.collector.specs.Layout.{count_in, pushed_all}
 use Rattle.collector.specs.Rules.{bookable, booked_entries, book_length}
 use Rattle.collector.proofs.WalkLaws.{entries_in_range}
+
+pub bookable_filter : (l : List ErrorEntry) → filter (λ e. not e.entry_type.is_status_entry) l ≡ bookable l
+bookable_filter [] = refl
+bookable_filter (e ∷ l) =
+    either e.entry_type.is_status_entry (λ y. rw (y, bookable_filter l)) (λ y. rw (y, bookable_filter l))
 
 pub bookable_few : (l : List ErrorEntry) → length (bookable l) ≤ length l
 bookable_few [] = omega arith

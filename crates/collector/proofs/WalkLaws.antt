@@ -1,12 +1,15 @@
--- The entries of a payload: no more than its octets, and each of the widths.
+-- The entries of a payload: no more than its octets, and each of the widths. A walk gives those that are left of it.
 -- Assumes nothing.
 use Prim.Native.Nat.{ℕ, zero, suc, ◌+◌, ◌≤◌}
+use mathlib.Core.Path.{subst, ap, ◌≡◌}
 use mathlib.Core.Bool.{Bool, true, false}
 use mathlib.Core.List.{List, [], ◌∷◌}
 use native.Mathlib.Omega.{arith}
 use lib.ListN.{length, drop}
 use lib.Seq.{get_or-drop}
 use lib.Dec.{leb}
+use Rattle.std.proofs.lemmas.Iterator.{YieldsList}
+use Rattle.std.proofs.lemmas.Iterator.Consumers.{YieldsList-from_shown}
 use Rattle.octets.proofs.NumberBack.{Octets}
 use Rattle.types.specs.Codes.{need}
 use Rattle.types.specs.declared.error_mode.ErrorEntryMode.{ErrorEntryMode}
@@ -14,7 +17,8 @@ use Rattle.types.specs.declared.error_mode.ErrorEntryMode.TheVariants.{Terminato
 use Rattle.error_entry.specs.Entry.{entry_of}
 use Rattle.error_entry.specs.declared.ErrorEntry.{ErrorEntry}
 use Rattle.status_response.specs.ReadBack.{EachInRange}
-use Rattle.status_response.specs.Steps.{entries_in, entries_from, status_entries, unless_terminator}
+use Rattle.status_response.specs.Steps.{Walks, left_of, entries_in, entries_from, status_entries, unless_terminator}
+use Rattle.status_response.specs.declared.walk.EntryWalk.{EntryWalk}
 use Rattle.records.proofs.RecordLaws.{in_range}
 
 few_if : (b : Bool) (m : ErrorEntryMode) (n : ℕ) (es : List ErrorEntry) → length es ≤ n → length (need b [] (unless_terminator m es [])) ≤ n
@@ -53,3 +57,7 @@ each_in (suc n) t o =
 pub entries_in_range : (s : List ℕ) → Octets s → EachInRange (status_entries s)
 unfolding status_entries
 entries_in_range s o = each_in (length s) (drop 14 s) (λ i. rw (get_or-drop 14 s i 0) (o (14 + i)))
+
+pub walk_yields : (w : EntryWalk) (es : List ErrorEntry) → left_of w ≡ es → YieldsList Walks (λ e. e) w es
+walk_yields w es is =
+    subst (YieldsList Walks (λ e. e) w) is (YieldsList-from_shown _ (λ e. e) left_of (λ v u h. ap length h.0.0) (λ v e u h. h.0) w)

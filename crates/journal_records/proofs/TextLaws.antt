@@ -53,6 +53,17 @@ unfolding hex
 hex_length zero n = refl
 hex_length (suc k) n = rw (length-append, hex_length k (n / 16), add-one)
 
+pub hex_none : (k n : ℕ) → k ≡ 0 → [] ≡ hex k n
+unfolding hex
+hex_none zero n e = refl
+hex_none (suc k) n e = cc
+
+-- the digits of a sixteenth, and the last one
+pub hex_more : (k n : ℕ) → (k ≡ 0 → ⊥) → hex (k - 1) (n / 16) ++ digit (n % 16) ∷ [] ≡ hex k n
+unfolding hex
+hex_more zero n f = absurd (f refl)
+hex_more (suc k) n f = rw sub-one
+
 -- a store behind a copy may come before it
 sets_set : (l : List ℕ) (i j v : ℕ) (vs : List ℕ) → i + length vs ≤ j → sets (set l j v) i vs ≡ set (sets l i vs) j v
 sets_set l i j v [] h = refl
@@ -98,6 +109,9 @@ pub put_digits : {out : List ℕ} {at : ℕ} (k n : ℕ) {front : List ℕ} → 
 put_digits k n e = record { next = rw hex_length; holds = e }
 
 -- ---- how a line grows
+
+pub adds_none : {line : Line} → Adds [] line line
+adds_none = record { puts = record { next = omega arith; holds = refl }; same_reference = refl }
 
 module _ {text : List ℕ} {line grown : Line} (a : Adds text line grown) where
   pub adds_next : {more : List ℕ} {after : Line} → Adds more grown after → Adds (text ++ more) line after
